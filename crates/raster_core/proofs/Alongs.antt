@@ -28,13 +28,13 @@ along_none {S} {pull} {b} {old} = record {
 }
 
 -- the registers at a pixel of the byte
-registers_at : (lines : Lines) (second above past offset n : ℕ) (done pixels : List Bool) → n < 8 → length pixels ≡ n →
+registers_at : {second above past : ℕ} (lines : Lines) (offset n : ℕ) (done pixels : List Bool) → n < 8 → length pixels ≡ n →
     second ≡ before lines.second (length done + 16) 24 → above ≡ before lines.above (length done + 16) 24 → past ≡ before (done ++ pixels) (length (done ++ pixels)) (past_bits offset) →
     AreAt (with_row lines (done ++ pixels)) offset (second / 2 ^ 7 * 2 ^ n) (above / 2 ^ 6 * 2 ^ n) past (length (done ++ pixels))
-registers_at lines second above past offset n done pixels h count s a p =
+registers_at {second} {above} {past} lines offset n done pixels h count s a p =
     let long : length done + n ≡ length (done ++ pixels) = sym (length-append done pixels ∙ ap (λ k. length done + k) count) in
     subst (λ x. AreAt (with_row lines (done ++ pixels)) offset (second / 2 ^ 7 * 2 ^ n) (above / 2 ^ 6 * 2 ^ n) past x) long
-    (at_registers (with_row lines (done ++ pixels)) offset second above (before (done ++ pixels) (length done + 8) 8) past (length done) n h (record { second_is = s; above_is = a; byte_is = refl }) (rw long p))
+    (at_registers {lines = with_row lines (done ++ pixels)} {byte = before (done ++ pixels) (length done + 8) 8} n h (record { second_is = s; above_is = a; byte_is = refl }) (rw long p))
 
 pub along_next : {S : Type 0} {pull : S → Pulled → S → Type 0} {b : ByteAround} {old mid to : DecoderState S} {n past past' cx : ℕ} {pixel : Bool} →
     n < 8 → past' ≡ past % 2 ^ (past_bits b.offset - 1) * 2 + bit pixel →
@@ -46,7 +46,7 @@ along_next {S} {pull} {b} {old} {mid} {to} {n} {past} {past'} {cx} {pixel} few p
       let m = along.any from first s answers lines done so_far s2 a2 in
       let row = done ++ m.pixels in
       let events = first ++ pixel_events b.mode (with_row lines row) b.offset in
-      let at = registers_at lines b.second b.above past b.offset n done m.pixels few m.count s2 a2 m.so_far.past_is in
+      let at = registers_at lines b.offset n done m.pixels few m.count s2 a2 m.so_far.past_is in
       let t = decodes_next m.so_far.decodes (next (after s events).place (answers ++ m.so_far.more) m.so_far.decodes.stands) in
       let more : pixel_events b.mode (with_row lines (row ++ pixel ∷ [])) b.offset ≡ pixel_events b.mode (with_row lines row) b.offset ++ record { context = cx; pixel = pixel } ∷ [] =
       pixel_events_more b.mode lines b.offset row pixel ∙ ap (λ event. pixel_events b.mode (with_row lines row) b.offset ++ event ∷ []) (sym (event_is cx _ pixel _ (context (with_row lines row) (length row) at) refl)) in
@@ -72,7 +72,7 @@ along_stop few count_is past_is next along = record {
   any = λ from first s answers lines done so_far s2 a2.
       let m = along.any from first s answers lines done so_far s2 a2 in
       let t = decodes_stop m.so_far.decodes (next _ (answers ++ m.so_far.more) m.so_far.decodes.stands) in
-      record { few = omega (arith, count_is, few); pixels = m.pixels; many = m.count ∙ sym count_is; past_is = past_is ∙ m.so_far.past_is; more = t.0; stops = t.1 };
+      record { few = omega arith; pixels = m.pixels; many = m.count ∙ sym count_is; past_is = past_is ∙ m.so_far.past_is; more = t.0; stops = t.1 };
 }
 
 -- a fact of what is left, at an `Err`

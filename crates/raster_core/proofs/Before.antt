@@ -76,8 +76,8 @@ least zero = omega arith
 least (suc t) = omega arith
 
 -- the nearest l pixels of a register
-pub low_part : (row : List Bool) (past x offset l : ℕ) → past ≡ before row x (past_bits offset) → l ≤ 64 → past % 2 ^ l ≡ before row x l
-low_part row past x offset l h few =
+pub low_part : {past : ℕ} (row : List Bool) (x offset l : ℕ) → past ≡ before row x (past_bits offset) → l ≤ 64 → past % 2 ^ l ≡ before row x l
+low_part row x offset l h few =
     let large : 64 ≤ past_bits offset = least offset in
     let size : (past_bits offset - l) + l ≡ past_bits offset = omega arith in
     ap (λ p. p % 2 ^ l) (h ∙ ap (λ w. before row x w) (sym size)) ∙ before_mod row x (past_bits offset - l) l
@@ -87,13 +87,13 @@ pub before_part : (row : List Bool) (x d l m : ℕ) → before row (x + m) ((d +
 before_part row x d l m = rw (before_div row x (d + l) m) (before_mod row x d l)
 
 -- the pixels of a byte's register that its contexts need
-pub second_in : (row : List Bool) (register x : ℕ) → register ≡ before row (x + 16) 24 → register / 2 ^ 7 ≡ before row (x + 9) 17
-second_in row register x h =
+pub second_in : {register : ℕ} (row : List Bool) (x : ℕ) → register ≡ before row (x + 16) 24 → register / 2 ^ 7 ≡ before row (x + 9) 17
+second_in row x h =
     let e : x + 16 ≡ (x + 9) + 7 = omega arith in
     rw (h, e) (before_div row (x + 9) 17 7)
 
-pub above_in : (row : List Bool) (register x : ℕ) → register ≡ before row (x + 16) 24 → register / 2 ^ 6 ≡ before row (x + 10) 18
-above_in row register x h =
+pub above_in : {register : ℕ} (row : List Bool) (x : ℕ) → register ≡ before row (x + 16) 24 → register / 2 ^ 6 ≡ before row (x + 10) 18
+above_in row x h =
     let e : x + 16 ≡ (x + 10) + 6 = omega arith in
     rw (h, e) (before_div row (x + 10) 18 6)
 
@@ -112,12 +112,12 @@ begins b = omega arith
 pub goes_on : (a b j : ℕ) → a ≡ b * 2 ^ j → a * 2 ≡ b * 2 ^ (j + 1)
 goes_on a b j h =
     let e : j + 1 ≡ suc j = omega arith in
-    rw (e, pow-suc 2 j) (omega (arith, h))
+    rw (e, pow-suc 2 j) (omega arith)
 
 pub grows : (a k j : ℕ) → a < 2 ^ (k + j) → a * 2 < 2 ^ (k + (j + 1))
 grows a k j h =
     let e : k + (j + 1) ≡ suc (k + j) = omega arith in
-    rw (e, pow-suc 2 (k + j)) (omega (arith, h))
+    rw (e, pow-suc 2 (k + j)) (omega arith)
 
 -- ---- pixels to the left
 

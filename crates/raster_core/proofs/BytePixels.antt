@@ -8,8 +8,8 @@ use Rattle.raster_core.specs.Machine.Registers.{ByteAt}
 use Rattle.raster_core.proofs.Before.{shifted_div, second_in, above_in, before_suc, before_part, before_mod, before_far, before_zero, left_at}
 
 -- the pixel in a byte
-pub pixel_in : (row : List Bool) (byte x n : ℕ) → byte ≡ before row (x + 8) 8 → n < 8 → byte / 2 ^ (7 - n) % 2 ≡ bit (pixel_at row (x + n))
-pixel_in row byte x n h few =
+pub pixel_in : {byte : ℕ} (row : List Bool) (x n : ℕ) → byte ≡ before row (x + 8) 8 → n < 8 → byte / 2 ^ (7 - n) % 2 ≡ bit (pixel_at row (x + n))
+pixel_in {byte} row x n h few =
     let place : x + 8 ≡ ((x + n) + 1) + (7 - n) = omega arith in
     let size : 8 ≡ (n + 1) + (7 - n) = omega arith in
     let is : byte ≡ before row (((x + n) + 1) + (7 - n)) ((n + 1) + (7 - n)) = h ∙ (ap (λ z. before row z 8) place ∙ ap (λ k. before row (((x + n) + 1) + (7 - n)) k) size) in
@@ -31,15 +31,15 @@ past_at row past x v h =
     let low : past % 2 ^ v ≡ before row x v = ap (λ p. p % 2 ^ v) (h ∙ ap (λ w. before row x w) one) ∙ before_mod row x 1 v in
     rw (e, before_suc row x v, low) (omega arith)
 
-pub at_registers : (lines : Lines) (offset second above byte past x n : ℕ) → n < 8 → ByteAt lines second above byte x → past ≡ before lines.row (x + n) (past_bits offset) → AreAt lines offset (second / 2 ^ 7 * 2 ^ n) (above / 2 ^ 6 * 2 ^ n) past (x + n)
-at_registers lines offset second above byte past x n h b p =
+pub at_registers : {lines : Lines} {offset second above byte past x : ℕ} (n : ℕ) → n < 8 → ByteAt lines second above byte x → past ≡ before lines.row (x + n) (past_bits offset) → AreAt lines offset (second / 2 ^ 7 * 2 ^ n) (above / 2 ^ 6 * 2 ^ n) past (x + n)
+at_registers {lines} {second = second} {above} {x = x} n h b p =
     let e : (x + n) + ((7 - n) + 2) ≡ x + 9 = omega arith in
     let f : (x + n) + ((7 - n) + 3) ≡ x + 10 = omega arith in
     let back : 7 - (7 - n) ≡ n = omega arith in
     record {
       left = 7 - n;
       few = omega arith;
-      second_is = rw (e, back, second_in lines.second second x b.second_is) refl;
-      above_is = rw (f, back, above_in lines.above above x b.above_is) refl;
+      second_is = rw (e, back, second_in lines.second x b.second_is) refl;
+      above_is = rw (f, back, above_in lines.above x b.above_is) refl;
       past_is = p;
     }

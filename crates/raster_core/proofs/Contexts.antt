@@ -41,41 +41,41 @@ past_bit row x d m =
     (mod-mul-add a.0 2 (bit (pixel_left row x (suc m))) (bit_lt (pixel_left row x (suc m))))
 
 -- some pixels of a register, the last of which is m pixels before the register's
-part_of : (row : List Bool) (register x d l m : ℕ) → register ≡ before row (x + m) ((d + l) + m) → register / 2 ^ m % 2 ^ l ≡ before row x l
-part_of row register x d l m e = rw e (before_part row x d l m)
+part_of : {register : ℕ} (row : List Bool) (x d l m : ℕ) → register ≡ before row (x + m) ((d + l) + m) → register / 2 ^ m % 2 ^ l ≡ before row x l
+part_of row x d l m e = rw e (before_part row x d l m)
 
-second_part : (lines : Lines) (offset second above past x : ℕ) → AreAt lines offset second above past x → second / 2 ^ 7 % 8 ≡ before lines.second (x + 2) 3
-second_part lines offset second above past x r =
+second_part : {lines : Lines} {offset second above past x : ℕ} → AreAt lines offset second above past x → second / 2 ^ 7 % 8 ≡ before lines.second (x + 2) 3
+second_part {lines} {x = x} r =
     let few = r.few in
     let place : x + (r.left + 2) ≡ (x + 2) + r.left = omega arith in
     let size : 17 ≡ ((14 - r.left) + 3) + r.left = omega arith in
     ap (λ z. z % 8) (ap (λ z. z / 2 ^ 7) r.second_is ∙ shifted_div (before lines.second (x + (r.left + 2)) 17) r.left 0 r.few)
     ∙ (ap (λ k. before lines.second (x + (r.left + 2)) 17 / 2 ^ k % 8) (add-zero r.left)
-    ∙ part_of lines.second _ (x + 2) (14 - r.left) 3 r.left (ap (λ z. before lines.second z 17) place ∙ ap (λ k. before lines.second ((x + 2) + r.left) k) size))
+    ∙ part_of lines.second (x + 2) (14 - r.left) 3 r.left (ap (λ z. before lines.second z 17) place ∙ ap (λ k. before lines.second ((x + 2) + r.left) k) size))
 
 -- the pixels up to the second one to the right, in the row above
-above_part : (lines : Lines) (offset second above past x l : ℕ) → AreAt lines offset second above past x → l ≤ 6 → above / 2 ^ 7 % 2 ^ l ≡ before lines.above (x + 3) l
-above_part lines offset second above past x l r h =
+above_part : {lines : Lines} {offset second above past x : ℕ} (l : ℕ) → AreAt lines offset second above past x → l ≤ 6 → above / 2 ^ 7 % 2 ^ l ≡ before lines.above (x + 3) l
+above_part {lines} {x = x} l r h =
     let few = r.few in
     let place : x + (r.left + 3) ≡ (x + 3) + r.left = omega arith in
     let size : 18 ≡ (((18 - l) - r.left) + l) + r.left = omega arith in
     ap (λ z. z % 2 ^ l) (ap (λ z. z / 2 ^ 7) r.above_is ∙ shifted_div (before lines.above (x + (r.left + 3)) 18) r.left 0 r.few)
     ∙ (ap (λ k. before lines.above (x + (r.left + 3)) 18 / 2 ^ k % 2 ^ l) (add-zero r.left)
-    ∙ part_of lines.above _ (x + 3) ((18 - l) - r.left) l r.left (ap (λ z. before lines.above z 18) place ∙ ap (λ k. before lines.above ((x + 3) + r.left) k) size))
+    ∙ part_of lines.above (x + 3) ((18 - l) - r.left) l r.left (ap (λ z. before lines.above z 18) place ∙ ap (λ k. before lines.above ((x + 3) + r.left) k) size))
 
 -- those up to the next one
-above_next : (lines : Lines) (offset second above past x l : ℕ) → AreAt lines offset second above past x → l ≤ 5 → above / 2 ^ 8 % 2 ^ l ≡ before lines.above (x + 2) l
-above_next lines offset second above past x l r h =
+above_next : {lines : Lines} {offset second above past x : ℕ} (l : ℕ) → AreAt lines offset second above past x → l ≤ 5 → above / 2 ^ 8 % 2 ^ l ≡ before lines.above (x + 2) l
+above_next {lines} {x = x} l r h =
     let few = r.few in
     let place : x + (r.left + 3) ≡ (x + 2) + (r.left + 1) = omega arith in
     let size : 18 ≡ (((17 - l) - r.left) + l) + (r.left + 1) = omega arith in
     ap (λ z. z % 2 ^ l) (ap (λ z. z / 2 ^ 8) r.above_is ∙ shifted_div (before lines.above (x + (r.left + 3)) 18) r.left 1 r.few)
-    ∙ part_of lines.above _ (x + 2) ((17 - l) - r.left) l (r.left + 1) (ap (λ z. before lines.above z 18) place ∙ ap (λ k. before lines.above ((x + 2) + (r.left + 1)) k) size)
+    ∙ part_of lines.above (x + 2) ((17 - l) - r.left) l (r.left + 1) (ap (λ z. before lines.above z 18) place ∙ ap (λ k. before lines.above ((x + 2) + (r.left + 1)) k) size)
 
 -- ---- the adaptive pixel
 
-pub adaptive_moved : (lines : Lines) (second above past x t : ℕ) → AreAt lines (suc t) second above past x → t < 127 → past / 2 ^ t % 2 ≡ bit (adaptive lines (suc t) x)
-adaptive_moved lines second above past x t r h =
+pub adaptive_moved : {lines : Lines} {second above past x t : ℕ} → AreAt lines (suc t) second above past x → t < 127 → past / 2 ^ t % 2 ≡ bit (adaptive lines (suc t) x)
+adaptive_moved {lines} {past = past} {x} {t} r h =
     let size : 128 ≡ (127 - t) + suc t = omega arith in
     let is : past ≡ before lines.row x ((127 - t) + suc t) = r.past_is ∙ ap (λ k. before lines.row x k) size in
     let test : (suc t == 0) ≡ false = grind (arith, nat_tests) in
@@ -103,13 +103,13 @@ two_before row x = before_far row x 1 ∙ rw (before_far row x 0, before_zero ro
 four_before : (row : List Bool) (x : ℕ) → before row x 4 ≡ bit (pixel_left row x 4) * 8 + bit (pixel_left row x 3) * 4 + before row x 2
 four_before row x = before_far row x 3 ∙ rw (before_far row x 2) (omega arith)
 
-row_two : (lines : Lines) (offset second above past x : ℕ) → AreAt lines offset second above past x → past % 4 ≡ bit (pixel_left lines.row x 2) * 2 + bit (pixel_left lines.row x 1)
-row_two lines offset second above past x r = low_part lines.row past x offset 2 r.past_is (omega arith) ∙ two_before lines.row x
+row_two : {lines : Lines} {offset second above past x : ℕ} → AreAt lines offset second above past x → past % 4 ≡ bit (pixel_left lines.row x 2) * 2 + bit (pixel_left lines.row x 1)
+row_two {lines} {offset} {past = past} {x} r = low_part lines.row x offset 2 r.past_is (omega arith) ∙ two_before lines.row x
 
-row_four : (lines : Lines) (offset second above past x : ℕ) → AreAt lines offset second above past x →
+row_four : {lines : Lines} {offset second above past x : ℕ} → AreAt lines offset second above past x →
     past % 16 ≡ bit (pixel_left lines.row x 4) * 8 + bit (pixel_left lines.row x 3) * 4 + (bit (pixel_left lines.row x 2) * 2 + bit (pixel_left lines.row x 1))
-row_four lines offset second above past x r =
-    low_part lines.row past x offset 4 r.past_is (omega arith) ∙ (four_before lines.row x ∙ ap (λ z. bit (pixel_left lines.row x 4) * 8 + bit (pixel_left lines.row x 3) * 4 + z) (two_before lines.row x))
+row_four {lines} {offset} {past = past} {x} r =
+    low_part lines.row x offset 4 r.past_is (omega arith) ∙ (four_before lines.row x ∙ ap (λ z. bit (pixel_left lines.row x 4) * 8 + bit (pixel_left lines.row x 3) * 4 + z) (two_before lines.row x))
 
 above_four_of : (row : List Bool) (x : ℕ) → before row (x + 2) 4 ≡ bit (pixel_left row x 2) * 8 + (bit (pixel_left row x 1) * 4 + bit (pixel_at row x) * 2 + bit (pixel_at row (x + 1)))
 above_four_of row x = four_of row x ∙ ap (λ z. bit (pixel_left row x 2) * 8 + z) (three_of row x)
@@ -123,42 +123,42 @@ one_right row x k =
     let e : x + 3 ≡ suc (x + 2) = omega arith in
     ap (λ z. before row z (suc k)) e ∙ before_suc row (x + 2) k
 
-pub three_line_moved : (lines : Lines) (offset second above past x : ℕ) → AreAt lines offset second above past x →
+pub three_line_moved : {lines : Lines} {offset second above past x : ℕ} → AreAt lines offset second above past x →
     second / 2 ^ 7 % 8 * 128 + above / 2 ^ 8 % 16 * 8 + bit (adaptive lines offset x) * 4 + past % 4 ≡ binary (three_line lines offset x)
-three_line_moved lines offset second above past x r =
-    let s = second_part lines offset second above past x r ∙ three_of lines.second x in
-    let a = above_next lines offset second above past x 4 r (omega arith) ∙ above_four_of lines.above x in
-    let p = row_two lines offset second above past x r in
+three_line_moved {lines} {offset} {x = x} r =
+    let s = second_part r ∙ three_of lines.second x in
+    let a = above_next 4 r (omega arith) ∙ above_four_of lines.above x in
+    let p = row_two r in
     let b = binary_ten (pixel_left lines.second x 1) (pixel_at lines.second x) (pixel_at lines.second (x + 1))
     (pixel_left lines.above x 2) (pixel_left lines.above x 1) (pixel_at lines.above x) (pixel_at lines.above (x + 1))
     (adaptive lines offset x) (pixel_left lines.row x 2) (pixel_left lines.row x 1) in
     sym (b ∙ rw (s, a, p) (omega arith))
 
-pub two_line_moved : (lines : Lines) (offset second above past x : ℕ) → AreAt lines offset second above past x →
+pub two_line_moved : {lines : Lines} {offset second above past x : ℕ} → AreAt lines offset second above past x →
     above / 2 ^ 8 % 32 * 32 + bit (adaptive lines offset x) * 16 + past % 16 ≡ binary (two_line lines offset x)
-two_line_moved lines offset second above past x r =
-    let a = above_next lines offset second above past x 5 r (omega arith) ∙ above_five_of lines.above x in
-    let p = row_four lines offset second above past x r in
+two_line_moved {lines} {offset} {x = x} r =
+    let a = above_next 5 r (omega arith) ∙ above_five_of lines.above x in
+    let p = row_four r in
     let b = binary_ten (pixel_left lines.above x 3) (pixel_left lines.above x 2) (pixel_left lines.above x 1) (pixel_at lines.above x) (pixel_at lines.above (x + 1))
     (adaptive lines offset x) (pixel_left lines.row x 4) (pixel_left lines.row x 3) (pixel_left lines.row x 2) (pixel_left lines.row x 1) in
     sym (b ∙ rw (a, p) (omega arith))
 
-pub three_line_nominal : (lines : Lines) (second above past x : ℕ) → AreAt lines 0 second above past x →
+pub three_line_nominal : {lines : Lines} {second above past x : ℕ} → AreAt lines 0 second above past x →
     second / 2 ^ 7 % 8 * 128 + above / 2 ^ 7 % 32 * 4 + past % 4 ≡ binary (three_line lines 0 x)
-three_line_nominal lines second above past x r =
-    let s = second_part lines 0 second above past x r ∙ three_of lines.second x in
-    let a = above_part lines 0 second above past x 5 r (omega arith) ∙ (one_right lines.above x 4 ∙ ap (λ z. 2 * z + bit (pixel_at lines.above (x + 2))) (above_four_of lines.above x)) in
-    let p = row_two lines 0 second above past x r in
+three_line_nominal {lines} {x = x} r =
+    let s = second_part r ∙ three_of lines.second x in
+    let a = above_part 5 r (omega arith) ∙ (one_right lines.above x 4 ∙ ap (λ z. 2 * z + bit (pixel_at lines.above (x + 2))) (above_four_of lines.above x)) in
+    let p = row_two r in
     let b = binary_ten (pixel_left lines.second x 1) (pixel_at lines.second x) (pixel_at lines.second (x + 1))
     (pixel_left lines.above x 2) (pixel_left lines.above x 1) (pixel_at lines.above x) (pixel_at lines.above (x + 1))
     (adaptive lines 0 x) (pixel_left lines.row x 2) (pixel_left lines.row x 1) in
     sym (b ∙ rw (s, a, p) (omega arith))
 
-pub two_line_nominal : (lines : Lines) (second above past x : ℕ) → AreAt lines 0 second above past x →
+pub two_line_nominal : {lines : Lines} {second above past x : ℕ} → AreAt lines 0 second above past x →
     above / 2 ^ 7 % 64 * 16 + past % 16 ≡ binary (two_line lines 0 x)
-two_line_nominal lines second above past x r =
-    let a = above_part lines 0 second above past x 6 r (omega arith) ∙ (one_right lines.above x 5 ∙ ap (λ z. 2 * z + bit (pixel_at lines.above (x + 2))) (above_five_of lines.above x)) in
-    let p = row_four lines 0 second above past x r in
+two_line_nominal {lines} {x = x} r =
+    let a = above_part 6 r (omega arith) ∙ (one_right lines.above x 5 ∙ ap (λ z. 2 * z + bit (pixel_at lines.above (x + 2))) (above_five_of lines.above x)) in
+    let p = row_four r in
     let b = binary_ten (pixel_left lines.above x 3) (pixel_left lines.above x 2) (pixel_left lines.above x 1) (pixel_at lines.above x) (pixel_at lines.above (x + 1))
     (adaptive lines 0 x) (pixel_left lines.row x 4) (pixel_left lines.row x 3) (pixel_left lines.row x 2) (pixel_left lines.row x 1) in
     sym (b ∙ rw (a, p) (omega arith))

@@ -17,7 +17,7 @@ low_bit f (suc (suc (suc (suc zero)))) h = omega arith
 low_bit f (suc (suc (suc (suc (suc zero))))) h = omega arith
 low_bit f (suc (suc (suc (suc (suc (suc zero)))))) h = omega arith
 low_bit f (suc (suc (suc (suc (suc (suc (suc zero))))))) h = omega arith
-low_bit f (suc (suc (suc (suc (suc (suc (suc (suc i)))))))) h = absurd (omega (arith, h))
+low_bit f (suc (suc (suc (suc (suc (suc (suc (suc i)))))))) h = absurd (omega arith)
 
 shifted_twice : (a m n : ℕ) → a / 2 ^ m / 2 ^ n ≡ a / 2 ^ (m + n)
 shifted_twice a m n = div-div-eq-div-mul a (2 ^ m) (2 ^ n) ∙ ap (λ z. a / z) (sym (pow-add 2 m n))
@@ -27,9 +27,9 @@ pub far_before : (row : List Bool) (offset past x j : ℕ) → 8 ≤ offset → 
     past / 2 ^ (offset - 8) % 256 * 2 ^ j / 2 ^ 7 % 2 ≡ bit (pixel_left row (x + j) offset)
 far_before row offset past x j least most is few =
     let m : ℕ = (offset - 8) + (7 - j) in
-    let size : 128 ≡ (127 - m) + suc m = omega (arith, least, most, few) in
-    let back : suc m ≡ offset - j = omega (arith, least, few) in
-    let whole : (offset - j) + j ≡ offset = omega (arith, least, few) in
+    let size : 128 ≡ (127 - m) + suc m = omega arith in
+    let back : suc m ≡ offset - j = omega arith in
+    let whole : (offset - j) + j ≡ offset = omega arith in
     ap (λ z. z % 2) (byte_shifted (past / 2 ^ (offset - 8) % 256) j few)
     ∙ (low_bit (past / 2 ^ (offset - 8)) (7 - j) (omega arith)
     ∙ (ap (λ z. z % 2) (shifted_twice past (offset - 8) (7 - j))
@@ -44,9 +44,9 @@ far_within row offset past byte x j small is own few =
     let m : ℕ = offset + (7 - j) in
     let low : past % 256 ≡ before row x 8 = ap (λ z. z % 256) is ∙ before_mod row x 120 8 in
     let register : past % 256 * 256 + byte ≡ before row (x + 8) 16 = ap (λ z. z * 256 + byte) low ∙ (ap (λ z. before row x 8 * 256 + z) own ∙ sym (before_split row x 8 8)) in
-    let size : 16 ≡ (15 - m) + suc m = omega (arith, small, few) in
-    let back : suc m ≡ offset + (8 - j) = omega (arith, few) in
-    let place : x + 8 ≡ (x + j) + (8 - j) = omega (arith, few) in
+    let size : 16 ≡ (15 - m) + suc m = omega arith in
+    let back : suc m ≡ offset + (8 - j) = omega arith in
+    let place : x + 8 ≡ (x + j) + (8 - j) = omega arith in
     ap (λ z. z % 2) (byte_shifted ((past % 256 * 256 + byte) / 2 ^ offset) j few)
     ∙ (ap (λ z. z % 2) (shifted_twice (past % 256 * 256 + byte) offset (7 - j))
     ∙ (ap (λ z. z / 2 ^ m % 2) (register ∙ ap (λ k. before row (x + 8) k) size)

@@ -1,5 +1,5 @@
 -- Bytes of one colour, many in one step.
-use Rattle.std.proofs.Common.{◌≡◌, ℕ, zero, suc, ◌+◌, ◌-◌, ◌*◌, ◌/◌, ◌%◌, ◌^◌, ◌<◌, ◌≤◌, Bool, true, false, inl, inr, List, refl, sym, ◌∙◌, ap, arith, subst, replicate}
+use Rattle.std.proofs.Common.{◌≡◌, ℕ, zero, suc, ◌+◌, ◌-◌, ◌*◌, ◌/◌, ◌%◌, ◌^◌, ◌<◌, ◌≤◌, Bool, true, false, inl, inr, List, refl, sym, ◌∙◌, ap, arith, replicate}
 use Rattle.std.specs.Prelude.{slice_index}
 use Rattle.std.proofs.Math.Nat.{mod-eq_of_lt, div-one}
 use Rattle.std.proofs.lemmas.Nat.{pow_pos, pow-add, mod-mul-add}
@@ -23,8 +23,8 @@ filled_join colour bytes i n m a b j few =
     elim (cases_lt j n) [
       | inl near ↦ a j near
       | inr far ↦
-          let e : (i + n) + (j - n) ≡ i + j = omega (arith, far) in
-          ap (slice_index bytes) (sym e) ∙ b (j - n) (omega (arith, few, far))
+          let e : (i + n) + (j - n) ≡ i + j = omega arith in
+          ap (slice_index bytes) (sym e) ∙ b (j - n) (omega arith)
     ]
 
 pub after_more : (s : State) (event : Event) (n m : ℕ) → after s (replicate (n + m) event) ≡ after (after s (replicate n event)) (replicate m event)
@@ -33,11 +33,11 @@ after_more s event n m = ap (after s) (sym (replicate-append-replicate n m event
 pub run_join : (s : State) (event : Event) (n m : ℕ) → IsRun s event n → IsRun (after s (replicate n event)) event m → IsRun s event (n + m)
 run_join s event n m a b = record {
   quiet = λ k few. elim (cases_lt k n) [
-    | inl near ↦ a.quiet k (omega (arith, near))
+    | inl near ↦ a.quiet k (omega arith)
     | inr far ↦
-        let e : k ≡ n + (k - n) = omega (arith, far) in
+        let e : k ≡ n + (k - n) = omega arith in
         ap (λ z. (after s (replicate z event)).place.doublings) e
-        ∙ (ap (λ t. t.place.doublings) (after_more s event n (k - n)) ∙ (b.quiet (k - n) (omega (arith, few, far)) ∙ a.quiet n (omega arith)))
+        ∙ (ap (λ t. t.place.doublings) (after_more s event n (k - n)) ∙ (b.quiet (k - n) (omega arith) ∙ a.quiet n (omega arith)))
   ];
   taught = ap (λ t. t.learned) (after_more s event n m) ∙ (b.taught ∙ a.taught);
 }
@@ -50,7 +50,7 @@ filled_none false = refl
 
 -- a byte more
 filled_more : (colour : Bool) (k : ℕ) → filled colour k * 2 ^ 8 + bit colour * 255 ≡ filled colour (k + 8)
-filled_more true k = let p = pow-add 2 k 8 in let q = pow_pos k in omega (arith, p, q)
+filled_more true k = let p = pow-add 2 k 8 in let q = pow_pos k in omega arith
 filled_more false k = omega arith
 
 -- the nearest of more
@@ -58,13 +58,13 @@ filled_mod : (colour : Bool) (d l : ℕ) → filled colour (d + l) % 2 ^ l ≡ f
 filled_mod true d l =
     let p = pow-add 2 d l in
     let q = pow_pos l in
-    let one : 2 ^ d ≡ (2 ^ d - 1) + 1 = let r = pow_pos d in omega (arith, r) in
+    let one : 2 ^ d ≡ (2 ^ d - 1) + 1 = let r = pow_pos d in omega arith in
     let parts : 1 * (2 ^ (d + l) - 1) ≡ (2 ^ d - 1) * 2 ^ l + (2 ^ l - 1) = ap (λ z. 1 * (z - 1)) (p ∙ ap (λ z. z * 2 ^ l) one) ∙ apart (2 ^ d - 1) (2 ^ l) q in
     let rest : 2 ^ l - 1 ≡ 1 * (2 ^ l - 1) = omega arith in
-    ap (λ z. z % 2 ^ l) parts ∙ (mod-mul-add (2 ^ d - 1) (2 ^ l) (2 ^ l - 1) (omega (arith, q)) ∙ rest)
+    ap (λ z. z % 2 ^ l) parts ∙ (mod-mul-add (2 ^ d - 1) (2 ^ l) (2 ^ l - 1) (omega arith) ∙ rest)
   where
     apart : (a b : ℕ) → 0 < b → 1 * ((a + 1) * b - 1) ≡ a * b + (b - 1)
-    apart a b some = omega (arith, some)
+    apart a b some = omega arith
 filled_mod false d l =
     let q = pow_pos l in
     let none : 0 * (2 ^ (d + l) - 1) ≡ 0 = omega arith in
@@ -77,71 +77,73 @@ byte_small : (colour : Bool) → bit colour * 255 % 256 ≡ bit colour * 255
 byte_small true = refl
 byte_small false = refl
 
+-- the bytes of a row have this colour, n of them from byte i on
+pub record IsFilled (colour : Bool) (row : List Bool) (i n : ℕ) : Type 0 where
+  pub byte : (j : ℕ) → j < n → before row (8 * (i + j) + 8) 8 ≡ bit colour * 255
+
+pub is_filled : {colour : Bool} {row : List Bool} {bytes : List ℕ} {i n : ℕ} → IsIn row bytes → AreFilled colour bytes i n → IsFilled colour row i n
+is_filled {colour} {i = i} is fill = record { byte = λ j few. is.byte (i + j) ∙ (ap (λ z. z % 256) (fill j few) ∙ byte_small colour) }
+
 -- pixels of a colour before a byte, and bytes of it from there on
-pub filled_on : (colour : Bool) (row : List Bool) (bytes : List ℕ) (b k n : ℕ) → IsIn row bytes → before row (8 * b) k ≡ filled colour k → AreFilled colour bytes b n → before row (8 * (b + n)) (k + 8 * n) ≡ filled colour (k + 8 * n)
-filled_on colour row bytes b k zero is h fill =
+filled_on : {colour : Bool} {row : List Bool} {b : ℕ} (k n : ℕ) → IsFilled colour row b n → before row (8 * b) k ≡ filled colour k → before row (8 * (b + n)) (k + 8 * n) ≡ filled colour (k + 8 * n)
+filled_on {colour} {row} {b} k zero fill h =
     let e : 8 * (b + 0) ≡ 8 * b = omega arith in
     let f : k + 8 * 0 ≡ k = omega arith in
-    ap (λ x. before row x (k + 8 * 0)) e ∙ (ap (λ w. before row (8 * b) w) f ∙ (h ∙ ap (λ w. filled colour w) (sym f)))
-filled_on colour row bytes b k (suc n) is h fill =
+    rw (e, f) h
+filled_on {colour} {row} {b} k (suc n) fill h =
     let e : 8 * (b + suc n) ≡ 8 * (b + n) + 8 = omega arith in
     let f : k + 8 * suc n ≡ (k + 8 * n) + 8 = omega arith in
-    let shorter = filled_on colour row bytes b k n is h (λ j few. fill j (omega (arith, few))) in
-    let byte : before row (8 * (b + n) + 8) 8 ≡ bit colour * 255 = is (b + n) ∙ (ap (λ z. z % 256) (fill n (omega arith)) ∙ byte_small colour) in
-    ap (λ x. before row x (k + 8 * suc n)) e ∙ (ap (λ w. before row (8 * (b + n) + 8) w) f
-    ∙ (before_split row (8 * (b + n)) (k + 8 * n) 8 ∙ (ap (λ z. z * 2 ^ 8 + before row (8 * (b + n) + 8) 8) shorter
-    ∙ (ap (λ z. filled colour (k + 8 * n) * 2 ^ 8 + z) byte ∙ (filled_more colour (k + 8 * n) ∙ ap (λ w. filled colour w) (sym f))))))
+    let shorter = filled_on k n (record { byte = λ j few. fill.byte j (omega arith) }) h in
+    rw (e, f, before_split row (8 * (b + n)) (k + 8 * n) 8, shorter, fill.byte n (omega arith)) (filled_more colour (k + 8 * n))
 
-pub left_filled : (colour : Bool) (row : List Bool) (y k m l : ℕ) → before row y k ≡ filled colour k → m + l ≤ k → AreLeft row y m l colour
-left_filled colour row y k m l h within j few =
-    let e : 0 + (m + j) ≡ m + j = omega arith in
-    let low : before row y k / 2 ^ 0 % 2 ^ k ≡ filled colour k = ap (λ z. z % 2 ^ k) (div-one (before row y k)) ∙ (mod-eq_of_lt (before_lt row y k) ∙ h) in
-    ap (λ z. pixel_left row y (suc z)) (sym e) ∙ part_left row (before row y k) y k 0 k colour refl (omega arith) low (m + j) (omega (arith, within, few))
+left_filled : {colour : Bool} {row : List Bool} {y m l : ℕ} (k : ℕ) → before row y k ≡ filled colour k → m + l ≤ k → AreLeft row y m l colour
+left_filled {colour} {row} {y} {m} k h within = record {
+  any = λ j few.
+      let e : 0 + (m + j) ≡ m + j = omega arith in
+      let low : before row y k / 2 ^ 0 % 2 ^ k ≡ filled colour k = ap (λ z. z % 2 ^ k) (div-one (before row y k)) ∙ (mod-eq_of_lt (before_lt row y k) ∙ h) in
+      let all : AreLeft row y 0 k colour = part_left k refl (omega arith) low in
+      ap (λ z. pixel_left row y (suc z)) (sym e) ∙ all.any (m + j) (omega arith);
+}
 
-adapts_filled : (colour : Bool) (lines : Lines) (offset i n : ℕ) → offset ≤ 127 → before lines.row (8 * i) (past_bits offset) ≡ filled colour (past_bits offset) → AreLeft lines.above (8 * i + 8 * n + 8) 6 (8 * n + 5) colour →
+-- the pixels before byte i have a colour, as far as contexts read them
+pub record AreBehind (colour : Bool) (lines : Lines) (offset i : ℕ) : Type 0 where
+  pub row_is : before lines.row (8 * i) (past_bits offset) ≡ filled colour (past_bits offset)
+  pub above_is : before lines.above (8 * i + 8) 24 ≡ filled colour 24
+  pub second_is : before lines.second (8 * i + 8) 24 ≡ filled colour 24
+
+adapts_filled : {colour : Bool} (lines : Lines) (offset i n : ℕ) → offset ≤ 127 → before lines.row (8 * i) (past_bits offset) ≡ filled colour (past_bits offset) → AreLeft lines.above (8 * i + 8 * n + 8) 6 (8 * n + 5) colour →
     Adapts lines offset (8 * i) (8 * n) colour
-adapts_filled colour lines zero i n high past above = nominal_adapts lines (8 * i) (8 * n) colour above
-adapts_filled colour lines (suc t) i n high past above =
-    moved_adapts lines t (8 * i) (8 * n) 0 128 colour (left_filled colour lines.row (8 * i) 128 0 128 past (omega arith)) (λ j within under. omega (arith, under)) (omega (arith, high))
+adapts_filled lines zero i n high past above = nominal_adapts lines (8 * i) (8 * n) above
+adapts_filled {colour} lines (suc t) i n high past above =
+    let columns : AreLeft lines.row (8 * i) 0 128 colour = left_filled 128 past (omega arith) in
+    moved_adapts lines t (8 * n) columns (λ j within under. omega arith) (omega arith)
 
 -- below bytes of a colour and after pixels of it all contexts are that of the colour, as long as the row stays in it
-pub filled_uniform : (mode : Mode) (lines : Lines) (offset : ℕ) (colour : Bool) (above second : List ℕ) (i n : ℕ) → offset ≤ 127 → IsIn lines.above above → IsIn lines.second second →
-    before lines.row (8 * i) (past_bits offset) ≡ filled colour (past_bits offset) → before lines.above (8 * i + 8) 24 ≡ filled colour 24 → before lines.second (8 * i + 8) 24 ≡ filled colour 24 →
-    AreFilled colour above (i + 1) n → AreFilled colour second (i + 1) n → StaysUniform mode lines offset colour (8 * i) (8 * n)
-filled_uniform mode lines offset colour above second i n high a s p pa ps fa fs =
+pub filled_uniform : {colour : Bool} {lines : Lines} {offset i n : ℕ} (mode : Mode) → offset ≤ 127 → AreBehind colour lines offset i → IsFilled colour lines.above (i + 1) n → IsFilled colour lines.second (i + 1) n →
+    StaysUniform mode lines offset colour (8 * i) (8 * n)
+filled_uniform {colour} {lines} {offset} {i} {n} mode high behind above second =
     let from : 8 * i + 8 ≡ 8 * (i + 1) = omega arith in
     let top : 8 * ((i + 1) + n) ≡ 8 * i + 8 * n + 8 = omega arith in
-    let above_filled : AreLeft lines.above (8 * i + 8 * n + 8) 6 (8 * n + 5) colour =
-    left_filled colour lines.above (8 * i + 8 * n + 8) (24 + 8 * n) 6 (8 * n + 5)
-    (ap (λ y. before lines.above y (24 + 8 * n)) (sym top) ∙ filled_on colour lines.above above (i + 1) 24 n a (ap (λ y. before lines.above y 24) (sym from) ∙ pa) fa) (omega arith) in
-    let second_filled : AreLeft lines.second (8 * i + 8 * n + 8) 7 (8 * n + 2) colour =
-    left_filled colour lines.second (8 * i + 8 * n + 8) (24 + 8 * n) 7 (8 * n + 2)
-    (ap (λ y. before lines.second y (24 + 8 * n)) (sym top) ∙ filled_on colour lines.second second (i + 1) 24 n s (ap (λ y. before lines.second y 24) (sym from) ∙ ps) fs) (omega arith) in
-    stays_uniform mode lines offset (8 * i) (8 * n) colour
-    (record { second = second_filled; above = above_filled; row = left_filled colour lines.row (8 * i) (past_bits offset) 0 4 p (omega (arith, least offset)) })
-    (adapts_filled colour lines offset i n high p above_filled)
+    let a : AreLeft lines.above (8 * i + 8 * n + 8) 6 (8 * n + 5) colour = left_filled (24 + 8 * n) (rw top at (filled_on 24 n above (rw from at behind.above_is))) (omega arith) in
+    let s : AreLeft lines.second (8 * i + 8 * n + 8) 7 (8 * n + 2) colour = left_filled (24 + 8 * n) (rw top at (filled_on 24 n second (rw from at behind.second_is))) (omega arith) in
+    stays_uniform mode offset (record { second = s; above = a; row = left_filled (past_bits offset) behind.row_is (omega (arith, least offset)) }) (adapts_filled lines offset i n high behind.row_is a)
 
-pub own_filled : (colour : Bool) (row : List Bool) (bytes : List ℕ) (i n : ℕ) → IsIn row bytes → AreFilled colour bytes i n → (k : ℕ) → k < 8 * n → pixel_at row (8 * i + k) ≡ colour
-own_filled colour row bytes i n is fill k few =
-    let h : before row (8 * (i + n)) (8 * n) ≡ filled colour (8 * n) =
-    subst (λ w. before row (8 * (i + n)) w ≡ filled colour w) start (filled_on colour row bytes i 0 n is (before_zero row (8 * i) ∙ filled_none colour) fill) in
-    seen_at row (8 * (i + n)) 0 (8 * n) colour (left_filled colour row (8 * (i + n)) (8 * n) 0 (8 * n) h (omega arith)) (8 * i + k) (8 * n - suc k) (omega (arith, few)) (omega arith) (omega (arith, few))
-  where
-    start : 0 + 8 * n ≡ 8 * n
-    start = omega arith
+pub own_filled : {colour : Bool} {row : List Bool} {i n : ℕ} → IsFilled colour row i n → (k : ℕ) → k < 8 * n → pixel_at row (8 * i + k) ≡ colour
+own_filled {colour} {row} {i} {n} fill k few =
+    let start : 0 + 8 * n ≡ 8 * n = omega arith in
+    let all : AreLeft row (8 * (i + n)) 0 (8 * n) colour = left_filled (8 * n) (rw start at (filled_on 0 n fill (before_zero row (8 * i) ∙ filled_none colour))) (omega arith) in
+    seen_at all (8 * i + k) (omega arith) (omega arith)
 
 -- the same many pixels before, after bytes of their colour
-pub past_filled : (colour : Bool) (row : List Bool) (bytes : List ℕ) (i n w : ℕ) → IsIn row bytes → before row (8 * i) w ≡ filled colour w → AreFilled colour bytes i n → before row (8 * i + 8 * n) w ≡ filled colour w
-past_filled colour row bytes i n w is h fill =
+pub past_filled : {colour : Bool} {row : List Bool} {i n : ℕ} (w : ℕ) → IsFilled colour row i n → before row (8 * i) w ≡ filled colour w → before row (8 * i + 8 * n) w ≡ filled colour w
+past_filled {colour} {row} {i} {n} w fill h =
     let e : 8 * (i + n) ≡ 8 * i + 8 * n = omega arith in
     let f : w + 8 * n ≡ 8 * n + w = omega arith in
-    let all : before row (8 * i + 8 * n) (8 * n + w) ≡ filled colour (8 * n + w) =
-    subst (λ v. before row (8 * i + 8 * n) v ≡ filled colour v) f (ap (λ y. before row y (w + 8 * n)) (sym e) ∙ filled_on colour row bytes i w n is h fill) in
-    sym (before_mod row (8 * i + 8 * n) (8 * n) w) ∙ (ap (λ z. z % 2 ^ w) all ∙ filled_mod colour (8 * n) w)
+    sym (before_mod row (8 * i + 8 * n) (8 * n) w) ∙ (ap (λ z. z % 2 ^ w) (rw (e, f) at (filled_on w n fill h)) ∙ filled_mod colour (8 * n) w)
 
 -- a register of a row above, after bytes of its colour
-pub register_filled : (colour : Bool) (row : List Bool) (bytes : List ℕ) (register i n : ℕ) → IsIn row bytes → register ≡ before row (8 * i + 8) 24 → register ≡ filled colour 24 → AreFilled colour bytes (i + 1) n → register ≡ before row (8 * (i + n) + 8) 24
-register_filled colour row bytes register i n is at all fill =
+pub register_filled : {colour : Bool} {row : List Bool} {register n : ℕ} (i : ℕ) → IsFilled colour row (i + 1) n → register ≡ before row (8 * i + 8) 24 → register ≡ filled colour 24 → register ≡ before row (8 * (i + n) + 8) 24
+register_filled {row = row} {n = n} i fill is all =
     let from : 8 * i + 8 ≡ 8 * (i + 1) = omega arith in
     let to : 8 * (i + 1) + 8 * n ≡ 8 * (i + n) + 8 = omega arith in
-    all ∙ (sym (past_filled colour row bytes (i + 1) n 24 is (ap (λ y. before row y 24) (sym from) ∙ (sym at ∙ all)) fill) ∙ ap (λ y. before row y 24) to)
+    all ∙ (sym (past_filled 24 fill (rw from at (sym is ∙ all))) ∙ ap (λ y. before row y 24) to)

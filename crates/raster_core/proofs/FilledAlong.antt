@@ -1,5 +1,5 @@
 -- Bytes of one colour, many decoded in one step.
-use Rattle.std.proofs.Common.{◌≡◌, ℕ, ◌+◌, ◌-◌, ◌*◌, ◌<◌, ◌≤◌, Bool, false, inl, inr, List, ◌++◌, length, refl, sym, ◌∙◌, ap, arith, subst, replicate}
+use Rattle.std.proofs.Common.{◌≡◌, ℕ, ◌+◌, ◌-◌, ◌*◌, ◌<◌, ◌≤◌, Bool, false, inl, inr, List, ◌++◌, length, sym, ◌∙◌, ap, arith, subst, replicate}
 use Rattle.std.specs.Prelude.{slice_index}
 use Rattle.std.proofs.lemmas.Bool.{cases_lt}
 use Rattle.std.proofs.lemmas.List.{length-append, length-replicate}
@@ -11,24 +11,23 @@ use Rattle.qm_core.specs.Decoder.{DecoderIsAt, DecoderState, has_stopped, decode
 use Rattle.qm_core.specs.declared.source.Pulled.{Pulled}
 use Rattle.qm_core.specs.declared.decoder.Decoder.{Decoder}
 use Rattle.raster_core.specs.Raster.{pixel_at}
-use Rattle.raster_core.specs.Packed.{packed_row}
 use Rattle.raster_core.specs.Machine.Registers.{bit, before, past_bits}
 use Rattle.raster_core.specs.Machine.Decoded.{RowAround, RowPart, BytesAt, with_row, PixelsSoFar, BytesAlong, SkipsFilledAlong, filled_run, plain_row, bytes_at}
 use Rattle.raster_core.specs.Machine.Uniform.{filled, uniform_event, AreFilled, StaysUniform}
 use Rattle.raster_core.proofs.Causal.{before_front}
-use Rattle.raster_core.proofs.Packed.{packed_byte, packed_in}
+use Rattle.raster_core.proofs.Packed.{packed_in}
 use Rattle.raster_core.proofs.SkipsAlong.{run_pixels, run_before, decoded_run}
-use Rattle.raster_core.proofs.Filled.{filled_join, run_join, after_more, filled_uniform, past_filled, register_filled}
+use Rattle.raster_core.proofs.Filled.{filled_join, is_filled, run_join, after_more, filled_uniform, past_filled, register_filled}
 
 pub along_join : {colour : Bool} {above second : List ℕ} {i at count : ℕ} {d d' d'' : Decoder} {learned : List Estimate} (n : ℕ) → at ≡ i + n → count ≡ n + 8 →
     SkipsFilledAlong (filled_run colour i n) above second d learned d' → SkipsFilledAlong (filled_run colour at 8) above second d' learned d'' → SkipsFilledAlong (filled_run colour i count) above second d learned d''
 along_join {colour} {above} {second} {i} {at} {count} {d} {d'} {d''} {learned} n at_is count_is a b =
-    let behind : at + 1 ≡ (i + 1) + n = omega (arith, at_is) in
+    let behind : at + 1 ≡ (i + 1) + n = omega arith in
     subst (λ z. SkipsFilledAlong (filled_run colour i z) above second d learned d'') (sym count_is)
     (record {
       above_filled = filled_join colour above (i + 1) n 8 a.above_filled (subst (λ z. AreFilled colour above z 8) behind b.above_filled);
       second_filled = filled_join colour second (i + 1) n 8 a.second_filled (subst (λ z. AreFilled colour second z 8) behind b.second_filled);
-      none = λ e. absurd (omega (arith, e));
+      none = λ e. absurd (omega arith);
       decoded = λ p answers h.
           let s : State = record { place = p; learned = learned } in
           let event = uniform_event colour in
@@ -50,44 +49,53 @@ along_join {colour} {above} {second} {i} {at} {count} {d} {d'} {d''} {learned} n
 run_filled : (colour : Bool) (done : List Bool) (i n : ℕ) → length done ≡ 8 * i → (j : ℕ) → j < n → before (done ++ replicate (8 * n) colour) (8 * (i + j) + 8) 8 ≡ bit colour * 255
 run_filled colour done i n long j few =
     run_before (done ++ replicate (8 * n) colour) (8 * (i + j)) 8 colour (λ k less.
-    let e : length done + (8 * j + k) ≡ 8 * (i + j) + k = omega (arith, long) in
-    ap (pixel_at (done ++ replicate (8 * n) colour)) (sym e) ∙ run_pixels done (8 * n) colour (8 * j + k) (omega (arith, few, less)))
+    let e : length done + (8 * j + k) ≡ 8 * (i + j) + k = omega arith in
+    ap (pixel_at (done ++ replicate (8 * n) colour)) (sym e) ∙ run_pixels done (8 * n) colour (8 * j + k) (omega arith))
 
-pub bytes_skipped : {S : Type 0} {pull : S → Pulled → S → Type 0} {a : RowAround} {part : RowPart S} {width left : ℕ} {b : BytesAt} {current : List ℕ} {mid : DecoderState S} {d' : Decoder} (n : ℕ) (colour : Bool) →
-    a.offset ≤ 127 → b.left ≡ width - 8 * b.i → 8 * b.i < width → 8 * n ≤ b.left → left ≡ b.left - 8 * n →
-    1 ≤ n → b.second ≡ filled colour 24 → b.above ≡ filled colour 24 → b.past ≡ filled colour (past_bits a.offset) → has_stopped mid.decoder ≡ false →
-    ((k : ℕ) → b.i ≤ k → k < b.i + n → slice_index current k ≡ bit colour * 255) → ((k : ℕ) → k < b.i → slice_index current k ≡ slice_index b.current k) →
-    SkipsFilledAlong (filled_run colour b.i n) a.above a.second mid.decoder mid.learned d' →
-    BytesAlong pull a part width b mid →
+-- the registers at a byte contain only pixels of a colour
+pub record AreOfColour (colour : Bool) (offset : ℕ) (b : BytesAt) : Type 0 where
+  pub second_is : b.second ≡ filled colour 24
+  pub above_is : b.above ≡ filled colour 24
+  pub past_is : b.past ≡ filled colour (past_bits offset)
+
+-- n bytes from byte i on got a colour, and those before them are unchanged
+pub record ArePainted (colour : Bool) (i n : ℕ) (old new : List ℕ) : Type 0 where
+  pub filled : (k : ℕ) → i ≤ k → k < i + n → slice_index new k ≡ bit colour * 255
+  pub kept : (k : ℕ) → k < i → slice_index new k ≡ slice_index old k
+
+pub bytes_skipped : {S : Type 0} {pull : S → Pulled → S → Type 0} {a : RowAround} {part : RowPart S} {width left : ℕ} {b : BytesAt} {current : List ℕ} {mid : DecoderState S} {d' : Decoder} {colour : Bool} (n : ℕ) →
+    a.offset ≤ 127 → b.left ≡ width - 8 * b.i → left + 8 * n ≡ b.left → 1 ≤ n → AreOfColour colour a.offset b → ArePainted colour b.i n b.current current → has_stopped mid.decoder ≡ false →
+    SkipsFilledAlong (filled_run colour b.i n) a.above a.second mid.decoder mid.learned d' → BytesAlong pull a part width b mid →
     BytesAlong pull a part width (bytes_at left (b.i + n) b.second b.above b.past current) (decoder_state mid.source d' mid.learned)
-bytes_skipped {a = a} {b = b} n colour high left_is inside within left_to some sf af pf going fill kept skips along = record {
+bytes_skipped {a = a} {b = b} {colour = colour} n high left_is left_to some registers painted going skips along = record {
   any = λ from first s answers lines done₀ had so_far a_is s_is.
       let f = along.any from first s answers lines done₀ had so_far a_is s_is in
       let i = b.i in
       let rest = f.rest in
-      let wide : length f.done ≡ 8 * i = omega (arith, rest, left_is, inside) in
+      let wide : length f.done ≡ 8 * i = omega arith in
       let row = f.done ++ replicate (8 * n) colour in
       let long : length row ≡ 8 * i + 8 * n = length-append f.done (replicate (8 * n) colour) ∙ (ap (λ z. z + length (replicate (8 * n) colour)) wide ∙ ap (λ z. 8 * i + z) (length-replicate (8 * n) colour)) in
-      let near : before row (8 * i) (past_bits a.offset) ≡ filled colour (past_bits a.offset) = before_front f.done (replicate (8 * n) colour) (8 * i) (past_bits a.offset) (omega (arith, wide))
-      ∙ (ap (λ y. before f.done y (past_bits a.offset)) (sym wide) ∙ (sym f.so_far.past_is ∙ pf)) in
-      let packed : AreFilled colour (packed_row row) i n = λ j few. packed_byte row (i + j) ∙ run_filled colour f.done i n wide j few in
+      let near : before row (8 * i) (past_bits a.offset) ≡ filled colour (past_bits a.offset) = before_front f.done (replicate (8 * n) colour) (8 * i) (past_bits a.offset) (omega arith)
+      ∙ (ap (λ y. before f.done y (past_bits a.offset)) (sym wide) ∙ (sym f.so_far.past_is ∙ registers.past_is)) in
+      let above_filled = is_filled (packed_in a_is) skips.above_filled in
+      let second_filled = is_filled (packed_in s_is) skips.second_filled in
       let stays : StaysUniform a.mode (with_row lines row) a.offset colour (8 * i) (8 * n) =
-      filled_uniform a.mode (with_row lines row) a.offset colour a.above a.second i n high (packed_in lines.above a.above a_is) (packed_in lines.second a.second s_is) near (sym f.above_is ∙ af) (sym f.second_is ∙ sf) skips.above_filled skips.second_filled in
+      filled_uniform a.mode high (record { row_is = near; above_is = sym f.above_is ∙ registers.above_is; second_is = sym f.second_is ∙ registers.second_is }) above_filled second_filled in
       let behind : b.past ≡ before row (length row) (past_bits a.offset) =
-      pf ∙ (sym (past_filled colour row (packed_row row) i n (past_bits a.offset) (packed_in row (packed_row row) refl) near packed) ∙ ap (λ y. before row y (past_bits a.offset)) (sym long)) in
+      registers.past_is ∙ (sym (past_filled (past_bits a.offset) (record { byte = run_filled colour f.done i n wide }) near) ∙ ap (λ y. before row y (past_bits a.offset)) (sym long)) in
       record {
         done = row;
-        rest = omega (arith, long, left_to, within, rest, wide);
+        rest = omega arith;
         so_far = decoded_run (8 * n) colour f.so_far (subst (λ x. StaysUniform a.mode (with_row lines row) a.offset colour x (8 * n)) (sym wide) stays) behind going
             (λ p given h. let k = skips.decoded p given h in (k.0, k.1, k.2 some));
         bytes = λ k few. elim (cases_lt k i) [
-          | inl near' ↦ kept k near' ∙ (f.bytes k near' ∙ sym (before_front f.done (replicate (8 * n) colour) (8 * k + 8) 8 (omega (arith, near', wide))))
+          | inl near' ↦ painted.kept k near' ∙ (f.bytes k near' ∙ sym (before_front f.done (replicate (8 * n) colour) (8 * k + 8) 8 (omega arith)))
           | inr far ↦
-              let e : i + (k - i) ≡ k = omega (arith, far) in
-              fill k far few ∙ sym (ap (λ y. before row (8 * y + 8) 8) (sym e) ∙ run_filled colour f.done i n wide (k - i) (omega (arith, few, far)))
+              let e : i + (k - i) ≡ k = omega arith in
+              painted.filled k far few ∙ sym (ap (λ y. before row (8 * y + 8) 8) (sym e) ∙ run_filled colour f.done i n wide (k - i) (omega arith))
         ];
-        second_is = register_filled colour lines.second a.second b.second i n (packed_in lines.second a.second s_is) f.second_is sf skips.second_filled;
-        above_is = register_filled colour lines.above a.above b.above i n (packed_in lines.above a.above a_is) f.above_is af skips.above_filled;
+        second_is = register_filled i second_filled f.second_is registers.second_is;
+        above_is = register_filled i above_filled f.above_is registers.above_is;
       };
 }
 

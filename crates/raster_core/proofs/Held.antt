@@ -50,7 +50,7 @@ bits_before (suc n) (suc k) v h =
     let e : k + 1 ≡ suc k = omega arith in
     let parts : v % 2 ^ suc k ≡ (v / 2 ^ 1 % 2 ^ k) * 2 ^ 1 + v % 2 ^ 1 = ap (λ z. v % 2 ^ z) (sym e) ∙ mod-pow-add v k 1 in
     ap (λ row. before row (suc n) (suc k)) (bits_suc n v)
-    ∙ (before_suc (front ++ last ∷ []) n k ∙ (rw (rest, seam, own) (omega (arith, parts))))
+    ∙ (before_suc (front ++ last ∷ []) n k ∙ (rw (rest, seam, own) (omega arith)))
 
 pub bits_early : (n m k v : ℕ) → before (bits (n + m) v) n k ≡ before (bits n (v / 2 ^ m)) n k
 bits_early n zero k v =
@@ -99,7 +99,7 @@ holds_past b small =
 pub pixel_of_byte : (b : RowByte) (j : ℕ) → b.byte < 256 → j < 8 → nat_eq (b.byte * 2 ^ j / 2 ^ 7 % 2) 1 ≡ pixel_at (byte_lines b).row (128 + j)
 pixel_of_byte b j small few =
     let held = holds b small in
-    bit_test _ _ (ap (λ z. z % 2) (byte_shifted b.byte j few) ∙ pixel_in (byte_lines b).row b.byte 128 j held.byte_is few)
+    bit_test _ _ (ap (λ z. z % 2) (byte_shifted b.byte j few) ∙ pixel_in (byte_lines b).row 128 j held.byte_is few)
 
 -- ---- four pixels at once
 
@@ -108,63 +108,63 @@ has_later lanes beside row n k has = λ j few.
     let e : n + (1 + j) ≡ (n + 1) + j = omega arith in
     later_lane lanes 1 j ∙ (has (1 + j) (omega arith) ∙ ap (λ m. 2 * beside m + own row m) e)
 
-pub lanes_are : (b : RowByte) (beside : ℕ → ℕ) (lanes n k : ℕ) → b.byte < 256 → false ≡ b.around.template.two_line →
+pub lanes_are : {beside : ℕ → ℕ} (b : RowByte) (lanes n k : ℕ) → b.byte < 256 → false ≡ b.around.template.two_line →
     AreBeside beside b.around.template.offset b.around.second b.around.above b.byte b.around.past →
     HasPixels lanes beside (b.around.past % 256 * 256 + b.byte) n k → n + k ≤ 8 →
     lane_events lanes k ≡ events_from b.around.template (byte_lines b) (128 + n) k
-lanes_are b beside lanes n zero small three are has few = sym (events_none b.around.template (byte_lines b) (128 + n))
-lanes_are b beside lanes n (suc k) small three are has few =
+lanes_are b lanes n zero small three are has few = sym (events_none b.around.template (byte_lines b) (128 + n))
+lanes_are {beside} b lanes n (suc k) small three are has few =
     let row : ℕ = b.around.past % 256 * 256 + b.byte in
     let one : HasPixels lanes beside row n 1 = λ j less. has j (omega arith) in
     let context : lanes % 0x800 / 2 ≡ context_by b.around.template (byte_lines b) (128 + n) =
-    pixels_context false lanes beside b.around.template.offset b.around.second b.around.above b.around.past b.byte n (lanes % 0x800 / 2) (omega arith) are one refl (byte_lines b) 128 (holds b small) (holds_past b small)
+    pixels_context false lanes n (omega arith) are one refl (holds b small) (holds_past b small)
     ∙ ap (λ t. context_at (record { two_line = t; typical = false }) (byte_lines b) b.around.template.offset (128 + n)) three in
     let pixel : nat_eq (lanes % 0x800 % 2) 1 ≡ pixel_at (byte_lines b).row (128 + n) =
     ap (λ z. nat_eq z 1) (lane_pixel lanes beside b.around.past b.byte n (omega arith) (are.small n) one) ∙ pixel_of_byte b n small (omega arith) in
     let place : 128 + (n + 1) ≡ (128 + n) + 1 = omega arith in
     let rest : lane_events (lanes / 2 ^ 16) k ≡ events_from b.around.template (byte_lines b) ((128 + n) + 1) k =
-    lanes_are b beside (lanes / 2 ^ 16) (n + 1) k small three are (has_later lanes beside row n k has) (omega arith) ∙ ap (λ x. events_from b.around.template (byte_lines b) x k) place in
+    lanes_are b (lanes / 2 ^ 16) (n + 1) k small three are (has_later lanes beside row n k has) (omega arith) ∙ ap (λ x. events_from b.around.template (byte_lines b) x k) place in
     ap (λ e. e ∷ lane_events (lanes / 2 ^ 16) k) (event_is _ _ _ _ context pixel)
     ∙ (ap (λ es. event_by b.around.template (byte_lines b) (128 + n) ∷ es) rest ∙ sym (events_first b.around.template (byte_lines b) (128 + n) k))
 
 -- the pixels of a byte by lanes, of which `own` are the byte's bits
-lanes_at : (b : RowByte) (moved : Bool) (far lanes own n : ℕ) → b.byte < 256 → IsMadeFor false moved b.around.template → own ≡ b.byte →
+lanes_at : {moved : Bool} {own : ℕ} (b : RowByte) (far lanes n : ℕ) → b.byte < 256 → IsMadeFor false moved b.around.template → own ≡ b.byte →
     AreBeside (near moved b.around.second b.around.above far) b.around.template.offset b.around.second b.around.above b.byte b.around.past →
     HasPixels lanes (near moved b.around.second b.around.above far) (b.around.past % 256 * 256 + own) n 4 → n + 4 ≤ 8 →
     lane_events lanes 4 ≡ events_from b.around.template (byte_lines b) (128 + n) 4
-lanes_at b moved far lanes own n small made is are has few =
-    lanes_are b (near moved b.around.second b.around.above far) lanes n 4 small made.two_line_is are
+lanes_at {moved} b far lanes n small made is are has few =
+    lanes_are b lanes n 4 small made.two_line_is are
     (subst (λ z. HasPixels lanes (near moved b.around.second b.around.above far) (b.around.past % 256 * 256 + z) n 4) is has) few
 
-pub first_lanes : (b : RowByte) (moved : Bool) (far first own : ℕ) → b.byte < 256 → IsMadeFor false moved b.around.template → own ≡ b.byte →
+pub first_lanes : {moved : Bool} {own : ℕ} (b : RowByte) (far first : ℕ) → b.byte < 256 → IsMadeFor false moved b.around.template → own ≡ b.byte →
     AreBeside (near moved b.around.second b.around.above far) b.around.template.offset b.around.second b.around.above b.byte b.around.past →
     HasPixels first (near moved b.around.second b.around.above far) (b.around.past % 256 * 256 + own) 0 4 →
     lane_events first 4 ++ events_from b.around.template (byte_lines b) 132 4 ≡ events_from b.around.template (byte_lines b) 128 8
-first_lanes b moved far first own small made is are has =
-    ap (λ es. es ++ events_from b.around.template (byte_lines b) 132 4) (lanes_at b moved far first own 0 small made is are has (omega arith))
+first_lanes b far first small made is are has =
+    ap (λ es. es ++ events_from b.around.template (byte_lines b) 132 4) (lanes_at b far first 0 small made is are has (omega arith))
     ∙ sym (events_append b.around.template (byte_lines b) 128 4 4)
 
-pub both_lanes : (b : RowByte) (moved : Bool) (far first last own : ℕ) → b.byte < 256 → IsMadeFor false moved b.around.template → own ≡ b.byte →
+pub both_lanes : {moved : Bool} {own : ℕ} (b : RowByte) (far first last : ℕ) → b.byte < 256 → IsMadeFor false moved b.around.template → own ≡ b.byte →
     AreBeside (near moved b.around.second b.around.above far) b.around.template.offset b.around.second b.around.above b.byte b.around.past →
     HasPixels first (near moved b.around.second b.around.above far) (b.around.past % 256 * 256 + own) 0 4 →
     HasPixels last (near moved b.around.second b.around.above far) (b.around.past % 256 * 256 + own) 4 4 →
     lane_events first 4 ++ lane_events last 4 ≡ events_from b.around.template (byte_lines b) 128 8
-both_lanes b moved far first last own small made is are has then =
-    ap (λ es. lane_events first 4 ++ es) (lanes_at b moved far last own 4 small made is are then (omega arith))
-    ∙ first_lanes b moved far first own small made is are has
+both_lanes b far first last small made is are has then =
+    ap (λ es. lane_events first 4 ++ es) (lanes_at b far last 4 small made is are then (omega arith))
+    ∙ first_lanes b far first small made is are has
 
 -- ---- a pixel
 
 -- the registers at pixel j
-pub at_pixel : (b : RowByte) (j past : ℕ) → b.byte < 256 → j < 8 → past ≡ before (byte_lines b).row (128 + j) (past_bits b.around.template.offset) →
+pub at_pixel : {past : ℕ} (b : RowByte) (j : ℕ) → b.byte < 256 → j < 8 → past ≡ before (byte_lines b).row (128 + j) (past_bits b.around.template.offset) →
     AreAt (byte_lines b) b.around.template.offset (b.around.second / 2 ^ 7 * 2 ^ j) (b.around.above / 2 ^ 6 * 2 ^ j) past (128 + j)
-at_pixel b j past small few is = at_registers (byte_lines b) b.around.template.offset b.around.second b.around.above b.byte past 128 j few (holds b small) is
+at_pixel b j small few is = at_registers j few (holds b small) is
 
 -- the next pixel's past
-pub past_more : (b : RowByte) (j past past' : ℕ) (pixel : Bool) → past ≡ before (byte_lines b).row (128 + j) (past_bits b.around.template.offset) →
+pub past_more : {past past' : ℕ} {pixel : Bool} (b : RowByte) (j : ℕ) → past ≡ before (byte_lines b).row (128 + j) (past_bits b.around.template.offset) →
     past' ≡ past % 2 ^ (past_bits b.around.template.offset - 1) * 2 + bit pixel → pixel ≡ pixel_at (byte_lines b).row (128 + j) →
     past' ≡ before (byte_lines b).row (128 + (j + 1)) (past_bits b.around.template.offset)
-past_more b j past past' pixel is next own =
+past_more {past} b j is next own =
     let w : ℕ = past_bits b.around.template.offset in
     let row : List Bool = (byte_lines b).row in
     let place : (128 + j) + 1 ≡ 128 + (j + 1) = omega arith in
@@ -174,14 +174,14 @@ past_more b j past past' pixel is next own =
     ∙ ap (λ x. before row x w) place))
 
 -- pixel j in its context, after those before it
-pub pixel_next : (b : RowByte) (j cx second above row past : ℕ) (two_line : Bool) → b.byte < 256 → j < 8 →
+pub pixel_next : {cx second above row past : ℕ} {two_line : Bool} (b : RowByte) (j : ℕ) → b.byte < 256 → j < 8 →
     two_line ≡ b.around.template.two_line →
     second ≡ b.around.second / 2 ^ 7 * 2 ^ j → above ≡ b.around.above / 2 ^ 6 * 2 ^ j → row ≡ b.byte * 2 ^ j →
     past ≡ before (byte_lines b).row (128 + j) (past_bits b.around.template.offset) →
     ((typical : Bool) (lines : Lines) (x : ℕ) → AreAt lines b.around.template.offset second above past x → cx ≡ context_at (record { two_line = two_line; typical = typical }) lines b.around.template.offset x) →
     events_from b.around.template (byte_lines b) 128 j ++ record { context = cx; pixel = nat_eq (row / 2 ^ 7 % 2) 1 } ∷ [] ≡ events_from b.around.template (byte_lines b) 128 (j + 1)
-pixel_next b j cx second above row past two_line small few template s a r p context =
-    let at : AreAt (byte_lines b) b.around.template.offset second above past (128 + j) = rw (s, a) (at_pixel b j past small few p) in
+pixel_next {cx} {second} {above} {row} {past} {two_line} b j small few template s a r p context =
+    let at : AreAt (byte_lines b) b.around.template.offset second above past (128 + j) = rw (s, a) (at_pixel b j small few p) in
     events_last b.around.template (byte_lines b) 128 j cx (nat_eq (row / 2 ^ 7 % 2) 1)
     (context false (byte_lines b) (128 + j) at ∙ ap (λ t. context_at (record { two_line = t; typical = false }) (byte_lines b) b.around.template.offset (128 + j)) template)
     (ap (λ z. nat_eq (z / 2 ^ 7 % 2) 1) r ∙ pixel_of_byte b j small few)

@@ -17,8 +17,8 @@ pub uniform_events : (template : Template) (lines : Lines) (x n : ℕ) (c : Bool
 uniform_events template lines x zero c stays own = sym (events_none template lines x)
 uniform_events template lines x (suc n) c stays own =
     let e : n + 1 ≡ suc n = omega arith in
-    let shorter = uniform_events template lines x n c (λ j few before. stays j (omega (arith, few)) before) (λ k few. own k (omega (arith, few))) in
-    let last = events_last template lines x n (uniform_context c) c (sym (stays n (omega arith) (λ k few. own k (omega (arith, few))))) (sym (own n (omega arith))) in
+    let shorter = uniform_events template lines x n c (λ j few before. stays j (omega arith) before) (λ k few. own k (omega arith)) in
+    let last = events_last template lines x n (uniform_context c) c (sym (stays n (omega arith) (λ k few. own k (omega arith)))) (sym (own n (omega arith))) in
     sym (one_more n (uniform_event c)) ∙ (ap (λ es. es ++ uniform_event c ∷ []) shorter ∙ (last ∙ ap (events_from template lines x) e))
 
 pub byte_run : (b : RowByte) (c : Bool) → b.byte < 256 → b.byte ≡ bit c * 255 →

@@ -1,6 +1,6 @@
 -- The answers of a source and the bytes of a sink, in succession.
 use Rattle.std.proofs.Common.{◌≡◌, ℕ, suc, Bool, true, false, List, [], ◌∷◌, ◌++◌, length, refl, sym, ap, subst, Ok, Err}
-use Rattle.std.specs.Prelude.{Result, IsTrue, IsErr}
+use Rattle.std.specs.Prelude.{Result, IsTrue}
 use Rattle.qm_core.specs.Source.{bytes_of, heard_of, IsClosed, Gives, before_fault}
 use Rattle.qm_core.specs.Sink.{Took}
 use Rattle.qm_core.specs.declared.source.Pulled.{Pulled}
@@ -41,10 +41,10 @@ pub had_not_failed : {T : Type 0} (b : Bool) (result : Result T CoderFault) (x :
 had_not_failed false result x h is = refl
 had_not_failed true result x h is = let e = h refl in cc
 
-pub not_both : (b : Bool) → IsTrue b → b ≡ false → ⊥
-not_both true h e = cc
-not_both false h e = cc
+pub not_both : {b : Bool} → IsTrue b → b ≡ false → ⊥
+not_both {b = true} h e = cc
+not_both {b = false} h e = cc
 
-pub had_not_stopped : {T E : Type 0} (b : Bool) (result : Result T E) (x : T) → (IsTrue b → IsErr result) → result ≡ Ok x → b ≡ false
-had_not_stopped false result x h is = refl
-had_not_stopped true result x h is = let e = subst (λ r. IsErr r) is (h refl) in cc
+pub had_not_stopped : {b : Bool} → (IsTrue b → false ≡ true) → b ≡ false
+had_not_stopped {b = false} h = refl
+had_not_stopped {b = true} h = sym (h refl)

@@ -23,7 +23,7 @@ lane_context b lanes n past cx has cx_is lines x r =
     let here : lane lanes 0 ≡ around b.second b.above n = has.around_is 0 (omega arith) ∙ ap (λ k. around b.second b.above k) z in
     let p = parts lanes (b.second / 2 ^ 7 * 2 ^ n / 2 ^ 7 % 8) (b.above / 2 ^ 6 * 2 ^ n / 2 ^ 7 % 32) (omega arith) (omega arith) here in
     let e : cx ≡ context_at (record { two_line = false; typical = b.mode.typical }) lines 0 x =
-    cx_is ∙ (ap (λ z. z + past % 4) p ∙ three_line_nominal lines _ _ past x (subst (λ o. AreAt lines o (b.second / 2 ^ 7 * 2 ^ n) (b.above / 2 ^ 6 * 2 ^ n) past x) has.nominal r)) in
+    cx_is ∙ (ap (λ z. z + past % 4) p ∙ three_line_nominal (subst (λ o. AreAt lines o (b.second / 2 ^ 7 * 2 ^ n) (b.above / 2 ^ 6 * 2 ^ n) past x) has.nominal r)) in
     subst (λ o. cx ≡ context_at b.mode lines o x) (sym has.nominal) (subst (λ t. cx ≡ context_at (record { two_line = t; typical = b.mode.typical }) lines 0 x) (sym has.three_line) e)
 
 -- pixels after pixels
@@ -60,7 +60,7 @@ pub stops_then : {S : Type 0} {pull : S → Pulled → S → Type 0} {lanes p i 
     AlongMore pull (lanes_around lanes p) old i p' mid → StopsMore pull (lanes_around (lanes / 2 ^ (16 * i)) p') mid k pause to → StopsMore pull (lanes_around lanes p) old (i + k) pause' to
 stops_then {S} {pull} {lanes} {p} {i} {p'} {k} {old} {mid} {to} {pause} {pause'} count_is past_is first then = record {
   any = λ b from n has so_far.
-      let e : (n + i) + pause.count ≡ n + pause'.count = omega (arith, count_is) in
+      let e : (n + i) + pause.count ≡ n + pause'.count = omega arith in
       subst (λ at. StopsAlong pull b from 8 at to) (same_pause _ _ _ _ e (sym past_is))
       (then.any b from (n + i) (later_lanes i k has) (first.any b from n (first_lanes i (omega arith) has) so_far));
 }

@@ -40,20 +40,20 @@ pub lane_pixel : (lanes : ℕ) (beside : ℕ → ℕ) (past₀ byte n : ℕ) →
 lane_pixel lanes beside past₀ byte n few small has = (lane_parts lanes beside (past₀ % 256 * 256 + byte) n small has).1 ∙ bit_of_byte (past₀ % 256) byte n few
 
 -- the two pixels before, in a register of two bytes
-own_before : (row : List Bool) (offset past₀ byte past x n : ℕ) → n < 8 → past₀ ≡ before row x (past_bits offset) → byte ≡ before row (x + 8) 8 → past ≡ before row (x + n) (past_bits offset) → own (past₀ % 256 * 256 + byte) n / 2 ≡ past % 4
-own_before row offset past₀ byte past x n few p₀ b p =
+own_before : {past₀ byte past : ℕ} (row : List Bool) (offset x n : ℕ) → n < 8 → past₀ ≡ before row x (past_bits offset) → byte ≡ before row (x + 8) 8 → past ≡ before row (x + n) (past_bits offset) → own (past₀ % 256 * 256 + byte) n / 2 ≡ past % 4
+own_before {past₀} {byte} row offset x n few p₀ b p =
     let register : past₀ % 256 * 256 + byte ≡ before row (x + 8) 16 =
-    ap (λ z. z * 256 + byte) (low_part row past₀ x offset 8 p₀ (omega arith)) ∙ (ap (λ z. before row x 8 * 256 + z) b ∙ sym (before_split row x 8 8)) in
+    ap (λ z. z * 256 + byte) (low_part row x offset 8 p₀ (omega arith)) ∙ (ap (λ z. before row x 8 * 256 + z) b ∙ sym (before_split row x 8 8)) in
     let place : x + 8 ≡ ((x + n) + 1) + (7 - n) = omega arith in
     let size : 16 ≡ ((6 + n) + 3) + (7 - n) = omega arith in
     let three : own (past₀ % 256 * 256 + byte) n ≡ before row ((x + n) + 1) 3 =
     ap (λ z. z % 8) (byte_shifted (past₀ % 256 * 256 + byte) n few) ∙ (ap (λ z. z / 2 ^ (7 - n) % 8) (register ∙ (ap (λ y. before row y 16) place ∙ ap (λ k. before row (((x + n) + 1) + (7 - n)) k) size)) ∙ before_part row ((x + n) + 1) (6 + n) 3 (7 - n)) in
-    ap (λ z. z / 2) three ∙ (before_div row (x + n) 2 1 ∙ sym (low_part row past (x + n) offset 2 p (omega arith)))
+    ap (λ z. z / 2) three ∙ (before_div row (x + n) 2 1 ∙ sym (low_part row (x + n) offset 2 p (omega arith)))
 
-pub pixels_context : (typical : Bool) (lanes : ℕ) (beside : ℕ → ℕ) (offset second above past₀ byte n cx : ℕ) → n < 8 → AreBeside beside offset second above byte past₀ → HasPixels lanes beside (past₀ % 256 * 256 + byte) n 1 → cx ≡ lanes % 0x800 / 2 →
-    (lines : Lines) (x : ℕ) → ByteAt lines second above byte x → past₀ ≡ before lines.row x (past_bits offset) →
+pub pixels_context : {beside : ℕ → ℕ} {offset second above past₀ byte cx x : ℕ} {lines : Lines} (typical : Bool) (lanes n : ℕ) → n < 8 → AreBeside beside offset second above byte past₀ → HasPixels lanes beside (past₀ % 256 * 256 + byte) n 1 → cx ≡ lanes % 0x800 / 2 →
+    ByteAt lines second above byte x → past₀ ≡ before lines.row x (past_bits offset) →
     cx ≡ context_at (record { two_line = false; typical = typical }) lines offset (x + n)
-pixels_context typical lanes beside offset second above past₀ byte n cx few are has cx_is lines x b p₀ =
+pixels_context {beside} {past₀ = past₀} {byte} {x = x} {lines} typical lanes n few are has cx_is b p₀ =
     cx_is ∙ ((lane_parts lanes beside (past₀ % 256 * 256 + byte) n (are.small n) has).0 ∙ are.contexts typical lines x n few b p₀)
 
 -- what stands beside the two pixels before a pixel
@@ -63,8 +63,8 @@ beside_nominal far second above byte past₀ = record {
   small = λ j. omega arith;
   contexts = λ typical lines x j few b p₀.
       let past = before lines.row (x + j) 64 in
-      ap (λ z. around second above j + z) (own_before lines.row 0 past₀ byte past x j few p₀ b.byte_is refl)
-      ∙ three_line_nominal lines (second / 2 ^ 7 * 2 ^ j) (above / 2 ^ 6 * 2 ^ j) past (x + j) (at_registers lines 0 second above byte past x j few b refl);
+      ap (λ z. around second above j + z) (own_before lines.row 0 x j few p₀ b.byte_is refl)
+      ∙ three_line_nominal (at_registers j few b refl);
 }
 
 pub beside_moved : (t far second above byte past₀ : ℕ) → HasFar far (suc t) past₀ byte → AreBeside (near true second above far) (suc t) second above byte past₀
@@ -72,11 +72,11 @@ beside_moved t far second above byte past₀ has = record {
   small = λ j. omega arith;
   contexts = λ typical lines x j few b p₀.
       let past = before lines.row (x + j) 128 in
-      let r : AreAt lines (suc t) (second / 2 ^ 7 * 2 ^ j) (above / 2 ^ 6 * 2 ^ j) past (x + j) = at_registers lines (suc t) second above byte past x j few b refl in
+      let r : AreAt lines (suc t) (second / 2 ^ 7 * 2 ^ j) (above / 2 ^ 6 * 2 ^ j) past (x + j) = at_registers j few b refl in
       let test : (suc t == 0) ≡ false = grind (arith, nat_tests) in
       let adaptive_is : far * 2 ^ j / 2 ^ 7 % 2 ≡ bit (adaptive lines (suc t) (x + j)) =
       has lines.row x j p₀ b.byte_is few ∙ ap (λ v. bit (cond v (pixel_at lines.above ((x + j) + 2)) (pixel_left lines.row (x + j) (suc t)))) (sym test) in
-      ap (λ z. moved_around second above far j + z) (own_before lines.row (suc t) past₀ byte past x j few p₀ b.byte_is refl)
+      ap (λ z. moved_around second above far j + z) (own_before lines.row (suc t) x j few p₀ b.byte_is refl)
       ∙ (ap (λ z. second / 2 ^ 7 * 2 ^ j / 2 ^ 7 % 8 * 128 + above / 2 ^ 6 * 2 ^ j / 2 ^ 8 % 16 * 8 + z * 4 + past % 4) adaptive_is
-      ∙ three_line_moved lines (suc t) (second / 2 ^ 7 * 2 ^ j) (above / 2 ^ 6 * 2 ^ j) past (x + j) r);
+      ∙ three_line_moved r);
 }

@@ -45,7 +45,7 @@ sum_lane a b (suc j) small =
     let s : a / 1 % 2 ^ 16 + b / 1 % 2 ^ 16 < 2 ^ 16 = small 0 (omega arith) in
     let e : (a + b) / 2 ^ 16 ≡ a / 2 ^ 16 + b / 2 ^ 16 = omega arith in
     next_lane (a + b) j ∙ (ap (λ z. lane z j) e
-    ∙ (sum_lane (a / 2 ^ 16) (b / 2 ^ 16) j (λ i l. let t : lane a (suc i) + lane b (suc i) < 2 ^ 16 = small (suc i) (omega (arith, l)) in omega (arith, t, next_lane a i, next_lane b i))
+    ∙ (sum_lane (a / 2 ^ 16) (b / 2 ^ 16) j (λ i l. let t : lane a (suc i) + lane b (suc i) < 2 ^ 16 = small (suc i) (omega arith) in omega (arith, t, next_lane a i, next_lane b i))
     ∙ (ap (λ z. z + lane (b / 2 ^ 16) j) (sym (next_lane a j)) ∙ ap (λ z. lane a (suc j) + z) (sym (next_lane b j)))))
 
 pub sum_is : (a b : ℕ) (f g : ℕ → ℕ) (j : ℕ) → j < 4 → ((i : ℕ) → i < 4 → lane a i ≡ f i) → ((i : ℕ) → i < 4 → lane b i ≡ g i) → ((i : ℕ) → i < 4 → f i + g i < 2 ^ 16) → lane (a + b) j ≡ f j + g j

@@ -10,6 +10,7 @@ pub mod Packed
 pub mod RowBytes
 pub mod FarPixels
 pub mod Firsts
+pub mod Undecided
 pub mod RowsDone
 pub mod BytePixels
 pub mod SameRows

@@ -3,15 +3,15 @@ use Rattle.std.proofs.Common.{◌≡◌, ◌≤◌, ℕ, zero, suc, Bool, true, 
 use Rattle.std.proofs.lemmas.Bool.Decides.{nat_tests}
 use Rattle.raster_core.specs.Machine.Registers.{is_moved}
 
-pub set_is : (n : ℕ) (b : Bool) → (n ≡ 0 → ⊥) → not (eqb n 0) ≡ b → b ≡ true
-set_is zero b h e = absurd (h refl)
-set_is (suc n) b h e =
+pub set_is : {n : ℕ} {b : Bool} → (n ≡ 0 → ⊥) → not (eqb n 0) ≡ b → b ≡ true
+set_is {n = zero} h e = absurd (h refl)
+set_is {n = suc n} h e =
     let test : eqb (suc n) 0 ≡ false = grind (arith, nat_tests) in
     sym e ∙ ap not test
 
-pub clear_is : (n : ℕ) (b : Bool) → n ≡ 0 → not (eqb n 0) ≡ b → b ≡ false
-clear_is zero b h e = sym e
-clear_is (suc n) b h e = absurd (omega (arith, h))
+pub clear_is : {n : ℕ} {b : Bool} → n ≡ 0 → not (eqb n 0) ≡ b → b ≡ false
+clear_is {n = zero} h e = sym e
+clear_is {n = suc n} h e = absurd (omega arith)
 
 pub nominal_none : (offset : ℕ) → is_moved offset ≡ false → offset ≡ 0
 nominal_none zero h = refl

@@ -59,20 +59,19 @@ packed_is row bytes long each =
     ext_get_or 0 bytes (packed_row row) (long ∙ sym (packed-length row)) (λ k h. each k h ∙ sym (packed_byte row k))
 
 -- a row has the pixels of these bytes
-abbrev pub IsIn : List Bool → List ℕ → Type 0
-IsIn row bytes = (k : ℕ) → before row (8 * k + 8) 8 ≡ slice_index bytes k % 256
+pub record IsIn (row : List Bool) (bytes : List ℕ) : Type 0 where
+  pub byte : (k : ℕ) → before row (8 * k + 8) 8 ≡ slice_index bytes k % 256
 
-pub packed_in : (row : List Bool) (bytes : List ℕ) → bytes ≡ packed_row row → IsIn row bytes
-packed_in row bytes is k =
-    sym (mod-eq_of_lt (before_lt row (8 * k + 8) 8)) ∙ ap (λ z. z % 256) (sym (packed_byte row k) ∙ ap (λ l. slice_index l k) (sym is))
+pub packed_in : {row : List Bool} {bytes : List ℕ} → bytes ≡ packed_row row → IsIn row bytes
+packed_in {row} is = record { byte = λ k. sym (mod-eq_of_lt (before_lt row (8 * k + 8) 8)) ∙ ap (λ z. z % 256) (sym (packed_byte row k) ∙ ap (λ l. slice_index l k) (sym is)) }
 
 -- ---- registers
 
 pub first_byte : (row : List Bool) → before row 8 8 ≡ before row 8 24
 first_byte row = sym (before_split row 0 16 8 ∙ rw (before_none row 16) (omega arith))
 
-pub byte_in : (row : List Bool) (register i : ℕ) → register ≡ before row (8 * i + 8) 24 → register % 65536 * 256 + before row (8 * (i + 1) + 8) 8 ≡ before row (8 * (i + 1) + 8) 24
-byte_in row register i h =
+pub byte_in : {register : ℕ} (row : List Bool) (i : ℕ) → register ≡ before row (8 * i + 8) 24 → register % 65536 * 256 + before row (8 * (i + 1) + 8) 8 ≡ before row (8 * (i + 1) + 8) 24
+byte_in {register} row i h =
     let low : register % 65536 ≡ before row (8 * i + 8) 16 = ap (λ r. r % 65536) h ∙ before_mod row (8 * i + 8) 8 16 in
     let e : (8 * i + 8) + 8 ≡ 8 * (i + 1) + 8 = omega arith in
     let s : before row (8 * (i + 1) + 8) 24 ≡ before row (8 * i + 8) 16 * 256 + before row (8 * (i + 1) + 8) 8 =
@@ -80,9 +79,9 @@ byte_in row register i h =
     rw low (sym s)
 
 -- the byte of a row whose last n pixels are in it
-pub byte_out : (done : List Bool) (offset past i n : ℕ) → past ≡ before done (length done) (past_bits offset) → length done ≡ 8 * i + n → n ≤ 8 → past % 256 * 2 ^ (8 - n) % 256 ≡ before done (8 * i + 8) 8
-byte_out done offset past i n h long few =
-    let low : past % 256 ≡ before done (length done) 8 = low_part done past (length done) offset 8 h (omega arith) in
+pub byte_out : {past : ℕ} (done : List Bool) (offset i n : ℕ) → past ≡ before done (length done) (past_bits offset) → length done ≡ 8 * i + n → n ≤ 8 → past % 256 * 2 ^ (8 - n) % 256 ≡ before done (8 * i + 8) 8
+byte_out {past} done offset i n h long few =
+    let low : past % 256 ≡ before done (length done) 8 = low_part done (length done) offset 8 h (omega arith) in
     let s = before_split done (length done) 8 (8 - n) in
     let white = before_white done (length done) (8 - n) (omega arith) in
     let e : length done + (8 - n) ≡ 8 * i + 8 = omega arith in

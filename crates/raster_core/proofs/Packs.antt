@@ -50,12 +50,12 @@ byte_is line j =
           ∙ binary_is (pixel_at line) (8 * j) 8
       | inr past ↦
           get_or-eq_default (packed_row line) 0 (omega (arith, packed-length line, past))
-          ∙ sym (white (pixel_at line) (8 * j) 8 (λ i lt. get_or-eq_default line false (omega (arith, past))))
+          ∙ sym (white (pixel_at line) (8 * j) 8 (λ i lt. get_or-eq_default line false (omega arith)))
     ]
 
 -- one byte more of a word
-pub one_byte : (p : ℕ → Bool) (a k w b : ℕ) → k + 8 ≤ 64 → w ≡ word p a k → b ≡ word p (a + k) 8 → bit_or (w * 2 ^ 8 % 2 ^ 64) b ≡ word p a (k + 8)
-one_byte p a k w b h e f =
+pub one_byte : {w b : ℕ} (p : ℕ → Bool) (a k : ℕ) → k + 8 ≤ 64 → w ≡ word p a k → b ≡ word p (a + k) 8 → bit_or (w * 2 ^ 8 % 2 ^ 64) b ≡ word p a (k + 8)
+one_byte {b = b} p a k h e f =
     ap (λ x. bit_or (x * 2 ^ 8 % 2 ^ 64) b) e
     ∙ ap (λ x. bit_or x b) (mod-eq_of_lt (fits (word p a k) k (word_lt p a k) h))
     ∙ ap (bit_or (word p a k * 2 ^ 8)) f
@@ -66,7 +66,7 @@ one_byte p a k w b h e f =
     fits x n lt le =
         let up : 2 ^ (n + 8) ≡ 2 ^ n * 2 ^ 8 = pow-add 2 n 8 in
         let most : 2 ^ (n + 8) ≤ 2 ^ 64 = pow-le-pow_right (lit< tt) le in
-        omega (arith, lt, up, most)
+        omega arith
 
 -- a byte in its place of the led row
 pub byte_led : (line : List Bool) (place i b : ℕ) → 2 ≤ place → i < 8 → b ≡ get_or (packed_row line) (8 * (place - 2) + i) 0 →
@@ -77,8 +77,8 @@ byte_led line place i b h lt e =
   where
     here : (j : ℕ) → pixel_at line (8 * (8 * (place - 2) + i) + j) ≡ led line (64 * place + 8 * i + j)
     here j =
-        let e : 64 * place + 8 * i + j - 128 ≡ 8 * (8 * (place - 2) + i) + j = omega (arith, h) in
-        let t : nat_lt (64 * place + 8 * i + j) 128 ≡ false = is_not_lt (64 * place + 8 * i + j) 128 (omega (arith, h)) in
+        let e : 64 * place + 8 * i + j - 128 ≡ 8 * (8 * (place - 2) + i) + j = omega arith in
+        let t : nat_lt (64 * place + 8 * i + j) 128 ≡ false = is_not_lt (64 * place + 8 * i + j) 128 (omega arith) in
         ap (pixel_at line) (sym e) ∙ sym (ap (λ b. if b then false else pixel_at line (64 * place + 8 * i + j - 128)) t)
 
 pub led_white : (line : List Bool) (place : ℕ) → place < 2 → 0 ≡ word (led line) (64 * place) 64
@@ -98,7 +98,7 @@ black p a (suc n) h =
     let rest : word p a n + 1 ≡ 2 ^ n = black p a n (λ i lt. h i (omega arith)) in
     let last : bit (p (a + n)) ≡ 1 = ap bit (h n (omega arith)) in
     let up : 2 ^ suc n ≡ 2 ^ n * 2 = pow-suc 2 n in
-    omega (arith, rest, last, up)
+    omega arith
 
 inside : (w x : ℕ) → x < w → is_within w x ≡ true
 inside w x h = grind (arith, nat_tests)
@@ -108,19 +108,19 @@ outside w x h = grind (arith, nat_tests)
 
 pub mask_full : (w a : ℕ) → a + 64 ≤ w → 2 ^ 64 - 1 ≡ word (is_within w) a 64
 mask_full w a h =
-    let e : word (is_within w) a 64 + 1 ≡ 2 ^ 64 = black (is_within w) a 64 (λ i lt. inside w (a + i) (omega (arith, h))) in
-    omega (arith, e)
+    let e : word (is_within w) a 64 + 1 ≡ 2 ^ 64 = black (is_within w) a 64 (λ i lt. inside w (a + i) (omega arith)) in
+    omega arith
 
 pub mask_none : (w a : ℕ) → w ≤ a → 0 ≡ word (is_within w) a 64
-mask_none w a h = sym (white (is_within w) a 64 (λ i lt. outside w (a + i) (omega (arith, h))))
+mask_none w a h = sym (white (is_within w) a 64 (λ i lt. outside w (a + i) (omega arith)))
 
 pub mask_part : (w a : ℕ) → a < w → w < a + 64 → (2 ^ 64 - 1) * 2 ^ (64 - (w - a)) % 2 ^ 64 ≡ word (is_within w) a 64
 mask_part w a h k =
     let cat : word (is_within w) a ((w - a) + (64 - (w - a))) ≡ word (is_within w) a (w - a) * 2 ^ (64 - (w - a)) + word (is_within w) (a + (w - a)) (64 - (w - a)) =
     word_cat (is_within w) a (w - a) (64 - (w - a)) in
-    let ones : word (is_within w) a (w - a) + 1 ≡ 2 ^ (w - a) = black (is_within w) a (w - a) (λ i lt. inside w (a + i) (omega (arith, h, lt))) in
-    let none : word (is_within w) (a + (w - a)) (64 - (w - a)) ≡ 0 = white (is_within w) (a + (w - a)) (64 - (w - a)) (λ i lt. outside w (a + (w - a) + i) (omega (arith, h))) in
-    let n : (w - a) + (64 - (w - a)) ≡ 64 = omega (arith, h, k) in
+    let ones : word (is_within w) a (w - a) + 1 ≡ 2 ^ (w - a) = black (is_within w) a (w - a) (λ i lt. inside w (a + i) (omega arith)) in
+    let none : word (is_within w) (a + (w - a)) (64 - (w - a)) ≡ 0 = white (is_within w) (a + (w - a)) (64 - (w - a)) (λ i lt. outside w (a + (w - a) + i) (omega arith)) in
+    let n : (w - a) + (64 - (w - a)) ≡ 64 = omega arith in
     let all : 2 ^ (w - a) * 2 ^ (64 - (w - a)) ≡ 2 ^ 64 = sym (pow-add 2 (w - a) (64 - (w - a))) ∙ ap (λ x. 2 ^ x) n in
     let shl : (2 ^ 64 - 1) * 2 ^ (64 - (w - a)) % 2 ^ 64 ≡ 2 ^ 64 - 2 ^ (64 - (w - a)) = ones_shl 64 (64 - (w - a)) (omega arith) in
     shl ∙ collected (2 ^ (w - a)) (2 ^ (64 - (w - a))) (word (is_within w) a (w - a)) (2 ^ 64) all ones
@@ -130,14 +130,14 @@ mask_part w a h k =
     collected : (d s x m : ℕ) → d * s ≡ m → x + 1 ≡ d → m - s ≡ x * s + 0
     collected d s x m all e =
         let both : (x + 1) * s ≡ m = ap (λ y. y * s) e ∙ all in
-        omega (arith, both)
+        omega arith
 
 -- ---- one pixel of a byte
 
 upper : (q : ℕ → Bool) (g n s : ℕ) → s ≤ n → word q g n / 2 ^ s ≡ word q g (n - s)
 upper q g n s h =
     let e : word q g ((n - s) + s) ≡ word q g (n - s) * 2 ^ s + word q (g + (n - s)) s = word_cat q g (n - s) s in
-    let m : (n - s) + s ≡ n = omega (arith, h) in
+    let m : (n - s) + s ≡ n = omega arith in
     ap (λ k. word q g k / 2 ^ s) (sym m) ∙ ap (λ x. x / 2 ^ s) e ∙ div-mul-add (word q g (n - s)) (2 ^ s) (word q (g + (n - s)) s) (word_lt q (g + (n - s)) s)
 
 bit_test : (b : Bool) → (bit b == 1) ≡ b

@@ -18,20 +18,20 @@ is_lt x y h = grind (arith, nat_tests)
 pub is_not_lt : (x y : ℕ) → y ≤ x → nat_lt x y ≡ false
 is_not_lt x y h = grind (arith, nat_tests)
 
-led_at : (row : List Bool) (y x : ℕ) → y ≡ x + 128 → led row y ≡ pixel_at row x
-led_at row y x e =
-    let at : y - 128 ≡ x = omega (arith, e) in
-    ap (λ b. if b then false else pixel_at row (y - 128)) (is_not_lt y 128 (omega (arith, e))) ∙ ap (pixel_at row) at
+led_at : {y : ℕ} (row : List Bool) (x : ℕ) → y ≡ x + 128 → led row y ≡ pixel_at row x
+led_at {y} row x e =
+    let at : y - 128 ≡ x = omega arith in
+    ap (λ b. if b then false else pixel_at row (y - 128)) (is_not_lt y 128 (omega arith)) ∙ ap (pixel_at row) at
 
 led_left : (row : List Bool) (y x lag : ℕ) → y + lag ≡ x + 128 → led row y ≡ pixel_left row x lag
 led_left row y x lag e =
     elim (cases_lt x lag) [
       | inl lt ↦
-          ap (λ b. if b then false else pixel_at row (y - 128)) (is_lt y 128 (omega (arith, e, lt)))
+          ap (λ b. if b then false else pixel_at row (y - 128)) (is_lt y 128 (omega arith))
           ∙ sym (ap (λ b. if b then false else pixel_at row (x - lag)) (is_lt x lag lt))
       | inr le ↦
-          let at : y - 128 ≡ x - lag = omega (arith, e, le) in
-          ap (λ b. if b then false else pixel_at row (y - 128)) (is_not_lt y 128 (omega (arith, e, le)))
+          let at : y - 128 ≡ x - lag = omega arith in
+          ap (λ b. if b then false else pixel_at row (y - 128)) (is_not_lt y 128 (omega arith))
           ∙ ap (pixel_at row) at
           ∙ sym (ap (λ b. if b then false else pixel_at row (x - lag)) (is_not_lt x lag le))
     ]
@@ -54,8 +54,8 @@ row_part lines width lag k n low high =
     0 (64 * k) n
     (λ i lt. three
     (ap (λ j. is_within width (64 * k + j)) (zero-add i))
-    (led_at lines.row (64 * k + 128 + (0 + i)) (64 * k + i) (omega arith))
-    (led_left lines.row ((64 * k + 128 - lag) + (0 + i)) (64 * k + i) lag (omega (arith, high))
+    (led_at lines.row (64 * k + i) (omega arith))
+    (led_left lines.row ((64 * k + 128 - lag) + (0 + i)) (64 * k + i) lag (omega arith)
     ∙ sym (adaptive_left lines lag (64 * k + i) low)))
 
 pub nominal_part : (lines : Lines) (width k n : ℕ) →
@@ -68,8 +68,8 @@ nominal_part lines width k n =
     0 (64 * k) n
     (λ i lt. three
     (ap (λ j. is_within width (64 * k + j)) (zero-add i))
-    (led_at lines.row (64 * k + 128 + (0 + i)) (64 * k + i) (omega arith))
-    (led_at lines.above ((64 * (k + 2) + 64 - 62) + (0 + i)) ((64 * k + i) + 2) (omega arith)))
+    (led_at lines.row (64 * k + i) (omega arith))
+    (led_at lines.above ((64 * k + i) + 2) (omega arith)))
 
 pub first_place : (k : ℕ) → 64 * (k + 1) ≡ 64 * k + 64
 first_place k = omega arith
@@ -101,13 +101,13 @@ count_none f a (suc n) h =
     ∙ ap (λ x. 0 + x) (count_none f (a + 1) n (λ i lt. ap f (shifted a i) ∙ h (i + 1) (omega arith)))
 
 -- a word more of the row
-pub part_next : (lines : Lines) (width offset b y z p : ℕ) → y ≡ part_agreement lines width offset 0 (64 * b) → z ≡ y + p →
+pub part_next : {y z p : ℕ} (lines : Lines) (width offset b : ℕ) → y ≡ part_agreement lines width offset 0 (64 * b) → z ≡ y + p →
     p ≡ part_agreement lines width offset (64 * b) 64 → z ≡ part_agreement lines width offset 0 (64 * (b + 1))
-part_next lines width offset b y z p e f g =
+part_next lines width offset b e f g =
     let n : 64 * b + 64 ≡ 64 * (b + 1) = omega arith in
     let h : part_agreement lines width offset 0 (64 * (b + 1)) ≡ part_agreement lines width offset 0 (64 * b) + part_agreement lines width offset (64 * b) 64 =
     sym (ap (part_agreement lines width offset 0) n) ∙ part_more lines width offset (64 * b) 64 in
-    omega (arith, e, f, g, h)
+    omega arith
 
 -- the whole row
 pub part_all : (lines : Lines) (width offset n : ℕ) → length lines.row ≡ width → width ≤ n →
@@ -142,7 +142,7 @@ all_push P (r ∷ rows) lines h p = (h.0, all_push P rows lines h.1 p)
 
 pub length_push : (rows : List Lines) (lines : Lines) → length (rows ++ lines ∷ []) ≡ length rows + 1
 length_push [] lines = refl
-length_push (r ∷ rows) lines = let e : length (rows ++ lines ∷ []) ≡ length rows + 1 = length_push rows lines in omega (arith, e)
+length_push (r ∷ rows) lines = let e : length (rows ++ lines ∷ []) ≡ length rows + 1 = length_push rows lines in omega arith
 
 -- ---- a pixel more
 

@@ -51,10 +51,10 @@ put_row (suc (suc zero)) width bytes row small long wide =
 put_row (suc (suc (suc p))) width bytes row small long wide = absurd (omega arith)
 
 -- with another current row the two above it stay
-pub put_current : (p width start end : ℕ) (bytes row : List ℕ) → start ≡ p * row_bytes width → end ≡ p * row_bytes width + row_bytes width →
+pub put_current : {start end : ℕ} (p width : ℕ) (bytes row : List ℕ) → start ≡ p * row_bytes width → end ≡ p * row_bytes width + row_bytes width →
     p < 3 → length bytes ≡ 3 * row_bytes width → length row ≡ row_bytes width →
     rows_at p width (with_part start end bytes row) ≡ with_current (rows_at p width bytes) row
-put_current p width start end bytes row at to small long wide =
+put_current {start} {end} p width bytes row at to small long wide =
     let n = row_bytes width in
     let e : end - start ≡ n = omega arith in
     ap (λ k. rows_at p width (take start bytes ++ (row ++ drop k (drop start bytes)))) e
@@ -93,9 +93,10 @@ copied bytes i j at =
     ∙ ap (λ l. take at bytes ++ (take (j - i) (drop i bytes) ++ l)) (sym (drop-drop (j - i) at bytes) ∙ ap (λ k. drop k (drop at bytes)) (sym e))
 
 -- a row down, and the row above copied into the current one
-pub repeats : (p q width start end to : ℕ) (bytes new : List ℕ) (h : Held) → p < 3 → q ≡ next_place (next_place p) → length bytes ≡ 3 * row_bytes width →
-    start ≡ p * row_bytes width → end ≡ p * row_bytes width + row_bytes width → to ≡ q * row_bytes width → rows_at q width bytes ≡ turned h → new ≡ copy_within bytes start end to → rows_at q width new ≡ repeated h
-repeats p q width start end to bytes new h small down long from until at turned_is new_is =
+pub repeats : {p q width start end to : ℕ} {new : List ℕ} (bytes : List ℕ) (h : Held) → p < 3 → q ≡ next_place (next_place p) → length bytes ≡ 3 * row_bytes width →
+    start ≡ p * row_bytes width → end ≡ p * row_bytes width + row_bytes width → to ≡ q * row_bytes width → rows_at q width bytes ≡ turned h → new ≡ copy_within bytes start end to →
+    rows_at q width new ≡ repeated h
+repeats {p} {q} {width} {start} {end} {to} bytes h small down long from until at turned_is new_is =
     let n = row_bytes width in
     let k = end - start in
     let same : k ≡ n = omega arith in
@@ -105,18 +106,17 @@ repeats p q width start end to bytes new h small down long from until at turned_
     let above_is : row_placed n bytes p ≡ h.current = ap (λ r. row_placed n bytes r) (sym (ap next_place down ∙ next_last p small)) ∙ ap (λ w. w.above) turned_is in
     let wide : length (take k (drop start bytes)) ≡ n = length-take-le k (drop start bytes) (le_at (length-drop start bytes) (omega arith)) ∙ same in
     ap (rows_at q width) (new_is ∙ copied bytes start end to)
-    ∙ put_current q width to (to + k) bytes (take k (drop start bytes)) at (omega arith) q_small long wide
+    ∙ put_current {end = to + k} q width bytes (take k (drop start bytes)) at (omega arith) q_small long wide
     ∙ ap (with_current (rows_at q width bytes)) (row_is ∙ above_is)
     ∙ ap (λ w. with_current w h.current) turned_is
 
 -- the rows of bytes that are cut at a place: what is in front of the row there, the row, and what is behind it
-pub rows_cut : (p n width : ℕ) (bytes front row back above second : List ℕ) → n ≡ row_bytes width → bytes ≡ front ++ (row ++ back) → length front ≡ p * n → length row ≡ n →
-    ((row : List ℕ) → length row ≡ n → row_placed n (front ++ (row ++ back)) (next_place p) ≡ above) → ((row : List ℕ) → length row ≡ n → row_placed n (front ++ (row ++ back)) (next_place (next_place p)) ≡ second) →
-    rows_at p width bytes ≡ three width row above second
-rows_cut p n width bytes front row back above second long cut lf lr is_above is_second =
-    ap (rows_at p width) cut
-    ∙ ap (λ m. record { width = width; current = row_placed m (front ++ (row ++ back)) p; above = row_placed m (front ++ (row ++ back)) (next_place p); second = row_placed m (front ++ (row ++ back)) (next_place (next_place p)) }) (sym long)
-    ∙ same_rows width (ap (take n) (drop_at front (row ++ back) (p * n) lf) ∙ take_at row back n lr) (is_above row lr) (is_second row lr)
+pub rows_cut : {n : ℕ} {above second : List ℕ} (p width : ℕ) (front row back : List ℕ) → n ≡ row_bytes width → length front ≡ p * n → length row ≡ n →
+    ((row : List ℕ) → length row ≡ n → row_placed n (front ++ (row ++ back)) (next_place p) ≡ above) →
+    ((row : List ℕ) → length row ≡ n → row_placed n (front ++ (row ++ back)) (next_place (next_place p)) ≡ second) → rows_at p width (front ++ (row ++ back)) ≡ three width row above second
+rows_cut {n} p width front row back long lf lr is_above is_second =
+    rw (← long)
+    (same_rows width (ap (take n) (drop_at front (row ++ back) (p * n) lf) ∙ take_at row back n lr) (is_above row lr) (is_second row lr))
 
 pub row_next : (n q : ℕ) (a b : List ℕ) → length a ≡ n → row_placed n (a ++ b) (q + 1) ≡ row_placed n b q
 row_next n q a b la =
@@ -126,4 +126,4 @@ row_next n q a b la =
 -- a row of nothing in front
 none_of : (l : List ℕ) → length l ≡ 0 → l ≡ []
 none_of [] h = refl
-none_of (x ∷ l) h = absurd (omega (arith, h))
+none_of (x ∷ l) h = absurd (omega arith)

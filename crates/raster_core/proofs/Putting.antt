@@ -4,9 +4,8 @@ use Rattle.std.specs.Prelude.{◌↔◌, Result, IsTrue, IsErr, IsErrAnd, OnOk, 
 use Rattle.std.proofs.lemmas.List.{append-nil, length-append}
 use Rattle.qm_core.specs.Counts.{one_more}
 use Rattle.qm_core.specs.Place.{Place, State, Event, Estimate, after}
-use Rattle.qm_core.specs.Encoder.{EncoderIsAt, IsStuffedFront, event_count, has_failed, encoder_state}
-use Rattle.qm_core.specs.Sink.{Took, Refused, sink_at}
-use Rattle.qm_core.specs.declared.encoder.Encoder.{Encoder}
+use Rattle.qm_core.specs.Encoder.{EncoderIsAt, event_count, EncoderState, has_failed, encoder_state}
+use Rattle.qm_core.specs.Sink.{SinkAt, Took, Refused, sink_at}
 use Rattle.qm_core.specs.declared.encoder.CoderFault.{CoderFault}
 use Rattle.qm_core.specs.declared.sink.CodeSink.{Ghosts}
 use Rattle.qm_core.specs.Puts.{Encodes, FailsIn}
@@ -34,8 +33,8 @@ failed_more : (xs ys : List Event) (f : CoderFault) → Err f ≡ failed_answer 
 failed_more [] ys f h = cc
 failed_more (x ∷ xs) ys f h = h
 
-same_loan : {S : Type 0} (a b c : Coder S) → IsSameLoan a b → IsSameLoan b c → IsSameLoan a c
-same_loan a b c h k = record { learned_is = k.learned_is ∙ h.learned_is; encoder_is = k.encoder_is ∙ h.encoder_is; out_is = k.out_is ∙ h.out_is }
+same_loan : {S : Type 0} {a b c : Coder S} → IsSameLoan a b → IsSameLoan b c → IsSameLoan a c
+same_loan h k = record { learned_is = k.learned_is ∙ h.learned_is; encoder_is = k.encoder_is ∙ h.encoder_is; out_is = k.out_is ∙ h.out_is }
 
 -- ---- codes after codes
 
@@ -54,49 +53,41 @@ refused_later took refused from mid to xs ys t r =
 state_then : (s : State) (xs ys : List Event) (learned : List Estimate) → learned ≡ (after s xs).learned → after (record { place = (after s xs).place; learned = learned }) ys ≡ after s (xs ++ ys)
 state_then s xs ys learned taught = ap (λ l. after (record { place = (after s xs).place; learned = l }) ys) taught ∙ sym (after_append s xs ys)
 
-pub encodes_join : {S : Type 0} (sink : Ghosts S) (a b c : S) (s : State) (pushed : List ℕ) (xs ys : List Event) (e e' : Encoder) (learned learned' : List Estimate) →
-    Encodes (sink_at sink a pushed) s xs (encoder_state b e learned) →
-    ((p : Place) (given : List ℕ) → EncoderIsAt e p given → Encodes (sink_at sink b given) (record { place = p; learned = learned }) ys (encoder_state c e' learned')) →
-    Encodes (sink_at sink a pushed) s (xs ++ ys) (encoder_state c e' learned')
-encodes_join sink a b c s pushed xs ys e e' learned learned' h next =
-    let k = next (after s xs).place (pushed ++ h.more) h.codes in
-    let last = state_then s xs ys learned h.taught in
+pub encodes_join : {S : Type 0} {old : SinkAt S} {mid new : EncoderState S} {s : State} {xs : List Event} (ys : List Event) → Encodes old s xs mid →
+    ((p : Place) (given : List ℕ) → EncoderIsAt mid.encoder p given → Encodes (sink_at old.sink mid.out given) (record { place = p; learned = mid.learned }) ys new) → Encodes old s (xs ++ ys) new
+encodes_join {S} {old} {mid} {new} {s} {xs} ys h next =
+    let k = next (after s xs).place (old.pushed ++ h.more) h.codes in
+    let last = state_then s xs ys mid.learned h.taught in
     record {
       more = h.more ++ k.more;
-      taken = Took-append sink.took a b c h.more k.more h.taken k.taken;
-      codes = subst (λ g. EncoderIsAt e' (after s (xs ++ ys)).place g) (append_assoc pushed h.more k.more)
-          (subst (λ t. EncoderIsAt e' t.place ((pushed ++ h.more) ++ k.more)) last k.codes);
+      taken = Took-append old.sink.took old.from mid.out new.out h.more k.more h.taken k.taken;
+      codes = rw (← last, ← append_assoc old.pushed h.more k.more) k.codes;
       taught = k.taught ∙ ap (λ t. t.learned) last;
     }
 
-fails_later : {S : Type 0} (sink : Ghosts S) (a b c : S) (s : State) (pushed : List ℕ) (xs ys : List Event) (e : Encoder) (learned : List Estimate) →
-    Encodes (sink_at sink a pushed) s xs (encoder_state b e learned) →
-    ((p : Place) (given : List ℕ) → EncoderIsAt e p given → FailsIn (sink_at sink b given) (record { place = p; learned = learned }) ys c) →
-    FailsIn (sink_at sink a pushed) s (xs ++ ys) c
-fails_later sink a b c s pushed xs ys e learned h next =
-    let k = next (after s xs).place (pushed ++ h.more) h.codes in
-    let last = state_then s xs k.events learned h.taught in
+fails_later : {S : Type 0} {old : SinkAt S} {mid : EncoderState S} {new : S} {s : State} {xs : List Event} (ys : List Event) → Encodes old s xs mid →
+    ((p : Place) (given : List ℕ) → EncoderIsAt mid.encoder p given → FailsIn (sink_at old.sink mid.out given) (record { place = p; learned = mid.learned }) ys new) → FailsIn old s (xs ++ ys) new
+fails_later {S} {old} {mid} {new} {s} {xs} ys h next =
+    let k = next (after s xs).place (old.pushed ++ h.more) h.codes in
+    let last = state_then s xs k.events mid.learned h.taught in
     record {
       events = xs ++ k.events;
       rest = k.rest;
       all_are = ap (λ zs. xs ++ zs) k.all_are ∙ sym (append_assoc xs k.events k.rest);
       fails = record {
         more = h.more ++ k.fails.more;
-        cut = refused_later sink.took sink.refused a b c h.more k.fails.more h.taken k.fails.cut;
-        begins = subst (λ g. IsStuffedFront g (after s (xs ++ k.events)).place) (append_assoc pushed h.more k.fails.more)
-            (subst (λ t. IsStuffedFront ((pushed ++ h.more) ++ k.fails.more) t.place) last k.fails.begins);
+        cut = refused_later old.sink.took old.sink.refused old.from mid.out new h.more k.fails.more h.taken k.fails.cut;
+        begins = rw (← last, ← append_assoc old.pushed h.more k.fails.more) k.fails.begins;
       };
     }
 
-fails_first : {S : Type 0} (sink : Ghosts S) (a b : S) (s : State) (pushed : List ℕ) (xs ys : List Event) →
-    FailsIn (sink_at sink a pushed) s xs b → FailsIn (sink_at sink a pushed) s (xs ++ ys) b
-fails_first sink a b s pushed xs ys h =
-    record { events = h.events; rest = h.rest ++ ys; all_are = ap (λ zs. zs ++ ys) h.all_are ∙ append_assoc h.events h.rest ys; fails = h.fails }
+fails_first : {S : Type 0} {old : SinkAt S} {new : S} {s : State} {xs : List Event} (ys : List Event) → FailsIn old s xs new → FailsIn old s (xs ++ ys) new
+fails_first ys h = record { events = h.events; rest = h.rest ++ ys; all_are = ap (λ zs. zs ++ ys) h.all_are ∙ append_assoc h.events h.rest ys; fails = h.fails }
 
 -- ---- no event
 
-pub puts_none : {S : Type 0} (sink : Ghosts S) (c : Coder S) → Puts sink [] c c (Ok tt)
-puts_none sink c = record {
+pub puts_none : {S : Type 0} {sink : Ghosts S} {c : Coder S} → Puts sink [] c c (Ok tt)
+puts_none {c = c} = record {
   lends = record { learned_is = refl; encoder_is = refl; out_is = refl };
   count = omega arith;
   same = refl;
@@ -116,7 +107,7 @@ pub puts_join : {S : Type 0} {sink : Ghosts S} {a b c : Coder S} {xs ys : List E
     Puts sink xs a b (Ok tt) → Puts sink ys b c result → Puts sink (xs ++ ys) a c result
 puts_join {S} {sink} {a} {b} {c} {xs} {ys} {result} h k =
     record {
-      lends = same_loan a b c h.lends k.lends;
+      lends = same_loan h.lends k.lends;
       count = counted result k.count;
       same = unfailed result k.same;
       stuck = λ t.
@@ -152,13 +143,13 @@ puts_join {S} {sink} {a} {b} {c} {xs} {ys} {result} h k =
 
     coded : (r : Result (Unit {0}) CoderFault) → GoesOn sink xs a b (Ok tt) → GoesOn sink ys b c r → OnOk r ((p : Place) (pushed : List ℕ) → EncoderIsAt a.encoder.now p pushed →
         Encodes (sink_at sink a.out.now pushed) (state_at a p) (xs ++ ys) (encoder_state c.out.now c.encoder.now c.learned.now))
-    coded (Ok x) first second = λ p pushed at. encodes_join sink a.out.now b.out.now c.out.now (state_at a p) pushed xs ys b.encoder.now c.encoder.now b.learned.now c.learned.now (first.ok p pushed at) second.ok
+    coded (Ok x) first second = λ p pushed at. encodes_join ys (first.ok p pushed at) second.ok
     coded (Err f) first second = tt
 
     failed : (r : Result (Unit {0}) CoderFault) → GoesOn sink xs a b (Ok tt) → GoesOn sink ys b c r → OnErr r ((p : Place) (pushed : List ℕ) → EncoderIsAt a.encoder.now p pushed →
         FailsIn (sink_at sink a.out.now pushed) (state_at a p) (xs ++ ys) c.out.now)
     failed (Ok x) first second = tt
-    failed (Err f) first second = λ p pushed at. fails_later sink a.out.now b.out.now c.out.now (state_at a p) pushed xs ys b.encoder.now b.learned.now (first.ok p pushed at) second.err
+    failed (Err f) first second = λ p pushed at. fails_later ys (first.ok p pushed at) second.err
 
 -- a failure that `?` hands on
 pub puts_handed : {S : Type 0} {sink : Ghosts S} {a b : Coder S} {xs : List Event} {f : CoderFault} {result : Result (Unit {0}) CoderFault} →
@@ -181,7 +172,7 @@ puts_stop {S} {sink} {a} {b} {xs} {f} {result} ys is h = puts_handed is (record 
         fault = g.fault;
         counted = g.counted;
         ok = tt;
-        err = λ p pushed at. fails_first sink a.out.now b.out.now (state_at a p) pushed xs ys (g.err p pushed at);
+        err = λ p pushed at. fails_first ys (g.err p pushed at);
       };
 })
 
@@ -192,8 +183,8 @@ puts_as {S} {sink} {a} {b} {xs} {ys} {result} e h = subst (λ zs. Puts sink zs a
 -- ---- a run in one step
 
 -- a try that left all as it was
-pub puts_idle : {S : Type 0} (sink : Ghosts S) (a b c : Coder S) (xs : List Event) → IsSameLoan b c → IsUnchanged b c → Puts sink xs a b (Ok tt) → Puts sink xs a c (Ok tt)
-puts_idle sink a b c xs loan same h = puts_as (append-nil xs) (puts_join {ys = []} {result = Ok tt} h (record {
+pub puts_idle : {S : Type 0} {sink : Ghosts S} {a b c : Coder S} {xs : List Event} → IsSameLoan b c → IsUnchanged b c → Puts sink xs a b (Ok tt) → Puts sink xs a c (Ok tt)
+puts_idle {sink = sink} {c = c} {xs} loan same h = puts_as (append-nil xs) (puts_join {ys = []} {result = Ok tt} h (record {
   lends = loan;
   count = let e = ap event_count same.encoder_is in omega arith;
   same = ap sink.failed same.out_is;

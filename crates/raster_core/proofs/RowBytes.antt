@@ -16,11 +16,11 @@ use Rattle.raster_core.proofs.Causal.{before_front}
 use Rattle.raster_core.proofs.Packed.{packed_byte, packed_is, byte_in, byte_out}
 
 -- a register takes the next byte of its row in
-pub register_in : (row : List Bool) (bytes : List ℕ) (register i : ℕ) → bytes ≡ packed_row row → register ≡ before row (8 * i + 8) 24 →
+pub register_in : {bytes : List ℕ} {register : ℕ} (row : List Bool) (i : ℕ) → bytes ≡ packed_row row → register ≡ before row (8 * i + 8) 24 →
     register % 65536 * 256 + slice_index bytes (i + 1) ≡ before row (8 * (i + 1) + 8) 24
-register_in row bytes register i h r =
+register_in {bytes} {register} row i h r =
     let e : slice_index bytes (i + 1) ≡ before row (8 * (i + 1) + 8) 8 = ap (λ l. slice_index l (i + 1)) h ∙ packed_byte row (i + 1) in
-    rw e (byte_in row register i r)
+    rw e (byte_in row i r)
 
 set_bytes : (current : List ℕ) (byte i : ℕ) (done : List Bool) → i < length current → byte ≡ before done (8 * i + 8) 8 →
     ((k : ℕ) → k < i → slice_index current k ≡ before done (8 * k + 8) 8) → (k : ℕ) → k < i + 1 → slice_index (slice_set current i byte) k ≡ before done (8 * k + 8) 8
@@ -39,15 +39,15 @@ pub bytes_next : {S : Type 0} {pull : S → Pulled → S → Type 0} {a : RowAro
 bytes_next {S} {pull} {a} {part} {width} {n} {byte} {past'} {b} left_is inside within n_is byte_is along byte_along = record {
   any = λ from first s answers lines done₀ had so_far a_is s_is.
       let f = along.any from first s answers lines done₀ had so_far a_is s_is in
-      let r2 = register_in lines.second a.second b.second b.i s_is f.second_is in
-      let r1 = register_in lines.above a.above b.above b.i a_is f.above_is in
+      let r2 = register_in lines.second b.i s_is f.second_is in
+      let r1 = register_in lines.above b.i a_is f.above_is in
       let rest = f.rest in
       let at : 8 * (b.i + 1) + 8 ≡ length f.done + 16 = omega arith in
       let m = byte_along.any from first s answers lines f.done f.so_far
       (subst (λ z. (next_around a b).second ≡ before lines.second z 24) at r2) (subst (λ z. (next_around a b).above ≡ before lines.above z 24) at r1) in
       let count = m.count in
       let long : length (f.done ++ m.pixels) ≡ length f.done + length m.pixels = length-append f.done m.pixels in
-      let here : byte ≡ before (f.done ++ m.pixels) (8 * b.i + 8) 8 = byte_is ∙ byte_out (f.done ++ m.pixels) a.offset past' b.i n m.so_far.past_is (omega arith) (omega arith) in
+      let here : byte ≡ before (f.done ++ m.pixels) (8 * b.i + 8) 8 = byte_is ∙ byte_out (f.done ++ m.pixels) a.offset b.i n m.so_far.past_is (omega arith) (omega arith) in
       record {
         done = f.done ++ m.pixels;
         rest = omega arith;
@@ -66,8 +66,8 @@ pub bytes_stop : {S : Type 0} {pull : S → Pulled → S → Type 0} {a : RowAro
 bytes_stop {S} {pull} {a} {part} {width} {b} n left_is inside n_is begun_is done_is past_is along stops = record {
   any = λ from first s answers lines done₀ had so_far a_is s_is.
       let f = along.any from first s answers lines done₀ had so_far a_is s_is in
-      let r2 = register_in lines.second a.second b.second b.i s_is f.second_is in
-      let r1 = register_in lines.above a.above b.above b.i a_is f.above_is in
+      let r2 = register_in lines.second b.i s_is f.second_is in
+      let r1 = register_in lines.above b.i a_is f.above_is in
       let rest = f.rest in
       let at : 8 * (b.i + 1) + 8 ≡ length f.done + 16 = omega arith in
       let m = stops.any from first s answers lines f.done f.so_far
@@ -111,7 +111,7 @@ byte_ended {S} {pull} {a} {part} {second} {above} {n} {byte} {past'} {place} {to
       let i : ℕ = x / 8 in
       let shift : (8 - x % 8) - n ≡ 8 - (x % 8 + n) = omega arith in
       let here : byte ≡ before (done ++ m.pixels) (8 * i + 8) 8 =
-      byte_is ∙ (ap (λ z. past' % 256 * 2 ^ z % 256) shift ∙ byte_out (done ++ m.pixels) a.offset past' i (x % 8 + n) m.so_far.past_is (omega arith) (omega arith)) in
+      byte_is ∙ (ap (λ z. past' % 256 * 2 ^ z % 256) shift ∙ byte_out (done ++ m.pixels) a.offset i (x % 8 + n) m.so_far.past_is (omega arith) (omega arith)) in
       record {
         done = done ++ m.pixels;
         count = omega arith;
@@ -159,7 +159,7 @@ ended_row {part' = part'} {width} all long ends = record {
       record {
         row = e.done;
         wide = wide;
-        packed = packed_is e.done part'.current (long ∙ ap (λ w. div_ceil w 8) (sym wide)) (λ k h. e.bytes k (omega (arith, long, wide, h)));
+        packed = packed_is e.done part'.current (long ∙ ap (λ w. div_ceil w 8) (sym wide)) (λ k h. e.bytes k (omega arith));
         more = e.so_far.more;
         decodes = e.so_far.decodes;
       };

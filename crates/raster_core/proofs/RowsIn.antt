@@ -9,7 +9,7 @@ use Rattle.raster_core.specs.Machine.Registers.{bit, before, past_bits, AreAt}
 use Rattle.raster_core.specs.Machine.Registers.{ByteAt}
 use Rattle.raster_core.specs.Machine.Bytes.{bits, byte_lines, events_from, byte_events}
 use Rattle.raster_core.specs.Machine.Rows.{row_in, lines_in, RemembersOnly, StandsAt, StopsAt, IsByte, AreUniform, PassesRun, byte_range}
-use Rattle.raster_core.specs.Machine.Uniform.{filled, uniform_event, AreFilled}
+use Rattle.raster_core.specs.Machine.Uniform.{uniform_event, AreFilled}
 use Rattle.qm_core.specs.declared.sink.CodeSink.{Ghosts}
 use Rattle.qm_core.specs.declared.coder.Coder.{Coder}
 use Rattle.raster_core.specs.declared.rows.Rows.{Rows}
@@ -21,7 +21,7 @@ use Rattle.raster_core.proofs.Causal.{before_front}
 use Rattle.raster_core.proofs.Contexts.{two_line_nominal, two_line_moved, three_line_nominal, three_line_moved, adaptive_moved}
 use Rattle.raster_core.proofs.BytePixels.{at_registers, pixel_in, byte_shifted, bit_test, past_at}
 use Rattle.raster_core.proofs.EventLists.{context_by, events_none, events_last, events_on}
-use Rattle.raster_core.proofs.Filled.{filled_join, filled_uniform, own_filled, past_filled, register_filled}
+use Rattle.raster_core.proofs.Filled.{AreBehind, filled_join, is_filled, filled_uniform, own_filled, past_filled, register_filled}
 use Rattle.raster_core.proofs.Held.{bits_before, length-bits, holds, holds_past, pixel_of_byte}
 use Rattle.raster_core.proofs.HeldRuns.{uniform_events}
 use Rattle.raster_core.proofs.Putting.{puts_as, puts_none}
@@ -37,7 +37,7 @@ before_after xs ys (suc x) (suc n) h =
     let at : pixel_at (xs ++ ys) (length xs + x) ≡ pixel_at ys x = get_or-append-add xs ys x false in
     rw (e, before_suc (xs ++ ys) (length xs + x) n, before_suc ys x n, before_after xs ys x n (omega arith), at) refl
 
-pub row_in_is : (bytes : List ℕ) → IsIn (row_in bytes) bytes
+row_in_is : (bytes : List ℕ) (k : ℕ) → before (row_in bytes) (8 * k + 8) 8 ≡ slice_index bytes k % 256
 unfolding row_in
 row_in_is [] k =
     let none : slice_index [] k ≡ 0 = refl in
@@ -47,54 +47,54 @@ row_in_is (b ∷ bytes) zero =
     before_front (bits 8 b) (row_in bytes) 8 8 (omega arith) ∙ bits_before 8 8 b (omega arith)
 row_in_is (b ∷ bytes) (suc k) =
     let long = length-bits 8 b in
-    let e : 8 * suc k + 8 ≡ length (bits 8 b) + (8 * k + 8) = omega (arith, long) in
+    let e : 8 * suc k + 8 ≡ length (bits 8 b) + (8 * k + 8) = omega arith in
     ap (λ x. before (bits 8 b ++ row_in bytes) x 8) e
     ∙ (before_after (bits 8 b) (row_in bytes) (8 * k + 8) 8 (omega arith) ∙ row_in_is bytes k)
 
 pub current_in : (rows : Rows) → IsIn (lines_in rows).row rows.current.now
 unfolding lines_in
-current_in rows = row_in_is rows.current.now
+current_in rows = record { byte = row_in_is rows.current.now }
 
 pub above_in : (rows : Rows) → IsIn (lines_in rows).above rows.above.now
 unfolding lines_in
-above_in rows = row_in_is rows.above.now
+above_in rows = record { byte = row_in_is rows.above.now }
 
 pub second_in : (rows : Rows) → IsIn (lines_in rows).second rows.second.now
 unfolding lines_in
-second_in rows = row_in_is rows.second.now
+second_in rows = record { byte = row_in_is rows.second.now }
 
 -- ---- registers along a row
 
-pub read_byte : (row : List Bool) (bytes : List ℕ) (v k : ℕ) → IsIn row bytes → v ≡ slice_index bytes k → v < 256 → v ≡ before row (8 * k + 8) 8
-read_byte row bytes v k is at small = sym (mod-eq_of_lt small) ∙ (ap (λ z. z % 256) at ∙ sym (is k))
+pub read_byte : {row : List Bool} {bytes : List ℕ} {v : ℕ} (k : ℕ) → IsIn row bytes → v ≡ slice_index bytes k → v < 256 → v ≡ before row (8 * k + 8) 8
+read_byte k is at small = sym (mod-eq_of_lt small) ∙ (ap (λ z. z % 256) at ∙ sym (is.byte k))
 
-pub first_read : (row : List Bool) (bytes : List ℕ) (v : ℕ) → IsIn row bytes → v ≡ slice_index bytes 0 → v < 256 → v ≡ before row 8 24
-first_read row bytes v is at small = read_byte row bytes v 0 is at small ∙ first_byte row
+pub first_read : {row : List Bool} {bytes : List ℕ} {v : ℕ} → IsIn row bytes → v ≡ slice_index bytes 0 → v < 256 → v ≡ before row 8 24
+first_read {row} is at small = read_byte 0 is at small ∙ first_byte row
 
-pub next_read : (row : List Bool) (bytes : List ℕ) (register v i : ℕ) → IsIn row bytes → register ≡ before row (8 * i + 8) 24 → v ≡ slice_index bytes (i + 1) → v < 256 →
+pub next_read : {row : List Bool} {bytes : List ℕ} {register v : ℕ} (i : ℕ) → IsIn row bytes → register ≡ before row (8 * i + 8) 24 → v ≡ slice_index bytes (i + 1) → v < 256 →
     register % 65536 * 256 + v ≡ before row (8 * i + 16) 24
-next_read row bytes register v i is h at small =
+next_read {row} {bytes} {register} {v} i is h at small =
     let e : 8 * (i + 1) + 8 ≡ 8 * i + 16 = omega arith in
-    ap (λ z. register % 65536 * 256 + z) (read_byte row bytes v (i + 1) is at small) ∙ (byte_in row register i h ∙ ap (λ x. before row x 24) e)
+    ap (λ z. register % 65536 * 256 + z) (read_byte (i + 1) is at small) ∙ (byte_in row i h ∙ ap (λ x. before row x 24) e)
 
 -- ---- the events of a byte are those of the row
 
-context_same : (template : Template) (p q : Lines) (second above past x y : ℕ) → AreAt p template.offset second above past x → AreAt q template.offset second above past y →
+context_same : {p q : Lines} {second above past x y : ℕ} (template : Template) → AreAt p template.offset second above past x → AreAt q template.offset second above past y →
     context_by template p x ≡ context_by template q y
-context_same template p q second above past x y a b = by template.two_line template.offset template.in_reach a b
+context_same {p} {q} {second} {above} {past} {x} {y} template a b = by template.two_line template.offset template.in_reach a b
   where
     by : (t : Bool) (offset : ℕ) → offset ≤ 127 → AreAt p offset second above past x → AreAt q offset second above past y →
         binary (if t then two_line p offset x else three_line p offset x) ≡ binary (if t then two_line q offset y else three_line q offset y)
-    by true zero h a b = sym (two_line_nominal p second above past x a) ∙ two_line_nominal q second above past y b
-    by false zero h a b = sym (three_line_nominal p second above past x a) ∙ three_line_nominal q second above past y b
+    by true zero h a b = sym (two_line_nominal a) ∙ two_line_nominal b
+    by false zero h a b = sym (three_line_nominal a) ∙ three_line_nominal b
     by true (suc t) h a b =
-        sym (two_line_moved p (suc t) second above past x a)
-        ∙ (ap (λ z. above / 2 ^ 8 % 32 * 32 + z * 16 + past % 16) (sym (adaptive_moved p second above past x t a (omega arith)) ∙ adaptive_moved q second above past y t b (omega arith))
-        ∙ two_line_moved q (suc t) second above past y b)
+        sym (two_line_moved a)
+        ∙ (ap (λ z. above / 2 ^ 8 % 32 * 32 + z * 16 + past % 16) (sym (adaptive_moved a (omega arith)) ∙ adaptive_moved b (omega arith))
+        ∙ two_line_moved b)
     by false (suc t) h a b =
-        sym (three_line_moved p (suc t) second above past x a)
-        ∙ (ap (λ z. second / 2 ^ 7 % 8 * 128 + above / 2 ^ 8 % 16 * 8 + z * 4 + past % 4) (sym (adaptive_moved p second above past x t a (omega arith)) ∙ adaptive_moved q second above past y t b (omega arith))
-        ∙ three_line_moved q (suc t) second above past y b)
+        sym (three_line_moved a)
+        ∙ (ap (λ z. second / 2 ^ 7 % 8 * 128 + above / 2 ^ 8 % 16 * 8 + z * 4 + past % 4) (sym (adaptive_moved a (omega arith)) ∙ adaptive_moved b (omega arith))
+        ∙ three_line_moved b)
 
 record Same (b : RowByte) (lines : Lines) (i n : ℕ) : Type 0 where
   past : before (byte_lines b).row (128 + n) (past_bits b.around.template.offset) ≡ before lines.row (8 * i + n) (past_bits b.around.template.offset)
@@ -117,16 +117,16 @@ same_to b lines i (suc n) small at past few =
     let near : (128 + n) + 1 ≡ 128 + suc n = omega arith in
     let far : (8 * i + n) + 1 ≡ 8 * i + suc n = omega arith in
     let there : nat_eq (b.byte * 2 ^ n / 2 ^ 7 % 2) 1 ≡ pixel_at lines.row (8 * i + n) =
-    bit_test _ _ (ap (λ z. z % 2) (byte_shifted b.byte n (omega arith)) ∙ pixel_in lines.row b.byte (8 * i) n at.byte_is (omega arith)) in
+    bit_test _ _ (ap (λ z. z % 2) (byte_shifted b.byte n (omega arith)) ∙ pixel_in lines.row (8 * i) n at.byte_is (omega arith)) in
     let pixel : pixel_at own (128 + n) ≡ pixel_at lines.row (8 * i + n) = sym (pixel_of_byte b n small (omega arith)) ∙ there in
     let one_more : before own ((128 + n) + 1) (suc (w - 1)) ≡ before lines.row ((8 * i + n) + 1) (suc (w - 1)) =
     sym (past_at own p (128 + n) (w - 1) (ap (λ v. before own (128 + n) v) (sym (some_past b.around.template.offset))))
     ∙ (ap (λ q. p % 2 ^ (w - 1) * 2 + bit q) pixel
     ∙ past_at lines.row p (8 * i + n) (w - 1) (m.past ∙ ap (λ v. before lines.row (8 * i + n) v) (sym (some_past b.around.template.offset)))) in
     let context : context_by b.around.template (byte_lines b) (128 + n) ≡ context_by b.around.template lines (8 * i + n) =
-    context_same b.around.template (byte_lines b) lines (b.around.second / 2 ^ 7 * 2 ^ n) (b.around.above / 2 ^ 6 * 2 ^ n) p (128 + n) (8 * i + n)
-    (at_registers (byte_lines b) b.around.template.offset b.around.second b.around.above b.byte p 128 n (omega arith) (holds b small) refl)
-    (at_registers lines b.around.template.offset b.around.second b.around.above b.byte p (8 * i) n (omega arith) at m.past) in
+    context_same b.around.template
+    (at_registers n (omega arith) (holds b small) refl)
+    (at_registers n (omega arith) at m.past) in
     record {
       past = ap (λ x. before own x w) (sym near)
           ∙ (ap (λ v. before own ((128 + n) + 1) v) (sym (some_past b.around.template.offset))
@@ -137,23 +137,23 @@ same_to b lines i (suc n) small at past few =
           ∙ (events_last b.around.template lines (8 * i) n _ _ refl refl ∙ ap (λ k. events_from b.around.template lines (8 * i) k) one)));
     }
 
-pub same_events : (b : RowByte) (template : Template) (lines : Lines) (i n : ℕ) → b.byte < 256 → IsByte b template lines i → n ≤ 8 → byte_events b n ≡ events_from template lines (8 * i) n
-same_events b template lines i n small is few =
+pub same_events : {b : RowByte} {template : Template} {lines : Lines} {i : ℕ} (n : ℕ) → b.byte < 256 → IsByte b template lines i → n ≤ 8 → byte_events b n ≡ events_from template lines (8 * i) n
+same_events {b} {lines = lines} {i} n small is few =
     let s = same_to b lines i n small is.at (is.past_is ∙ ap (λ t. before lines.row (8 * i) (past_bits t.offset)) (sym is.template_is)) few in
     s.events ∙ ap (λ t. events_from t lines (8 * i) n) is.template_is
 
 -- ---- bytes of a colour
 
-pub uniform_none : (colour : Bool) (rows : Rows) (i n : ℕ) → n ≡ 0 → AreUniform colour rows i n
-uniform_none colour rows i n none = record {
+pub uniform_none : {colour : Bool} {rows : Rows} {i n : ℕ} → n ≡ 0 → AreUniform colour rows i n
+uniform_none none = record {
   row_filled = λ j few. absurd (omega arith);
   above_filled = λ j few. absurd (omega arith);
   second_filled = λ j few. absurd (omega arith);
 }
 
-pub uniform_more : (colour : Bool) (rows : Rows) (i at : ℕ) → i ≤ at → AreUniform colour rows i (at - i) →
+pub uniform_more : {colour : Bool} {rows : Rows} {i : ℕ} (at : ℕ) → i ≤ at → AreUniform colour rows i (at - i) →
     AreFilled colour rows.current.now at 8 → AreFilled colour rows.above.now (at + 1) 8 → AreFilled colour rows.second.now (at + 1) 8 → AreUniform colour rows i ((at + 8) - i)
-uniform_more colour rows i at from h row above second =
+uniform_more {colour} {rows} {i} at from h row above second =
     let n : (at - i) + 8 ≡ (at + 8) - i = omega arith in
     let here : at ≡ i + (at - i) = omega arith in
     let next : at + 1 ≡ (i + 1) + (at - i) = omega arith in
@@ -164,49 +164,46 @@ uniform_more colour rows i at from h row above second =
       second_filled = filled_join colour rows.second.now (i + 1) (at - i) 8 h.second_filled (subst (λ z. AreFilled colour rows.second.now z 8) next second);
     })
 
-pub stands_on : (a : Around) (template : Template) (rows : Rows) (i n : ℕ) (colour : Bool) → StandsAt a template (lines_in rows) i →
-    a.second ≡ filled colour 24 → a.above ≡ filled colour 24 → a.past ≡ filled colour (past_bits template.offset) → AreUniform colour rows i n →
-    StandsAt a template (lines_in rows) (i + n)
-stands_on a template rows i n colour h second above past uniform =
+pub stands_on : {a : Around} {rows : Rows} {i n : ℕ} {colour : Bool} → StandsAt a a.template (lines_in rows) i → RemembersOnly colour a → AreUniform colour rows i n → StandsAt a a.template (lines_in rows) (i + n)
+stands_on {a} {rows} {i} {n} h only uniform =
     let to : 8 * i + 8 * n ≡ 8 * (i + n) = omega arith in
     record {
-      template_is = h.template_is;
-      second_is = register_filled colour (lines_in rows).second rows.second.now a.second i n (second_in rows) h.second_is second uniform.second_filled;
-      above_is = register_filled colour (lines_in rows).above rows.above.now a.above i n (above_in rows) h.above_is above uniform.above_filled;
-      past_is = past ∙ (sym (past_filled colour (lines_in rows).row rows.current.now i n (past_bits template.offset) (current_in rows) (sym h.past_is ∙ past) uniform.row_filled) ∙ ap (λ x. before (lines_in rows).row x (past_bits template.offset)) to);
+      template_is = refl;
+      second_is = register_filled i (is_filled (second_in rows) uniform.second_filled) h.second_is only.second_is;
+      above_is = register_filled i (is_filled (above_in rows) uniform.above_filled) h.above_is only.above_is;
+      past_is = only.past_is ∙ (sym (past_filled _ (is_filled (current_in rows) uniform.row_filled) (sym h.past_is ∙ only.past_is)) ∙ ap (λ x. before (lines_in rows).row x (past_bits a.template.offset)) to);
     }
 
-pub run_events : (a : Around) (template : Template) (rows : Rows) (i n : ℕ) (colour : Bool) → StandsAt a template (lines_in rows) i →
-    a.second ≡ filled colour 24 → a.above ≡ filled colour 24 → a.past ≡ filled colour (past_bits template.offset) → AreUniform colour rows i n →
-    replicate (8 * n) (uniform_event colour) ≡ events_from template (lines_in rows) (8 * i) (8 * n)
-run_events a template rows i n colour h second above past uniform =
-    uniform_events template (lines_in rows) (8 * i) (8 * n) colour
-    (filled_uniform (record { two_line = template.two_line; typical = false }) (lines_in rows) template.offset colour rows.above.now rows.second.now i n template.in_reach (above_in rows) (second_in rows)
-    (sym h.past_is ∙ past) (sym h.above_is ∙ above) (sym h.second_is ∙ second) uniform.above_filled uniform.second_filled)
-    (own_filled colour (lines_in rows).row rows.current.now i n (current_in rows) uniform.row_filled)
+pub run_events : {a : Around} {rows : Rows} {i n : ℕ} {colour : Bool} → StandsAt a a.template (lines_in rows) i → RemembersOnly colour a → AreUniform colour rows i n →
+    replicate (8 * n) (uniform_event colour) ≡ events_from a.template (lines_in rows) (8 * i) (8 * n)
+run_events {a} {rows} {i} {n} {colour} h only uniform =
+    let behind : AreBehind colour (lines_in rows) a.template.offset i = record { row_is = sym h.past_is ∙ only.past_is; above_is = sym h.above_is ∙ only.above_is; second_is = sym h.second_is ∙ only.second_is } in
+    uniform_events a.template (lines_in rows) (8 * i) (8 * n) colour
+    (filled_uniform (record { two_line = a.template.two_line; typical = false }) a.template.in_reach behind (is_filled (above_in rows) uniform.above_filled) (is_filled (second_in rows) uniform.second_filled))
+    (own_filled (is_filled (current_in rows) uniform.row_filled))
 
 -- ---- other names of the same template
 
-pub stands_as : (a : Around) (t u : Template) (lines : Lines) (i : ℕ) → t ≡ u → StandsAt a t lines i → StandsAt a u lines i
-stands_as a t u lines i e h = subst (λ v. StandsAt a v lines i) e h
+pub stands_as : {a : Around} {t u : Template} {lines : Lines} {i : ℕ} → t ≡ u → StandsAt a t lines i → StandsAt a u lines i
+stands_as {a} {lines = lines} {i} e h = subst (λ v. StandsAt a v lines i) e h
 
-pub byte_as : (b : RowByte) (t u : Template) (lines : Lines) (i : ℕ) → t ≡ u → IsByte b t lines i → IsByte b u lines i
-byte_as b t u lines i e h = subst (λ v. IsByte b v lines i) e h
+pub byte_as : {b : RowByte} {t u : Template} {lines : Lines} {i : ℕ} → t ≡ u → IsByte b t lines i → IsByte b u lines i
+byte_as {b} {lines = lines} {i} e h = subst (λ v. IsByte b v lines i) e h
 
 -- a byte's events after those of the bytes before it, of which n are the last
-pub byte_on : (b : RowByte) (t u : Template) (lines : Lines) (i n k : ℕ) → b.byte < 256 → IsByte b u lines i → u ≡ t → n ≤ 8 → 8 * i + n ≡ k →
+pub byte_on : {b : RowByte} {t u : Template} {lines : Lines} {i : ℕ} (n k : ℕ) → b.byte < 256 → IsByte b u lines i → u ≡ t → n ≤ 8 → 8 * i + n ≡ k →
     events_from t lines 0 (8 * i) ++ byte_events b n ≡ events_from t lines 0 k
-byte_on b t u lines i n k small is template few size =
-    ap (λ es. events_from t lines 0 (8 * i) ++ es) (same_events b u lines i n small is few) ∙ events_on t u lines (8 * i) (8 * i) n k template refl size
+byte_on {b} {t} {u} {lines} {i} n k small is template few size =
+    ap (λ es. events_from t lines 0 (8 * i) ++ es) (same_events n small is few) ∙ events_on t u lines (8 * i) (8 * i) n k template refl size
 
 -- no byte at all
-pub no_run : {S : Type 0} (sink : Ghosts S) (a : Around) (rows : Rows) (i : ℕ) (c : Coder S) → 8 * i < rows.width → StandsAt a a.template (lines_in rows) i →
+pub no_run : {S : Type 0} {sink : Ghosts S} {a : Around} {rows : Rows} {i : ℕ} {c : Coder S} → 8 * i < rows.width → StandsAt a a.template (lines_in rows) i →
     ((colour : Bool) → RemembersOnly colour a → StopsAt colour rows i c) → PassesRun sink a (byte_range rows i 0) c c
-no_run sink a rows i c inside stands stops =
+no_run {sink = sink} {a} {rows} {i} {c} inside stands stops =
     let same : i ≡ i + 0 = omega arith in
     record {
       inside = omega arith;
       stands = subst (λ k. StandsAt a a.template (lines_in rows) k) same stands;
-      puts = puts_as (sym (events_none a.template (lines_in rows) (8 * i))) (puts_none sink c);
+      puts = puts_as (sym (events_none a.template (lines_in rows) (8 * i))) (puts_none);
       stops = λ colour only. subst (λ k. StopsAt colour rows k c) same (stops colour only);
     }

@@ -14,32 +14,32 @@ use Rattle.raster_core.specs.declared.rows.Rows.{Rows}
 use Rattle.raster_core.specs.declared.row_byte.Around.{Around}
 
 -- a row that goes on for more than eight bytes has nine
-nine_more : (i width long : ℕ) → long ≡ div_ceil width 8 → 8 * i + 64 < width → i + 9 ≤ long
-nine_more i width long is more = omega arith
+nine_more : {width long : ℕ} (i : ℕ) → long ≡ div_ceil width 8 → 8 * i + 64 < width → i + 9 ≤ long
+nine_more i is more = omega arith
 
 -- the next eight bytes are no such word
-no_word : {S : Type 0} (colour : Bool) (rows : Rows) (i : ℕ) (c : Coder S) → (8 * i + 64 < rows.width → AreUniform colour rows i 8 → true ≡ false) → StopsAt colour rows i c
-no_word colour rows i c none = record { no_room = λ more uniform. absurd (let e = none more uniform in cc) }
+no_word : {S : Type 0} {colour : Bool} {rows : Rows} {i : ℕ} {c : Coder S} → (8 * i + 64 < rows.width → AreUniform colour rows i 8 → true ≡ false) → StopsAt colour rows i c
+no_word none = record { no_room = λ more uniform. absurd (let e = none more uniform in cc) }
 
 -- the pixels above them are of another colour, or few are left of the row
-pub ends_above : {S : Type 0} (colour : Bool) (rows : Rows) (i left : ℕ) (c : Coder S) (result : Bool) → left + 8 * i ≡ rows.width →
+pub ends_above : {S : Type 0} {colour : Bool} {rows : Rows} {i : ℕ} {c : Coder S} {result : Bool} (left : ℕ) → left + 8 * i ≡ rows.width →
     (64 < left → i + 9 ≤ length rows.above.now → i + 9 ≤ length rows.second.now → AreFilled colour rows.above.now (i + 1) 8 → AreFilled colour rows.second.now (i + 1) 8 → result ≡ true) →
     result ≡ false → StopsAt colour rows i c
-ends_above colour rows i left c result size all is = no_word colour rows i c (λ more uniform.
-    sym (all (omega arith) (nine_more i rows.width (length rows.above.now) rows.above_long more) (nine_more i rows.width (length rows.second.now) rows.second_long more) uniform.above_filled uniform.second_filled) ∙ is)
+ends_above {colour = colour} {rows} {i} {c} left size all is = no_word (λ more uniform.
+    sym (all (omega arith) (nine_more i rows.above_long more) (nine_more i rows.second_long more) uniform.above_filled uniform.second_filled) ∙ is)
 
 -- they are of another colour themselves
-pub ends_below : {S : Type 0} (colour : Bool) (rows : Rows) (i : ℕ) (c : Coder S) (result : Bool) →
+pub ends_below : {S : Type 0} {colour : Bool} {rows : Rows} {i : ℕ} {c : Coder S} {result : Bool} →
     (i + 8 ≤ length rows.current.now → AreFilled colour rows.current.now i 8 → result ≡ true) → result ≡ false → StopsAt colour rows i c
-ends_below colour rows i c result all is = no_word colour rows i c (λ more uniform.
-    let long : i + 9 ≤ length rows.current.now = nine_more i rows.width (length rows.current.now) rows.long more in
+ends_below {colour = colour} {rows} {i} {c} all is = no_word (λ more uniform.
+    let long : i + 9 ≤ length rows.current.now = nine_more i rows.long more in
     sym (all (omega arith) uniform.row_filled) ∙ is)
 
 -- the coder did not take them
-pub ends_full : {S : Type 0} (colour : Bool) (rows : Rows) (i : ℕ) (c c' : Coder S) (result : Bool) →
+pub ends_full : {S : Type 0} {colour : Bool} {rows : Rows} {i : ℕ} {c c' : Coder S} {result : Bool} →
     ((p : Place) (pushed : List ℕ) → has_failed c.encoder.now ≡ false → EncoderIsAt c.encoder.now p pushed → result ≡ has_room (state_at c p) (uniform_event colour) 64) →
     result ≡ false → IsUnchanged c c' → StopsAt colour rows i c'
-ends_full colour rows i c c' result exact is same = record {
+ends_full {colour = colour} exact is same = record {
   no_room = λ more uniform p pushed going at.
       let e = exact p pushed (subst (λ e. has_failed e ≡ false) same.encoder_is going) (subst (λ e. EncoderIsAt e p pushed) same.encoder_is at) in
       ap (λ l. has_room (record { place = p; learned = l }) (uniform_event colour) 64) same.learned_is ∙ (sym e ∙ is);
@@ -48,29 +48,29 @@ ends_full colour rows i c c' result exact is same = record {
 -- ---- where none begins
 
 -- the colour of what is remembered
-colour_is : (colour : Bool) (a : Around) → RemembersOnly colour a → colour_of a.above ≡ colour
-colour_is true a only = ap colour_of only.above_is
-colour_is false a only = ap colour_of only.above_is
+colour_is : {colour : Bool} {a : Around} → RemembersOnly colour a → colour_of a.above ≡ colour
+colour_is {colour = true} only = ap colour_of only.above_is
+colour_is {colour = false} only = ap colour_of only.above_is
 
-pub ends_alike : {S : Type 0} (colour : Bool) (a : Around) (rows : Rows) (i : ℕ) (c : Coder S) → StopsAt (colour_of a.above) rows i c → RemembersOnly colour a → StopsAt colour rows i c
-ends_alike colour a rows i c h only = subst (λ k. StopsAt k rows i c) (colour_is colour a only) h
+pub ends_alike : {S : Type 0} {colour : Bool} {a : Around} {rows : Rows} {i : ℕ} {c : Coder S} → StopsAt (colour_of a.above) rows i c → RemembersOnly colour a → StopsAt colour rows i c
+ends_alike {colour = colour} {a} {rows} {i} {c} h only = subst (λ k. StopsAt k rows i c) (colour_is only) h
 
 -- the two rows above are not alike
-pub ends_unlike : {S : Type 0} (colour : Bool) (a : Around) (rows : Rows) (i : ℕ) (c : Coder S) → (a.second ≡ a.above → ⊥) → RemembersOnly colour a → StopsAt colour rows i c
-ends_unlike colour a rows i c unlike only = absurd (unlike (only.second_is ∙ sym only.above_is))
+pub ends_unlike : {S : Type 0} {colour : Bool} {a : Around} {rows : Rows} {i : ℕ} {c : Coder S} → (a.second ≡ a.above → ⊥) → RemembersOnly colour a → StopsAt colour rows i c
+ends_unlike unlike only = absurd (unlike (only.second_is ∙ sym only.above_is))
 
 -- the next byte is of another colour
-pub ends_other : {S : Type 0} (colour : Bool) (a : Around) (rows : Rows) (i : ℕ) (c : Coder S) → (slice_index rows.current.now i ≡ bit (colour_of a.above) * 255 → ⊥) → RemembersOnly colour a → StopsAt colour rows i c
-ends_other colour a rows i c other only =
+pub ends_other : {S : Type 0} {colour : Bool} {a : Around} {rows : Rows} {i : ℕ} {c : Coder S} → (slice_index rows.current.now i ≡ bit (colour_of a.above) * 255 → ⊥) → RemembersOnly colour a → StopsAt colour rows i c
+ends_other {colour = colour} {a} {rows} {i} {c} other only =
     let here : i + 0 ≡ i = omega arith in
-    no_word colour rows i c (λ more uniform.
-    absurd (other (ap (λ k. slice_index rows.current.now k) (sym here) ∙ (uniform.row_filled 0 (omega arith) ∙ ap (λ k. bit k * 255) (sym (colour_is colour a only))))))
+    no_word (λ more uniform.
+    absurd (other (ap (λ k. slice_index rows.current.now k) (sym here) ∙ (uniform.row_filled 0 (omega arith) ∙ ap (λ k. bit k * 255) (sym (colour_is only))))))
 
 -- what is remembered is not of one colour
-pub ends_mixed : {S : Type 0} (colour : Bool) (a : Around) (rows : Rows) (i : ℕ) (c : Coder S) (result : Bool) →
+pub ends_mixed : {S : Type 0} {colour : Bool} {a : Around} {rows : Rows} {i : ℕ} {c : Coder S} {result : Bool} →
     (a.second ≡ filled (colour_of a.above) 24 → a.above ≡ filled (colour_of a.above) 24 → a.past ≡ filled (colour_of a.above) (past_bits a.template.offset) → result ≡ true) →
     result ≡ false → RemembersOnly colour a → StopsAt colour rows i c
-ends_mixed colour a rows i c result all is only =
-    let same : RemembersOnly (colour_of a.above) a = subst (λ k. RemembersOnly k a) (sym (colour_is colour a only)) only in
+ends_mixed {colour = colour} {a} {result = result} all is only =
+    let same : RemembersOnly (colour_of a.above) a = subst (λ k. RemembersOnly k a) (sym (colour_is only)) only in
     let e : result ≡ true = all same.second_is same.above_is same.past_is in
     absurd (cc)

@@ -5,12 +5,11 @@ use Rattle.std.proofs.lemmas.List.{append-nil, length-append}
 use Rattle.qm_core.specs.Place.{State, Event, step, after}
 use Rattle.qm_core.specs.Code.{wanted_bytes}
 use Rattle.qm_core.specs.Source.{bytes_of, heard_of, source_at}
-use Rattle.qm_core.specs.Decoder.{DecoderIsAt, DecoderState, Next, decoder_state}
+use Rattle.qm_core.specs.Decoder.{DecoderIsAt, DecoderState, Next}
 use Rattle.qm_core.specs.declared.source.Pulled.{Pulled}
 use Rattle.qm_core.specs.declared.source.Pulled.TheVariants.{Byte, End, Fault}
 use Rattle.qm_core.specs.declared.source.Heard.{Heard}
 use Rattle.qm_core.specs.declared.source.Heard.TheVariants.{More, Ended, Stopped}
-use Rattle.qm_core.specs.declared.decoder.Decoder.{Decoder}
 use Rattle.qm_core.specs.declared.decoder.Stop.{Stop}
 use Rattle.raster_core.specs.Events.{Decodes, Stops}
 use Rattle.raster_core.specs.Enough.{AreEnough}
@@ -29,21 +28,21 @@ heard_front (Fault ∷ xs) ys h = h
 -- a fault is an answer without a byte
 stopped_bytes : (xs : List Pulled) → heard_of xs ≡ Stopped → length (bytes_of xs) < length xs
 stopped_bytes [] h = cc
-stopped_bytes (Byte b ∷ xs) h = let r = stopped_bytes xs h in omega (arith, r)
+stopped_bytes (Byte b ∷ xs) h = let r = stopped_bytes xs h in omega arith
 stopped_bytes (End ∷ xs) h = cc
-stopped_bytes (Fault ∷ xs) h = let r = few xs in omega (arith, r)
+stopped_bytes (Fault ∷ xs) h = let r = few xs in omega arith
   where
     few : (ys : List Pulled) → length (bytes_of ys) ≤ length ys
     few [] = omega arith
-    few (Byte b ∷ ys) = let r = few ys in omega (arith, r)
-    few (End ∷ ys) = let r = few ys in omega (arith, r)
-    few (Fault ∷ ys) = let r = few ys in omega (arith, r)
+    few (Byte b ∷ ys) = let r = few ys in omega arith
+    few (End ∷ ys) = let r = few ys in omega arith
+    few (Fault ∷ ys) = let r = few ys in omega arith
 
 pub enough_more : (events : List Event) (m n : ℕ) (s : State) → m ≤ n → AreEnough m s events → AreEnough n s events
 enough_more [] m n s l h = tt
 enough_more (e ∷ events) m n s l h =
     let a : wanted_bytes s.place.doublings ≤ m = h.0 in
-    (omega (arith, a), enough_more events m n (step s e.context e.pixel) l h.1)
+    (omega arith, enough_more events m n (step s e.context e.pixel) l h.1)
 
 pub enough_append : (xs ys : List Event) (n : ℕ) (s : State) → AreEnough n s xs → AreEnough n (after s xs) ys → AreEnough n s (xs ++ ys)
 enough_append [] ys n s h k = k
@@ -71,10 +70,10 @@ enough_kept events s xs ys enough going stopped = by (heard_of xs) refl
 no_err : (pixel : Bool) → IsErr {T = Bool} {E = Stop} (Ok pixel) → ⊥
 no_err pixel h = cc
 
-pub decodes_none : {S : Type 0} {pull : S → Pulled → S → Type 0} {from : S} {s : State} {answers : List Pulled} {d : Decoder} →
-    DecoderIsAt d s.place answers → Decodes (source_at pull from answers) s [] [] (decoder_state from d s.learned)
-decodes_none h =
-    record { gives = refl; stands = rw append-nil h; taught = refl; enough = λ _. tt; going = λ _. refl }
+pub decodes_none : {S : Type 0} {pull : S → Pulled → S → Type 0} {s : State} {answers : List Pulled} {new : DecoderState S} →
+    DecoderIsAt new.decoder s.place answers → new.learned ≡ s.learned → Decodes (source_at pull new.source answers) s [] [] new
+decodes_none h taught =
+    record { gives = refl; stands = rw append-nil h; taught = taught; enough = λ _. tt; going = λ _. refl }
 
 pub decodes_next : {S : Type 0} {pull : S → Pulled → S → Type 0} {from : S} {mid to : DecoderState S} {s : State} {answers more : List Pulled} {events : List Event} {cx : ℕ} {pixel : Bool} →
     Decodes (source_at pull from answers) s more events mid →

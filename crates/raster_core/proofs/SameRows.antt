@@ -10,18 +10,22 @@ use Rattle.raster_core.specs.Packed.{packed_row}
 use Rattle.raster_core.specs.Machine.Registers.{bit}
 use Rattle.raster_core.proofs.Packed.{packed_byte}
 use Rattle.raster_core.proofs.BytePixels.{pixel_in}
-use Rattle.raster_core.proofs.RowsDone.{same_row_self, no_false}
+use Rattle.raster_core.proofs.Shifts.{same_self}
 use Rattle.raster_core.proofs.Before.{bit_same}
 
 -- the pixel at x, from the bytes
 pixel_of : (row : List Bool) (x : ℕ) → slice_index (packed_row row) (x / 8) / 2 ^ (7 - x % 8) % 2 ≡ bit (pixel_at row x)
 pixel_of row x =
     let e : 8 * (x / 8) + x % 8 ≡ x = omega arith in
-    pixel_in row (slice_index (packed_row row) (x / 8)) (8 * (x / 8)) (x % 8) (packed_byte row (x / 8)) (omega arith) ∙ ap (λ z. bit (pixel_at row z)) e
+    pixel_in row (8 * (x / 8)) (x % 8) (packed_byte row (x / 8)) (omega arith) ∙ ap (λ z. bit (pixel_at row z)) e
 
 pub packed_same : (a b : List Bool) → length a ≡ length b → packed_row a ≡ packed_row b → a ≡ b
 packed_same a b l h =
     ext_get_or false a b l (λ x k. bit_same (pixel_at a x) (pixel_at b x) (sym (pixel_of a x) ∙ (ap (λ p. slice_index p (x / 8) / 2 ^ (7 - x % 8) % 2) h ∙ pixel_of b x)))
+
+pub same_row_self : (row : List Bool) → same_row row row ≡ true
+same_row_self [] = refl
+same_row_self (b ∷ row) = rw (same_self b, same_row_self row) refl
 
 same_only : (x y : Bool) → same x y ≡ true → x ≡ y
 same_only true y h = sym h
@@ -48,6 +52,6 @@ rows_other a b ne = by (same_row a b) refl
     by false e = refl
     by true e = absurd (ne (ap packed_row (same_row_only a b e)))
 
-pub typical_test : (r : Bool) (xs ys : List ℕ) (a b : List Bool) → Decides r (xs ≡ ys) → xs ≡ packed_row a → ys ≡ packed_row b → length a ≡ length b → r ≡ same_row a b
-typical_test true xs ys a b h p q l = sym (rows_same a b (sym p ∙ (h.0 refl ∙ q)) l)
-typical_test false xs ys a b h p q l = sym (rows_other a b (λ e. no_false (h.1 (p ∙ (e ∙ sym q)))))
+pub typical_test : {xs ys : List ℕ} (r : Bool) (a b : List Bool) → Decides r (xs ≡ ys) → xs ≡ packed_row a → ys ≡ packed_row b → length a ≡ length b → r ≡ same_row a b
+typical_test true a b h p q l = sym (rows_same a b (sym p ∙ (h.0 refl ∙ q)) l)
+typical_test false a b h p q l = sym (rows_other a b (λ e. let t = h.1 (p ∙ (e ∙ sym q)) in cc))

@@ -30,7 +30,7 @@ word_lt p f (suc n) =
     let h : word p f n < 2 ^ n = word_lt p f n in
     let b : bit (p (f + n)) < 2 = bit_lt (p (f + n)) in
     let d : 2 ^ suc n ≡ 2 ^ n * 2 = pow_two n in
-    omega (arith, h, b, d)
+    omega arith
 
 -- two words one after the other
 pub word_cat : (p : ℕ → Bool) (f m n : ℕ) → word p f (m + n) ≡ word p f m * 2 ^ n + word p (f + m) n
@@ -99,7 +99,7 @@ word_not p f (suc n) =
     let b : 1 - bit (p (f + n)) ≡ bit (not (p (f + n))) = not_bit (p (f + n)) in
     let c : bit (p (f + n)) < 2 = bit_lt (p (f + n)) in
     let d : 2 ^ suc n ≡ 2 ^ n * 2 = pow_two n in
-    omega (arith, e, lt, b, c, d)
+    omega arith
 
 -- how many of the pixels are black
 pub word_ones : (p : ℕ → Bool) (f n : ℕ) → count_ones (word p f n) ≡ count_by p (numbers_from f n)
@@ -136,7 +136,7 @@ modded a b s p m e lt pos =
     up h = omega arith
 
     below : (b + 1) * p ≤ s * p → b * p < m
-    below h = omega (arith, h, e, pos)
+    below h = omega arith
 
 twice : (w p m : ℕ) → w * 2 % m * p % m ≡ w * (2 * p) % m
 twice w p m =
@@ -249,22 +249,22 @@ near_next q g d h =
 
 pub dark : (p : ℕ → Bool) (f n : ℕ) → word p f n ≡ 0 → (i : ℕ) → i < n → p (f + i) ≡ false
 unfolding word
-dark p f zero e i lt = absurd (omega (arith, lt))
+dark p f zero e i lt = absurd (omega arith)
 dark p f (suc n) e i lt =
-    let rest : word p f n ≡ 0 = omega (arith, e) in
-    let last : bit (p (f + n)) ≡ 0 = omega (arith, e) in
-    elim (le_cases i n (omega (arith, lt))) [
+    let rest : word p f n ≡ 0 = omega arith in
+    let last : bit (p (f + n)) ≡ 0 = omega arith in
+    elim (le_cases i n (omega arith)) [
       | inl eq ↦ ap (λ k. p (f + k)) eq ∙ white_bit (p (f + n)) last
       | inr below ↦ dark p f n rest i below
     ]
   where
     white_bit : (b : Bool) → bit b ≡ 0 → b ≡ false
-    white_bit true e = absurd (omega (arith, e))
+    white_bit true e = absurd (omega arith)
     white_bit false e = refl
 
 pub lit : (p : ℕ → Bool) (f n : ℕ) → word p f n ≡ 2 ^ n - 1 → (i : ℕ) → i < n → p (f + i) ≡ true
 lit p f n e i lt =
-    let none : word (λ k. not (p k)) f n ≡ 0 = sym (word_not p f n) ∙ omega (arith, e) in
+    let none : word (λ k. not (p k)) f n ≡ 0 = sym (word_not p f n) ∙ omega arith in
     black (p (f + i)) (dark (λ k. not (p k)) f n none i lt)
   where
     black : (b : Bool) → not b ≡ false → b ≡ true
@@ -278,15 +278,15 @@ in_all p place b one two three i lt =
     there i lt ∙ sym (ap p (sym (add-zero place)) ∙ one 0 (omega arith))
   where
     at : (i k : ℕ) → k ≤ i → place + i ≡ place + k + (i - k)
-    at i k h = omega (arith, h)
+    at i k h = omega arith
 
     there : (i : ℕ) → i < 192 → p (place + i) ≡ b
     there i lt =
         elim (cases_lt i 64) [
           | inl h ↦ one i h
           | inr h ↦ elim (cases_lt i 128) [
-            | inl k ↦ ap p (at i 64 h) ∙ two (i - 64) (omega (arith, k))
-            | inr k ↦ ap p (at i 128 k) ∙ three (i - 128) (omega (arith, lt))
+            | inl k ↦ ap p (at i 64 h) ∙ two (i - 64) (omega arith)
+            | inr k ↦ ap p (at i 128 k) ∙ three (i - 128) (omega arith)
           ]
         ]
 
@@ -304,9 +304,9 @@ even_agreed p m place c lag n h high le =
     here : (i : ℕ) → i < n → m (c + (0 + i)) && same (p (place + 128 + (0 + i))) (p ((place + 128 - lag) + (0 + i))) ≡ m (c + i)
     here i lt =
         let one_at : place + 128 + (0 + i) ≡ place + (128 + i) = omega arith in
-        let other_at : (place + 128 - lag) + (0 + i) ≡ place + (128 - lag + i) = omega (arith, high) in
-        let one : p (place + 128 + (0 + i)) ≡ p place = ap p one_at ∙ h (128 + i) (omega (arith, lt, le)) in
-        let other : p ((place + 128 - lag) + (0 + i)) ≡ p place = ap p other_at ∙ h (128 - lag + i) (omega (arith, lt, le)) in
+        let other_at : (place + 128 - lag) + (0 + i) ≡ place + (128 - lag + i) = omega arith in
+        let one : p (place + 128 + (0 + i)) ≡ p place = ap p one_at ∙ h (128 + i) (omega arith) in
+        let other : p ((place + 128 - lag) + (0 + i)) ≡ p place = ap p other_at ∙ h (128 - lag + i) (omega arith) in
         ap (λ x. m (c + (0 + i)) && same x (p ((place + 128 - lag) + (0 + i)))) one
         ∙ ap (λ x. m (c + (0 + i)) && same (p place) x) other
         ∙ ap (λ x. m (c + (0 + i)) && x) (same_self (p place))

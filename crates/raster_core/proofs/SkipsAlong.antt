@@ -35,16 +35,16 @@ run_before row x zero c own = before_zero row (x + 0) ∙ none c
     none false = refl
 run_before row x (suc n) c own =
     let e : x + suc n ≡ suc (x + n) = omega arith in
-    let shorter = run_before row x n c (λ k few. own k (omega (arith, few))) in
+    let shorter = run_before row x n c (λ k few. own k (omega arith)) in
     ap (λ y. before row y (suc n)) e ∙ (before_suc row (x + n) n ∙ (ap (λ b. 2 * before row (x + n) n + bit b) (own n (omega arith)) ∙ (ap (λ z. 2 * z + bit c) shorter ∙ twice c n)))
   where
     twice : (c : Bool) (n : ℕ) → 2 * (bit c * (2 ^ n - 1)) + bit c ≡ bit c * (2 ^ suc n - 1)
-    twice true n = let p = pow-suc 2 n in let q = pow_pos n in omega (arith, p, q)
+    twice true n = let p = pow-suc 2 n in let q = pow_pos n in omega arith
     twice false n = omega arith
 
 run_front : (done : List Bool) (n j : ℕ) (c : Bool) → j ≤ n → done ++ replicate n c ≡ (done ++ replicate j c) ++ replicate (n - j) c
 run_front done n j c few =
-    let e : j + (n - j) ≡ n = omega (arith, few) in
+    let e : j + (n - j) ≡ n = omega arith in
     ap (λ z. done ++ z) (ap (λ z. replicate z c) (sym e) ∙ sym (replicate-append-replicate j (n - j) c)) ∙ sym (append_assoc done (replicate j c) (replicate (n - j) c))
 
 -- the context of each depends on the pixels before it alone
@@ -52,16 +52,16 @@ run_contexts : (mode : Mode) (lines : Lines) (offset : ℕ) (done : List Bool) (
     (j : ℕ) → j < n → context_at mode (with_row lines (done ++ replicate j c)) offset (length done + j) ≡ uniform_context c
 run_contexts mode lines offset done n c stays j few =
     let long : length (done ++ replicate j c) ≡ length done + j = length-append done (replicate j c) ∙ ap (λ k. length done + k) (length-replicate j c) in
-    sym (context_front mode lines (done ++ replicate j c) (replicate (n - j) c) offset (length done + j) (omega (arith, long)))
-    ∙ (ap (λ row. context_at mode (with_row lines row) offset (length done + j)) (sym (run_front done n j c (omega (arith, few))))
-    ∙ stays j few (λ k less. run_pixels done n c k (omega (arith, few, less))))
+    sym (context_front mode lines (done ++ replicate j c) (replicate (n - j) c) offset (length done + j) (omega arith))
+    ∙ (ap (λ row. context_at mode (with_row lines row) offset (length done + j)) (sym (run_front done n j c (omega arith)))
+    ∙ stays j few (λ k less. run_pixels done n c k (omega arith)))
 
 events_run : (mode : Mode) (lines : Lines) (offset : ℕ) (done : List Bool) (n : ℕ) (c : Bool) →
     ((j : ℕ) → j < n → context_at mode (with_row lines (done ++ replicate j c)) offset (length done + j) ≡ uniform_context c) →
     pixel_events mode (with_row lines (done ++ replicate n c)) offset ≡ pixel_events mode (with_row lines done) offset ++ replicate n (uniform_event c)
 events_run mode lines offset done zero c contexts = ap (λ row. pixel_events mode (with_row lines row) offset) (append-nil done) ∙ sym (append-nil (pixel_events mode (with_row lines done) offset))
 events_run mode lines offset done (suc n) c contexts =
-    let shorter = events_run mode lines offset done n c (λ j few. contexts j (omega (arith, few))) in
+    let shorter = events_run mode lines offset done n c (λ j few. contexts j (omega arith)) in
     let long : length (done ++ replicate n c) ≡ length done + n = length-append done (replicate n c) ∙ ap (λ k. length done + k) (length-replicate n c) in
     let row : done ++ replicate (suc n) c ≡ (done ++ replicate n c) ++ c ∷ [] = ap (λ z. done ++ z) (sym (one_more n c)) ∙ sym (append_assoc done (replicate n c) (c ∷ [])) in
     let here : context_at mode (with_row lines (done ++ replicate n c)) offset (length (done ++ replicate n c)) ≡ uniform_context c =
@@ -80,7 +80,7 @@ enough_run : (n : ℕ) (s : State) (event : Event) (count : ℕ) → ((k : ℕ) 
 enough_run zero s event count quiet h = tt
 enough_run (suc n) s event count quiet h =
     let one : (step s event.context event.pixel).place.doublings ≡ s.place.doublings = quiet 1 (omega arith) in
-    (h, enough_run n (step s event.context event.pixel) event count (λ k few. quiet (suc k) (omega (arith, few)) ∙ sym one) (subst (λ z. wanted_bytes z ≤ count) (sym one) h))
+    (h, enough_run n (step s event.context event.pixel) event count (λ k few. quiet (suc k) (omega arith) ∙ sym one) (subst (λ z. wanted_bytes z ≤ count) (sym one) h))
 
 pub not_stopped : (d : Decoder) (p : Place) (answers : List Pulled) → DecoderIsAt d p answers → has_stopped d ≡ false → heard_of answers ≡ Stopped → ⊥
 not_stopped d p answers h going stopped =
@@ -132,7 +132,7 @@ skipped_along {b = b} {byte} {past'} k past_is = record {
       let byte_is : byte ≡ before row (length done + 8) 8 = k.byte_is ∙ sym (run_before row (length done) 8 k.colour (run_pixels done 8 k.colour)) in
       let long : length row ≡ length done + 8 = length-append done (replicate 8 k.colour) in
       let behind : past' ≡ before row (length row) (past_bits b.offset) =
-      past_is ∙ (past_run row b.offset b.past (length done) byte near byte_is ∙ ap (λ x. before row x (past_bits b.offset)) (sym long)) in
+      past_is ∙ (past_run row b.offset (length done) near byte_is ∙ ap (λ x. before row x (past_bits b.offset)) (sym long)) in
       record {
         pixels = replicate 8 k.colour;
         count = refl;

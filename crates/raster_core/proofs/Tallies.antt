@@ -19,7 +19,7 @@ use Rattle.raster_core.proofs.Parts.{is_lt, adaptive_left, agreement_push, all_p
 -- ---- no rows
 
 none_at : (x t g : ℕ) → x ≡ 0 → t ≡ 0 → (x + t * g) % 2 ^ 64 ≡ 0
-none_at x t g e f = let none : (x + 0 * g) % 2 ^ 64 ≡ 0 = omega (arith, e) in ap (λ n. (x + n * g) % 2 ^ 64) f ∙ none
+none_at x t g e f = let none : (x + 0 * g) % 2 ^ 64 ≡ 0 = omega arith in ap (λ n. (x + n * g) % 2 ^ 64) f ∙ none
 
 pub none_counted : (t : Tally) (width current : ℕ) → t.rows ≡ 0 → t.held ≡ 0 → t.times ≡ 0 → t.counts ≡ replicate 128 0 → KeepsCounts t.last → CountsLines t width current []
 none_counted t width current no_rows none_held no_times no_counts kept =
@@ -35,7 +35,7 @@ once_more c t g =
     folded ((t + 1) % 2 ^ 64 * g) (t * g) (mul-mod_first (t + 1) g (2 ^ 64) ∙ ap (λ x. x % 2 ^ 64) sum)
   where
     folded : (x y : ℕ) → x % 2 ^ 64 ≡ (y + 1 * g) % 2 ^ 64 → (c + x) % 2 ^ 64 ≡ ((c + y) % 2 ^ 64 + g) % 2 ^ 64
-    folded x y e = omega (arith, e)
+    folded x y e = omega arith
 
 -- a row agrees at no more pixels than it has
 rows_small : (rows : List Lines) (width lag : ℕ) → AllByRecursion (λ lines. length lines.row ≡ width) rows → agreement rows lag ≤ length rows * width

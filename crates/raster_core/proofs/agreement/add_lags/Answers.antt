@@ -17,7 +17,7 @@ loop-lag-init c = record {
   long = omega arith;
   near = λ p place e f. c.joined-near.ensures p place e f ∙ ap (λ s. word p (place + 64 - s) 64) (first_shift c.args.shift c.args.from);
   far = λ p place e. ap (λ x. x / 2 ^ c.args.shift) e ∙ second_part p place c.args.shift (omega (arith, c.requires.shift)) ∙ ap (λ s. word p place (64 - s)) (first_shift c.args.shift c.args.from);
-  done = λ p m place a d e f g h j from below. absurd (omega (arith, from, below));
+  done = λ p m place a d e f g h j from below. absurd (omega arith);
   below = λ j lt. refl;
   above = λ j le. refl;
   room = λ j. omega arith;
@@ -51,8 +51,8 @@ loop-lag-preserved c =
           ∙ far_next p place d small
           ∙ ap (λ s. word p place (64 - s)) (next_shift c.args.shift c.args.from k begin);
       done = λ p m place a q e f g h j from below.
-          elim (le_cases j k (omega (arith, below))) [
-            | inr lt ↦ same_else xs k v j (λ eq. omega (arith, eq, lt)) ∙ c.loop-lag.invariant.done p m place a q e f g h j from lt
+          elim (le_cases j k (omega arith)) [
+            | inr lt ↦ same_else xs k v j (λ eq. omega arith) ∙ c.loop-lag.invariant.done p m place a q e f g h j from lt
             | inl eq ↦
                 ap (λ i. get_or (set xs k v) i 0) eq ∙ same_here xs k v there
                 ∙ ap (λ x. x + c.agreed_word.result) (c.loop-lag.invariant.above k (omega arith))
@@ -60,8 +60,8 @@ loop-lag-preserved c =
                 ∙ ap (λ x. get_or c.args.counts.now k 0 + agreed_from (pixels_from p a) (pixels_from p x) (pixels_from m q) 64) (at_place place c.args.shift c.args.from k begin)
                 ∙ ap (λ i. get_or c.args.counts.now i 0 + agreed_from (pixels_from p a) (pixels_from p (place + 64 + c.args.from - (c.args.shift + i))) (pixels_from m q) 64) (sym eq)
           ];
-      below = λ j lt. same_else xs k v j (λ eq. omega (arith, eq, lt, begin)) ∙ c.loop-lag.invariant.below j lt;
-      above = λ j le. same_else xs k v j (λ eq. omega (arith, eq, le)) ∙ c.loop-lag.invariant.above j (omega (arith, le));
+      below = λ j lt. same_else xs k v j (λ eq. omega arith) ∙ c.loop-lag.invariant.below j lt;
+      above = λ j le. same_else xs k v j (λ eq. omega arith) ∙ c.loop-lag.invariant.above j (omega arith);
       room = λ j.
           elim (eq_cases j k) [
             | inl eq ↦

@@ -15,12 +15,12 @@ far : (x j : ℕ) → x + 64 + 64 - (0 + j) ≡ x + 128 - j
 far x j = omega arith
 
 none_more : (x y : ℕ) → x ≡ y → x + 0 ≡ y
-none_more x y e = omega (arith, e)
+none_more x y e = omega arith
 
 pub returns-then-end-le64-clause-counts : goal.returns-then-end-le64-clause-counts
 returns-then-end-le64-clause-counts d p m place c second before one mask lag from to =
     none_more _ _ (
-    d.add_lags.ensures.counts p m (place + 64) (place + 128) c before (one ∙ ap (λ x. word p x 64) (beside place)) one mask lag from (omega (arith, to))
+    d.add_lags.ensures.counts p m (place + 64) (place + 128) c before (one ∙ ap (λ x. word p x 64) (beside place)) one mask lag from (omega arith)
     ∙ ap (λ x. get_or d.args.counts.now lag 0 + agreed_from (pixels_from p (place + 128)) (pixels_from p x) (pixels_from m c) 64) (near place d.args.least lag))
 
 pub returns-else-end-le64-clause-counts : goal.returns-else-end-le64-clause-counts
@@ -31,7 +31,7 @@ returns-else-end-le64-clause-counts d p m place c second before one mask lag fro
           ∙ d.add_lags-else-end-le64.ensures.counts p m (place + 64) (place + 128) c before (one ∙ ap (λ x. word p x 64) (beside place)) one mask lag from lt
           ∙ ap (λ x. get_or d.args.counts.now lag 0 + agreed_from (pixels_from p (place + 128)) (pixels_from p x) (pixels_from m c) 64) (near place d.args.least lag)
       | inr le ↦
-          d.add_lags-else-end-le64-2.ensures.counts p m place (place + 128) c second before one mask lag le (omega (arith, to))
+          d.add_lags-else-end-le64-2.ensures.counts p m place (place + 128) c second before one mask lag le (omega arith)
           ∙ ap (λ x. x + agreed_from (pixels_from p (place + 128)) (pixels_from p (place + 64 + 64 - (0 + lag))) (pixels_from m c) 64) (d.add_lags-else-end-le64.ensures.above lag le)
           ∙ ap (λ x. get_or d.args.counts.now lag 0 + agreed_from (pixels_from p (place + 128)) (pixels_from p x) (pixels_from m c) 64) (far place lag)
     ])

@@ -1,4 +1,4 @@
-use Rattle.std.proofs.Common.{ℕ, ◌+◌, ◌*◌, ◌∙◌, sym, ap, arith, refl}
+use Rattle.std.proofs.Common.{ℕ, ◌*◌, ◌∙◌, sym, ap, arith, refl}
 use Rattle.raster_core.specs.Machine.Words.{word, led}
 use Rattle.raster_core.proofs.Packs.{led_white}
 use Rattle.raster_core.proofs.Parts.{part_none, part_next, first_place, second_place, third_place}
@@ -19,7 +19,7 @@ loop-k-preserved c =
       second = c.loop-k.invariant.before;
       before = λ line e. c.word_at-word.ensures line e ∙ ap (λ x. word (led line) (64 * x) 64) (third_place k);
       held = λ lines e f.
-          part_next lines c.args.width c.args.offset k c.loop-k.held (c.loop-k.held + c.held_in-held.result) c.held_in-held.result
+          part_next lines c.args.width c.args.offset k
           (c.loop-k.invariant.held lines e f) refl
           (c.held_in-held.ensures.agreed lines c.args.width f
           (c.loop-k.invariant.second lines.row e)

@@ -18,7 +18,7 @@ greatest : (x y most : ℕ) → bit_and x y ≡ most → x ≤ most → y ≤ mo
 greatest x y most e a b = (omega (arith, e, a, and_le_l x y), omega (arith, e, b, and_le_r x y))
 
 below : (p : ℕ → Bool) (f x : ℕ) → x ≡ word p f 64 → x ≤ 2 ^ 64 - 1
-below p f x e = let l = word_lt p f 64 in omega (arith, e, l)
+below p f x e = let l = word_lt p f 64 in omega arith
 
 pub returns : goal.returns
 returns c p place second before word even =

@@ -12,8 +12,8 @@ returns g c = λ typical lines x r.
     let e : c.args.offset ≡ suc (c.args.offset - 1) = omega arith in
     let a : c.args.past / 2 ^ (c.args.offset - 1) % 2 ≡ bit (adaptive lines c.args.offset x) =
     subst (λ t. c.args.past / 2 ^ (c.args.offset - 1) % 2 ≡ bit (adaptive lines t x)) (sym e)
-    (adaptive_moved lines c.args.second c.args.above c.args.past x (c.args.offset - 1) (subst (λ t. AreAt lines t c.args.second c.args.above c.args.past x) e r) few) in
+    (adaptive_moved (subst (λ t. AreAt lines t c.args.second c.args.above c.args.past x) e r) few) in
     elim c.if-this-ne0.branch [
-      | then-this-ne0 w ↦ c.of.ensures ∙ (w.number-is ∙ rw (set_is g.row.TWO_LINE _ w.if-this-ne0.true refl, a) (two_line_moved lines c.args.offset c.args.second c.args.above c.args.past x r))
-      | else-this-ne0 w ↦ c.of.ensures ∙ (w.number-is ∙ rw (clear_is g.row.TWO_LINE _ w.if-this-ne0.false refl, a) (three_line_moved lines c.args.offset c.args.second c.args.above c.args.past x r))
+      | then-this-ne0 w ↦ c.of.ensures ∙ (w.number-is ∙ rw (set_is w.if-this-ne0.true refl, a) (two_line_moved r))
+      | else-this-ne0 w ↦ c.of.ensures ∙ (w.number-is ∙ rw (clear_is w.if-this-ne0.false refl, a) (three_line_moved r))
     ]

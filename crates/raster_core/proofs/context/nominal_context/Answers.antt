@@ -7,6 +7,6 @@ use Rattle.raster_core.proofs.context.nominal_context.Goals.{then-this-ne0, else
 pub returns : goal.returns
 returns g c = λ typical lines x r.
     elim c.if-this-ne0.branch [
-      | then-this-ne0 w ↦ c.of.ensures ∙ (w.number-is ∙ rw (set_is g.row.TWO_LINE _ w.if-this-ne0.true refl) (two_line_nominal lines c.args.second c.args.above c.args.past x r))
-      | else-this-ne0 w ↦ c.of.ensures ∙ (w.number-is ∙ rw (clear_is g.row.TWO_LINE _ w.if-this-ne0.false refl) (three_line_nominal lines c.args.second c.args.above c.args.past x r))
+      | then-this-ne0 w ↦ c.of.ensures ∙ (w.number-is ∙ rw (set_is w.if-this-ne0.true refl) (two_line_nominal r))
+      | else-this-ne0 w ↦ c.of.ensures ∙ (w.number-is ∙ rw (clear_is w.if-this-ne0.false refl) (three_line_nominal r))
     ]

@@ -1,4 +1,4 @@
-use Rattle.std.proofs.Common.{◌≡◌, ℕ, ◌+◌, ◌*◌, ◌≤◌, ◌∙◌, ap, arith, get_or}
+use Rattle.std.proofs.Common.{◌≡◌, ℕ, ◌+◌, ◌*◌, ◌≤◌, ◌∙◌, ap, arith}
 use Rattle.raster_core.specs.Machine.Words.{word, led, is_within}
 use Rattle.raster_core.proofs.Choosing.{zeros}
 use Rattle.raster_core.proofs.Packs.{led_white}
@@ -9,12 +9,12 @@ pub loop-k-init : goal.loop-k-init
 loop-k-init c = record {
   second = λ line e. led_white line 0 (omega arith);
   before = λ line e. led_white line 1 (omega arith);
-  counts = λ lines e lag from to. let n = part_none lines c.args.width lag 0 in let z = zeros 128 lag in omega (arith, n, z);
-  room = λ lag. let z = zeros 128 lag in omega (arith, z);
+  counts = λ lines e lag from to. let n = part_none lines c.args.width lag 0 in let z = zeros 128 lag in omega arith;
+  room = λ lag. let z = zeros 128 lag in omega arith;
 }
 
 beside_alike : (new result old alike part : ℕ) → new + result ≡ old + part → new + (alike + result) ≡ (old + alike) + part
-beside_alike new result old alike part e = omega (arith, e)
+beside_alike new result old alike part e = omega arith
 
 pub loop-k-preserved : goal.loop-k-preserved
 loop-k-preserved c =
@@ -24,7 +24,7 @@ loop-k-preserved c =
       before = λ line e. c.word_at-word.ensures line e ∙ ap (λ x. word (led line) (64 * x) 64) (third_place k);
       counts = λ lines e lag from to.
           let high : lag ≤ 127 = omega (arith, to, c.requires.most) in
-          part_next lines c.args.width lag k (get_or c.loop-k.counts lag 0 + c.loop-k.alike) (get_or c.add_word-alike.new.counts lag 0 + (c.loop-k.alike + c.add_word-alike.result)) _
+          part_next lines c.args.width lag k
           (c.loop-k.invariant.counts lines e lag from to)
           (beside_alike _ _ _ _ _ (c.add_word-alike.ensures.counts (led lines.row) (is_within c.args.width) (64 * k) (64 * k)
           (c.loop-k.invariant.second lines.row e)

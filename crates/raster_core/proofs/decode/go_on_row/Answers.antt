@@ -1,5 +1,4 @@
 use Rattle.std.proofs.Common.{◌≡◌, refl, ap, rules}
-use Rattle.qm_core.specs.Source.{Pulls}
 use Rattle.raster_core.specs.Packed.{rows_at}
 use Rattle.raster_core.proofs.RowsDone.{same_goes, passes}
 use Rattle.raster_core.proofs.decode.go_on_row.Goals as goal
@@ -10,8 +9,6 @@ returns-else-is_ok-clause-row g c = λ s answers lines h.
     let d : c.decoder-1.given.0 ≡ c.resume.new.self = search rules in
     let l : c.learned-1.given.0 ≡ c.decode_at-outcome.new.reader.learned.now = search rules in
     rw (to, d, l)
-    (passes (Pulls g.S.CodeBytes.gives g.S.CodeBytes.failed) c.args.source.now c.decode_at-outcome.new.reader.source.now c.args.shape c.args.kept.now c.decode_at-outcome.new.kept s answers lines _ c.decode_at-outcome.new.place _ c.decode_at-outcome.new.reader.learned.now c.decode_at-outcome.new.reader.decoder.now c.resume.new.self c.decode_at-outcome.result
-    (λ _. refl) c.resume.ensures.unchanged c.decode_at-outcome.ensures.reads.0.1 c.resume.ensures.stands
-    (same_goes (rows_at c.args.window.now.place c.args.shape.width c.args.window.now.rows.now) (rows_at c.args.window.now.place c.args.shape.width c.decode_at-outcome.new.rows)
-    (ap (λ n. rows_at c.args.window.now.place n c.args.window.now.rows.now) c.requires.row.1) (ap (λ n. rows_at c.args.window.now.place n c.decode_at-outcome.new.rows) c.requires.row.1)
+    (passes (λ _. refl) c.resume.ensures.unchanged c.decode_at-outcome.ensures.reads.0.1 c.resume.ensures.stands
+    (same_goes (ap (λ n. rows_at c.args.window.now.place n c.args.window.now.rows.now) c.requires.row.1) (ap (λ n. rows_at c.args.window.now.place n c.decode_at-outcome.new.rows) c.requires.row.1)
     (c.decode_at-outcome.ensures.row s answers lines) h))

@@ -5,4 +5,4 @@ use Rattle.raster_core.proofs.encode.encode_flag.Goals as goal
 
 pub returns-else-shape : goal.returns-else-shape
 returns-else-shape g c =
-    puts_as (first_is_none (shape_mode c.args.shape) c.args.previous c.args.flag c.if-shape.false) (puts_none g.W.CodeSink _)
+    puts_as (first_is_none (shape_mode c.args.shape) c.args.previous c.args.flag c.if-shape.false) (puts_none)

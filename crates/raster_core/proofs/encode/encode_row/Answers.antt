@@ -1,4 +1,4 @@
-use Rattle.std.proofs.Common.{◌≡◌, ◌≤◌, ◌+◌, rules, refl, sym, ◌∙◌, ap, subst, arith}
+use Rattle.std.proofs.Common.{◌≡◌, ◌≤◌, ◌+◌, rules, refl, ◌∙◌, ap, arith}
 use Rattle.std.proofs.lemmas.Grind.{common_steps}
 use Rattle.qm_core.specs.Encoder.{event_count}
 use Rattle.raster_core.specs.Packed.{HasLines, Held}
@@ -9,25 +9,23 @@ use Rattle.raster_core.proofs.encode.encode_row.Goals as goal
 
 pub returns-in_err-encode_as-clause-row : goal.returns-in_err-encode_as-clause-row
 returns-in_err-encode_as-clause-row g c = λ p pushed lines going at w.
-    let held : HasLines _ lines = subst (λ h. HasLines h lines) (sym c.rows-rows.ensures) w in
-    row_coded g.W.CodeSink c.args.shape c.args.kept.now _ _ c.rows-rows.result lines c.is_typical-flag.result _ _ _ p pushed _ _ _ (search rules) (search rules) (search rules)
-    refl refl held (c.is_typical-flag.ensures.lines lines held) (search rules) (puts_handed c.from_residual.ensures c.in_err-encode_as.ensures) going at
+    let held : HasLines _ lines = rw (c.rows-rows.ensures) w in
+    row_coded _ c.rows-rows.result (search rules) (refl, refl) held (c.is_typical-flag.ensures.lines lines held) (search rules) (puts_handed c.from_residual.ensures c.in_err-encode_as.ensures) going at
 
 pub returns-clause-fails : goal.returns-clause-fails
 returns-clause-fails g c =
     let width : c.rows-rows.result.width ≡ c.args.shape.width = ap (λ (h : Held). h.width) c.rows-rows.ensures ∙ c.requires.row.1 in
     let some = coded_some (shape_mode c.args.shape) _ c.rows-rows.result c.args.kept.now.previous_typical c.is_typical-flag.result c.is_typical-flag.ensures.typical (omega arith) in
-    put_or_failed g.W.CodeSink _ _ _ _ _ (search rules) (search rules) some c.in_ok-encode_as.ensures
+    put_or_failed (search rules) (search rules) some c.in_ok-encode_as.ensures
 
 pub returns-clause-events : goal.returns-clause-events
 returns-clause-events g c =
     let width : c.rows-rows.result.width ≡ c.args.shape.width = ap (λ (h : Held). h.width) c.rows-rows.ensures ∙ c.requires.row.1 in
-    let most = counts_to g.W.CodeSink _ _ _ _ _ _ _ c.in_ok-encode_as.ensures in
+    let most = counts_to _ _ _ _ _ c.in_ok-encode_as.ensures in
     let few : event_count c.encode_as.new.coder.encoder.now ≤ event_count c.args.encoder.now + (c.rows-rows.result.width + 1) = most in
     grind (arith, common_steps)
 
 pub returns-clause-row : goal.returns-clause-row
 returns-clause-row g c = λ p pushed lines going at w.
-    let held : HasLines _ lines = subst (λ h. HasLines h lines) (sym c.rows-rows.ensures) w in
-    row_coded g.W.CodeSink c.args.shape c.args.kept.now _ _ c.rows-rows.result lines c.is_typical-flag.result _ _ _ p pushed _ _ _ (search rules) (search rules) (search rules)
-    refl refl held (c.is_typical-flag.ensures.lines lines held) (refl, refl) c.in_ok-encode_as.ensures going at
+    let held : HasLines _ lines = rw (c.rows-rows.ensures) w in
+    row_coded _ c.rows-rows.result (search rules) (refl, refl) held (c.is_typical-flag.ensures.lines lines held) (refl, refl) c.in_ok-encode_as.ensures going at

@@ -5,8 +5,8 @@ use Rattle.raster_core.proofs.lanes.last_pixels.Goals as goal
 
 pub returns-then-this-ne0 : goal.returns-then-this-ne0
 returns-then-this-ne0 g c = λ j few.
-    rw (set_is g.row.MOVED _ c.if-this-ne0.true refl) (c.moved_pixel_lanes.ensures j few ∙ last_moved_are c.args.second_bytes c.args.above_bytes c.args.far c.args.row j few)
+    rw (set_is c.if-this-ne0.true refl) (c.moved_pixel_lanes.ensures j few ∙ last_moved_are c.args.second_bytes c.args.above_bytes c.args.far c.args.row j few)
 
 pub returns : goal.returns
 returns g c = λ j few.
-    rw (clear_is g.row.MOVED _ c.if-this-ne0.false refl) (c.pixel_lanes.ensures j few ∙ last_pixels_are c.args.second_bytes c.args.above_bytes c.args.row j few)
+    rw (clear_is c.if-this-ne0.false refl) (c.pixel_lanes.ensures j few ∙ last_pixels_are c.args.second_bytes c.args.above_bytes c.args.row j few)

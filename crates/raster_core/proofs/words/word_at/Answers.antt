@@ -21,7 +21,7 @@ inside-preserved c line e =
     let i : ℕ = c.inside.i in
     let byte : c.from.result ≡ get_or (packed_row line) (8 * (c.args.place - 2) + i) 0 =
     c.from.ensures ∙ ap (λ xs. get_or xs (8 * (c.args.place - 2) + i) 0) e in
-    one_byte (led line) (64 * c.args.place) (8 * i) c.inside.word c.from.result (omega (arith, c.inside-test.true))
+    one_byte (led line) (64 * c.args.place) (8 * i) (omega (arith, c.inside-test.true))
     (c.inside.invariant line e) (byte_led line c.args.place i c.from.result c.if-place-lt2.false c.inside-test.true byte)
     ∙ ap (word (led line) (64 * c.args.place)) (next i)
 
@@ -30,6 +30,6 @@ across-preserved c line e =
     let i : ℕ = c.across.i in
     let byte : c.from-in-across.result ≡ get_or (packed_row line) (8 * (c.args.place - 2) + i) 0 =
     c.from-in-across.ensures ∙ c.byte_at.ensures.byte ∙ ap (λ xs. get_or xs (8 * (c.args.place - 2) + i) 0) e in
-    one_byte (led line) (64 * c.args.place) (8 * i) c.across.word c.from-in-across.result (omega (arith, c.across-test.true))
+    one_byte (led line) (64 * c.args.place) (8 * i) (omega (arith, c.across-test.true))
     (c.across.invariant line e) (byte_led line c.args.place i c.from-in-across.result c.if-place-lt2.false c.across-test.true byte)
     ∙ ap (word (led line) (64 * c.args.place)) (next i)

@@ -1,9 +1,4 @@
-use Rattle.std.proofs.Common.{◌≡◌, true, false, subst}
-use Rattle.qm_core.specs.Source.{Pulls, source_at}
-use Rattle.qm_core.specs.Decoder.{decoder_state}
-use Rattle.qm_core.specs.Place.{state_of}
-use Rattle.raster_core.specs.Window.{shape_mode}
-use Rattle.raster_core.specs.Row.{FirstDecoded}
+use Rattle.std.proofs.Common.{◌≡◌, true}
 use Rattle.raster_core.proofs.Firsts.{first_none}
 use Rattle.raster_core.proofs.LaneTables.{if_ok}
 use Rattle.raster_core.proofs.RowsDone.{begin_pixels, begun_pixels, by_begun, not_true, not_false}
@@ -14,19 +9,14 @@ pub returns-then-not-place-clause-ok : goal.returns-then-not-place-clause-ok
 returns-then-not-place-clause-ok g c =
     if_ok c.decode_flag.result _ _ (λ flag decoded s answers lines window h.
     let b = h.before_it (not_true c.args.place.is_begun c.if-not-place.true) in
-    begin_pixels (Pulls g.S.CodeBytes.gives g.S.CodeBytes.failed) c.args.reader.now.source.now c.decode_flag.new.reader.source.now c.args.shape c.args.kept c.args.place s c.decode_flag.new.reader.learned.now answers lines window c.decode_flag.new.reader.decoder.now flag b.start (λ _. c.if-shape.true)
-    (subst (λ l. FirstDecoded (source_at (Pulls g.S.CodeBytes.gives g.S.CodeBytes.failed) c.args.reader.now.source.now answers) (shape_mode c.args.shape) c.args.kept.previous_typical flag (state_of s.place l) (decoder_state c.decode_flag.new.reader.source.now c.decode_flag.new.reader.decoder.now c.decode_flag.new.reader.learned.now)) b.taught (decoded s.place answers b.stands)))
+    begin_pixels b.start (λ _. c.if-shape.true) (rw b.taught at (decoded s.place answers b.stands)))
     c.decode_flag.ensures.ok
 
 pub returns-else-shape-clause-ok : goal.returns-else-shape-clause-ok
 returns-else-shape-clause-ok g c = λ s answers lines window h.
-    let begun = λ (b : c.args.place.is_begun ≡ true). begun_pixels (Pulls g.S.CodeBytes.gives g.S.CodeBytes.failed) c.args.reader.now.source.now c.args.shape c.args.kept c.args.place s c.args.reader.now.learned.now answers lines window c.args.reader.now.decoder.now (c.requires.going b) (h.in_it b) in
+    let begun = λ (b : c.args.place.is_begun ≡ true). begun_pixels (c.requires.going b) (h.in_it b) in
     elim c.else-shape.branch [
       | else-shape-via-then-shape+else-not-place w ↦ begun (not_false c.args.place.is_begun w.if-not-place.false)
       | else-shape-via-else-shape w ↦
-          by_begun c.args.place.is_begun _ begun (λ none.
-          let b = h.before_it none in
-          begin_pixels (Pulls g.S.CodeBytes.gives g.S.CodeBytes.failed) c.args.reader.now.source.now c.args.reader.now.source.now c.args.shape c.args.kept c.args.place s c.args.reader.now.learned.now answers lines window c.args.reader.now.decoder.now false b.start (λ e. cc)
-          (subst (λ l. FirstDecoded (source_at (Pulls g.S.CodeBytes.gives g.S.CodeBytes.failed) c.args.reader.now.source.now answers) (shape_mode c.args.shape) c.args.kept.previous_typical false (state_of s.place l) (decoder_state c.args.reader.now.source.now c.args.reader.now.decoder.now c.args.reader.now.learned.now)) b.taught
-          (first_none w.if-shape.false b.stands)))
+          by_begun c.args.place.is_begun _ begun (λ none. let b = h.before_it none in begin_pixels b.start (λ e. cc) (first_none w.if-shape.false b))
     ]

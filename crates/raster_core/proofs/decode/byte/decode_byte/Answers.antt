@@ -1,6 +1,5 @@
-use Rattle.std.proofs.Common.{◌≡◌, arith, refl, sym, ◌∙◌, subst, false, Ok, ◌*◌, ◌/◌, ◌^◌}
+use Rattle.std.proofs.Common.{◌≡◌, arith, refl, sym, ◌∙◌, subst, false, ◌*◌, ◌/◌, ◌^◌}
 use Rattle.qm_core.specs.Decoder.{has_stopped}
-use Rattle.qm_core.specs.declared.decoder.Stop.{Stop}
 use Rattle.raster_core.specs.Lines.{context_at}
 use Rattle.raster_core.specs.Machine.Registers.{AreAt}
 use Rattle.raster_core.proofs.Before.{begins, goes_on, grows}
@@ -29,13 +28,13 @@ loop-j-preserved g c =
     let stop = c.in-Ok.ensures.reads.0 in
     let lent = c.in-Ok.ensures.reads.1 in
     let was_lent = c.loop-j.invariant.lends in
-    let going : has_stopped c.loop-j.reader.decoder.now ≡ false = had_not_stopped {E = Stop} (has_stopped c.loop-j.reader.decoder.now) (Ok c.in-Ok.pixel) c.in-Ok.pixel (λ t. (stop.0 t).0) (refl) in
+    let going : has_stopped c.loop-j.reader.decoder.now ≡ false = had_not_stopped (λ t. (stop.0 t).0) in
     let was : has_stopped c.args.reader.now.decoder.now ≡ false = sym c.loop-j.invariant.going ∙ going in
     record {
       lends = (lent.0 ∙ was_lent.0, lent.1 ∙ was_lent.1, lent.2 ∙ was_lent.2);
       same = stop.2 ∙ c.loop-j.invariant.same;
-      going = had_not_stopped {E = Stop} (has_stopped c.next.new.self.decoder.now) (Ok c.in-Ok.pixel) c.in-Ok.pixel stop.1.0 refl ∙ sym was;
-      stuck = λ t. absurd (not_both (has_stopped c.args.reader.now.decoder.now) t was);
+      going = had_not_stopped stop.1.0 ∙ sym was;
+      stuck = λ t. absurd (not_both t was);
       second = goes_on _ _ _ c.loop-j.invariant.second;
       above = goes_on _ _ _ c.loop-j.invariant.above;
       second_small = grows _ _ _ c.loop-j.invariant.second_small;

@@ -1,9 +1,7 @@
-use Rattle.std.proofs.Common.{◌≡◌, ◌+◌, ◌-◌, ◌*◌, ◌%◌, ◌^◌, ◌<◌, length, arith, refl, sym, ◌∙◌, false, length-set, Ok}
+use Rattle.std.proofs.Common.{◌≡◌, ◌-◌, ◌*◌, ◌%◌, ◌^◌, ◌<◌, length, arith, sym, ◌∙◌, false, length-set}
 use Rattle.std.specs.Prelude.{slice_set}
 use Rattle.std.specs.Int.{div_ceil}
 use Rattle.qm_core.specs.Decoder.{has_stopped}
-use Rattle.raster_core.specs.Machine.Uniform.{colour_of}
-use Rattle.raster_core.specs.declared.place.Pause.{Pause}
 use Rattle.raster_core.proofs.Joins.{had_not_stopped, not_both}
 use Rattle.raster_core.proofs.RowBytes.{bytes_next, bytes_stop, bytes_all, wrap, whole}
 use Rattle.raster_core.proofs.FilledAlong.{bytes_skipped, kept_along}
@@ -21,18 +19,18 @@ returns-in-Err-clause-leaves g c =
 
 pub bytes-preserved-then-words-gt0 : goal.bytes-preserved-then-words-gt0
 bytes-preserved-then-words-gt0 g c =
-    let inside : 8 * (c.bytes.i + 8 * c.skip_filled-words.result) < c.args.shape.width = omega (arith, c.bytes.invariant.left, c.skip_filled-words.ensures.inside) in
-    let left : c.bytes.left - 64 * c.skip_filled-words.result ≡ c.args.shape.width - 8 * (c.bytes.i + 8 * c.skip_filled-words.result) = omega (arith, c.bytes.invariant.left, c.skip_filled-words.ensures.inside) in
-    let along = bytes_skipped (8 * c.skip_filled-words.result) (colour_of c.bytes.above_bytes) c.requires.template.0 c.bytes.invariant.left (omega (arith, inside)) (omega (arith, c.skip_filled-words.ensures.inside)) (omega arith) (omega (arith, c.if-words-gt0.true))
-    (c.skip_filled-words.ensures.second c.if-words-gt0.true) (c.skip_filled-words.ensures.above c.if-words-gt0.true) (c.skip_filled-words.ensures.before c.if-words-gt0.true c.args.offset c.requires.template.2) (c.skip_filled-words.ensures.skips.1 c.if-words-gt0.true)
-    c.skip_filled-words.ensures.filled c.skip_filled-words.ensures.kept c.skip_filled-words.ensures.skipped c.bytes.invariant.along in
+    let was = c.bytes.invariant in
+    let skip = c.skip_filled-words.ensures in
+    let some = c.if-words-gt0.true in
     record {
-      lends = c.bytes.invariant.lends;
-      same = c.bytes.invariant.same;
-      going = c.skip_filled-words.ensures.skips.0 ∙ c.bytes.invariant.going;
-      stuck = λ t. absurd (not_both (has_stopped c.args.reader.now.decoder.now) t (sym c.bytes.invariant.going ∙ c.skip_filled-words.ensures.skips.1 (omega (arith, c.if-words-gt0.true))));
-      left = left;
-      along = along;
+      lends = was.lends;
+      same = was.same;
+      going = skip.skips.0 ∙ was.going;
+      stuck = λ t. absurd (not_both t (sym was.going ∙ skip.skips.1 some));
+      left = omega (arith, was.left, skip.inside);
+      along = bytes_skipped (8 * c.skip_filled-words.result) c.requires.template.0 was.left (omega (arith, skip.inside)) (omega (arith, some))
+          (record { second_is = skip.second some; above_is = skip.above some; past_is = skip.before some c.args.offset c.requires.template.2 })
+          (record { filled = skip.filled; kept = skip.kept }) (skip.skips.1 some) skip.skipped was.along;
     }
 
 pub bytes-preserved : goal.bytes-preserved
@@ -40,15 +38,15 @@ bytes-preserved g c =
     let inside : 8 * c.bytes.i < c.args.shape.width = omega arith in
     let same : c.skip_filled-words.new.decoder ≡ c.bytes.reader.decoder.now = c.skip_filled-words.ensures.skips.2 (omega (arith, c.if-words-gt0.false)) in
     let along = kept_along same c.skip_filled-words.ensures.kept c.bytes.invariant.along in
-    let going : has_stopped c.skip_filled-words.new.decoder ≡ false = had_not_stopped {E = Pause} (has_stopped c.skip_filled-words.new.decoder) (Ok c.in-Ok.past) c.in-Ok.past (λ t. (c.in-Ok.ensures.reads.0.0 t).0) (refl) in
+    let going : has_stopped c.skip_filled-words.new.decoder ≡ false = had_not_stopped (λ t. (c.in-Ok.ensures.reads.0.0 t).0) in
     let was : has_stopped c.args.reader.now.decoder.now ≡ false = sym c.bytes.invariant.going ∙ (sym c.skip_filled-words.ensures.skips.0 ∙ going) in
     let lent = c.in-Ok.ensures.reads.1 in
     let was_lent = c.bytes.invariant.lends in
     record {
       lends = (lent.0 ∙ was_lent.0, lent.1 ∙ was_lent.1, lent.2 ∙ was_lent.2);
       same = c.in-Ok.ensures.reads.0.2 ∙ c.bytes.invariant.same;
-      going = had_not_stopped {E = Pause} (has_stopped c.decode_step.new.reader.decoder.now) (Ok c.in-Ok.past) c.in-Ok.past c.in-Ok.ensures.reads.0.1.0 (refl) ∙ sym was;
-      stuck = λ t. absurd (not_both (has_stopped c.args.reader.now.decoder.now) t was);
+      going = had_not_stopped c.in-Ok.ensures.reads.0.1.0 ∙ sym was;
+      stuck = λ t. absurd (not_both t was);
       left = omega arith;
       along = rw (c.byte_at.ensures.byte, c.byte_at-in-bytes.ensures.byte)
           (bytes_next c.bytes.invariant.left inside (omega arith) (omega arith) (whole c.in-Ok.past) along
@@ -77,7 +75,7 @@ returns-clause-leaves g c =
     let byte = c.in-Ok-decode_byte.last % 256 * 2 ^ (8 - c.bytes.left) % 4294967296 % 256 in
     let long : length (slice_set c.bytes.current c.bytes.i byte) ≡ div_ceil c.args.shape.width 8 = length-set c.bytes.current c.bytes.i byte ∙ wide in (
       bytes_all (omega (arith, c.bytes.invariant.left)) long (omega (arith, long, c.bytes.invariant.left, c.bytes-test.false))
-          (bytes_next c.bytes.invariant.left inside (omega (arith, wide, inside)) (omega arith) (wrap (c.in-Ok-decode_byte.last % 256 * 2 ^ (8 - c.bytes.left))) c.bytes.invariant.along
+          (bytes_next c.bytes.invariant.left inside (omega arith) (omega arith) (wrap (c.in-Ok-decode_byte.last % 256 * 2 ^ (8 - c.bytes.left))) c.bytes.invariant.along
           (rw (← c.byte_at-3.ensures.byte, ← c.byte_at-2.ensures.byte) c.in-Ok-decode_byte.ensures.pixels.0)),
       tt,
     )

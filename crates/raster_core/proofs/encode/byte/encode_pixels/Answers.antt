@@ -10,7 +10,7 @@ pub loop-j-init : goal.loop-j-init
 loop-j-init g c =
     let small : c.args.byte.byte < 256 = omega arith in
     record {
-      puts = puts_as (sym (events_none c.args.byte.around.template (byte_lines c.args.byte) 128)) (puts_none g.W.CodeSink _);
+      puts = puts_as (sym (events_none c.args.byte.around.template (byte_lines c.args.byte) 128)) (puts_none);
       events = omega arith;
       same = refl;
       offset = refl;
@@ -26,7 +26,7 @@ loop-j-init g c =
 pub returns-in_err-put : goal.returns-in_err-put
 returns-in_err-put g c =
     let small : c.args.byte.byte < 256 = omega arith in
-    let next = pixel_next c.args.byte c.loop-j._j c.context_of-cx.result.number c.loop-j.second c.loop-j.above c.loop-j.row c.loop-j.past _ small (omega arith) c.requires.template.two_line_is
+    let next = pixel_next c.args.byte c.loop-j._j small (omega arith) c.requires.template.two_line_is
     c.loop-j.invariant.second c.loop-j.invariant.above c.loop-j.invariant.row c.loop-j.invariant.past c.context_of-cx.ensures in
     puts_as (events_rest c.args.byte.around.template (byte_lines c.args.byte) 128 (c.loop-j._j + 1) c.args.n (omega arith))
     (puts_stop _ c.from_residual.ensures
@@ -35,7 +35,7 @@ returns-in_err-put g c =
 pub loop-j-preserved : goal.loop-j-preserved
 loop-j-preserved g c =
     let small : c.args.byte.byte < 256 = omega arith in
-    let next = pixel_next c.args.byte c.loop-j._j c.context_of-cx.result.number c.loop-j.second c.loop-j.above c.loop-j.row c.loop-j.past _ small (omega arith) c.requires.template.two_line_is
+    let next = pixel_next c.args.byte c.loop-j._j small (omega arith) c.requires.template.two_line_is
     c.loop-j.invariant.second c.loop-j.invariant.above c.loop-j.invariant.row c.loop-j.invariant.past c.context_of-cx.ensures in
     record {
       puts = puts_as next (puts_join c.loop-j.invariant.puts c.in_ok-put.ensures);
@@ -45,7 +45,7 @@ loop-j-preserved g c =
       second = goes_on _ _ _ c.loop-j.invariant.second;
       above = goes_on _ _ _ c.loop-j.invariant.above;
       row = goes_on _ _ _ c.loop-j.invariant.row;
-      past = past_more c.args.byte c.loop-j._j c.loop-j.past _ (nat_eq (c.loop-j.row / 2 ^ 7 % 2) 1) c.loop-j.invariant.past (c.past_and-past.ensures c.args.byte.around.template.offset c.requires.template.moved_is)
+      past = past_more c.args.byte c.loop-j._j c.loop-j.invariant.past (c.past_and-past.ensures c.args.byte.around.template.offset c.requires.template.moved_is)
           (ap (λ z. nat_eq (z / 2 ^ 7 % 2) 1) c.loop-j.invariant.row ∙ pixel_of_byte c.args.byte c.loop-j._j small (omega arith));
       second_small = grows _ _ _ c.loop-j.invariant.second_small;
       above_small = grows _ _ _ c.loop-j.invariant.above_small;

@@ -11,7 +11,7 @@ use Rattle.raster_core.proofs.encode.row.encode_bytes.Goals as goal
 pub bytes-init : goal.bytes-init
 bytes-init g c = record {
   inside = omega arith;
-  puts = puts_as (sym (events_none c.args.template (lines_in c.args.rows) 0)) (puts_none g.W.CodeSink _);
+  puts = puts_as (sym (events_none c.args.template (lines_in c.args.rows) 0)) (puts_none);
   events = omega arith;
   same = refl;
   stands = c.start-around.ensures;
@@ -29,7 +29,7 @@ bytes-preserved-then-skipped-gt0 g c =
           (puts_join c.bytes.invariant.puts run);
       events = omega arith;
       same = run.same ∙ c.bytes.invariant.same;
-      stands = stands_as c.bytes.around _ _ (lines_in c.args.rows) _ c.bytes.invariant.stands.template_is c.skip_run-skipped.ensures.stands;
+      stands = stands_as c.bytes.invariant.stands.template_is c.skip_run-skipped.ensures.stands;
     }
 
 pub encode_byte-requires-clause-room : goal.encode_byte-requires-clause-room
@@ -52,7 +52,7 @@ returns-in_err-encode_byte g c =
     (puts_join c.bytes.invariant.puts c.skip_run-skipped.ensures.puts) in
     puts_as (events_rest c.args.template lines 0 (8 * (c.bytes.i + 1)) c.args.rows.width (omega arith))
     (puts_stop _ c.from_residual.ensures
-    (puts_as (byte_on c.byte-byte.result c.args.template c.bytes.around.template lines c.bytes.i 8 (8 * (c.bytes.i + 1)) small c.byte-byte.ensures c.bytes.invariant.stands.template_is (omega arith) (omega arith))
+    (puts_as (byte_on 8 (8 * (c.bytes.i + 1)) small c.byte-byte.ensures c.bytes.invariant.stands.template_is (omega arith) (omega arith))
     (puts_join before c.in_err-encode_byte.ensures)))
 
 pub bytes-preserved : goal.bytes-preserved
@@ -69,19 +69,19 @@ bytes-preserved g c =
     puts_as
     (events_on c.args.template c.bytes.around.template lines (8 * c.bytes.i) (8 * c.bytes.i) (8 * c.skip_run-skipped.result) (8 * c.bytes.i) c.bytes.invariant.stands.template_is refl (omega arith))
     (puts_join c.bytes.invariant.puts run) in
-    let is : IsByte c.byte-byte.result c.byte-byte.result.around.template lines c.bytes.i = byte_as c.byte-byte.result _ _ lines _ (sym c.byte-byte.ensures.template_is) c.byte-byte.ensures in
+    let is : IsByte c.byte-byte.result c.byte-byte.result.around.template lines c.bytes.i = byte_as (sym c.byte-byte.ensures.template_is) c.byte-byte.ensures in
     record {
       inside = omega arith;
-      puts = puts_as (byte_on c.byte-byte.result c.args.template c.bytes.around.template lines c.bytes.i 8 (8 * (c.bytes.i + 1)) small c.byte-byte.ensures c.bytes.invariant.stands.template_is (omega arith) (omega arith))
+      puts = puts_as (byte_on 8 (8 * (c.bytes.i + 1)) small c.byte-byte.ensures c.bytes.invariant.stands.template_is (omega arith) (omega arith))
           (puts_join before c.in_ok-encode_byte.ensures);
       events = omega arith;
       same = c.in_ok-encode_byte.ensures.same ∙ (run.same ∙ c.bytes.invariant.same);
-      stands = stands_as c.after-around.result _ _ lines _ (c.byte-byte.ensures.template_is ∙ c.bytes.invariant.stands.template_is) (c.after-around.ensures lines c.bytes.i is);
+      stands = stands_as (c.byte-byte.ensures.template_is ∙ c.bytes.invariant.stands.template_is) (c.after-around.ensures lines c.bytes.i is);
     }
 
 pub returns : goal.returns
 returns g c =
     let lines : Lines = lines_in c.args.rows in
     let small : c.byte.result.byte < 256 = omega arith in
-    puts_as (byte_on c.byte.result c.args.template c.bytes.around.template lines c.bytes.i (c.args.rows.width % 8) c.args.rows.width small c.byte.ensures c.bytes.invariant.stands.template_is (omega arith) (omega arith))
+    puts_as (byte_on (c.args.rows.width % 8) c.args.rows.width small c.byte.ensures c.bytes.invariant.stands.template_is (omega arith) (omega arith))
     (puts_join c.bytes.invariant.puts c.encode_pixels.ensures)

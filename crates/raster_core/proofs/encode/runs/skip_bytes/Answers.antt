@@ -16,8 +16,8 @@ words-init g c =
       from = omega arith;
       left = omega arith;
       some = omega arith;
-      uniform = uniform_none c.args.colour c.args.rows c.args.i (c.args.i - c.args.i) (omega arith);
-      puts = puts_as (ap (λ n. replicate n (uniform_event c.args.colour)) none) (puts_none g.W.CodeSink _);
+      uniform = uniform_none (omega arith);
+      puts = puts_as (ap (λ n. replicate n (uniform_event c.args.colour)) none) (puts_none);
       events = omega arith;
       same = refl;
     }
@@ -31,7 +31,7 @@ words-preserved g c =
       from = omega (arith, c.words.invariant.from);
       left = omega arith;
       some = omega arith;
-      uniform = uniform_more c.args.colour c.args.rows c.args.i c.words.at c.words.invariant.from c.words.invariant.uniform
+      uniform = uniform_more c.words.at c.words.invariant.from c.words.invariant.uniform
           (c.is_all.ensures.filled c.if-is_all.true) (c.is_all_above.ensures.above c.words-test.true) (c.is_all_above.ensures.second c.words-test.true);
       puts = puts_as (replicate-append-replicate (8 * (c.words.at - c.args.i)) 64 (uniform_event c.args.colour) ∙ ap (λ n. replicate n (uniform_event c.args.colour)) more)
           (puts_join c.words.invariant.puts h);
@@ -49,7 +49,7 @@ returns g c =
         | then-words-test+then-is_all+else-skip_pixels w ↦
             let h = w.skip_pixels.ensures in
             subst (λ d. Puts g.W.CodeSink (run_of c.args.colour (8 * (c.words.at - c.args.i))) c.args.coder.now d (Ok tt)) (sym w.coder-is)
-            (puts_idle g.W.CodeSink c.args.coder.now c.words.coder w.skip_pixels.new.coder _ h.lends (h.left w.if-skip_pixels.false) c.words.invariant.puts)
+            (puts_idle h.lends (h.left w.if-skip_pixels.false) c.words.invariant.puts)
         | then-words-test+else-is_all w ↦ subst (λ d. Puts g.W.CodeSink (run_of c.args.colour (8 * (c.words.at - c.args.i))) c.args.coder.now d (Ok tt)) (sym w.coder-is) c.words.invariant.puts
         | else-words-test w ↦ subst (λ d. Puts g.W.CodeSink (run_of c.args.colour (8 * (c.words.at - c.args.i))) c.args.coder.now d (Ok tt)) (sym w.coder-is) c.words.invariant.puts
       ];
@@ -57,8 +57,8 @@ returns g c =
         | then-words-test+then-is_all+else-skip_pixels w ↦
             let h = w.skip_pixels.ensures in
             subst (λ d. StopsAt c.args.colour c.args.rows c.words.at d) (sym w.coder-is)
-            (ends_full c.args.colour c.args.rows c.words.at c.words.coder w.skip_pixels.new.coder w.skip_pixels.result h.exact w.if-skip_pixels.false (h.left w.if-skip_pixels.false))
-        | then-words-test+else-is_all w ↦ ends_below c.args.colour c.args.rows c.words.at c.words-test.coder w.is_all.result w.is_all.ensures.all w.if-is_all.false
-        | else-words-test w ↦ ends_above c.args.colour c.args.rows c.words.at c.words.left c.words-test.coder c.is_all_above.result c.words.invariant.left c.is_all_above.ensures.all w.words-test.false
+            (ends_full h.exact w.if-skip_pixels.false (h.left w.if-skip_pixels.false))
+        | then-words-test+else-is_all w ↦ ends_below w.is_all.ensures.all w.if-is_all.false
+        | else-words-test w ↦ ends_above c.words.left c.words.invariant.left c.is_all_above.ensures.all w.words-test.false
       ]);
     }

@@ -1,5 +1,4 @@
 use Rattle.std.proofs.Common.{arith, refl}
-use Rattle.raster_core.specs.Machine.Rows.{lines_in}
 use Rattle.raster_core.proofs.RowsIn.{current_in, above_in, second_in, read_byte, next_read}
 use Rattle.raster_core.proofs.row_byte.Around.byte.Goals as goal
 
@@ -7,9 +6,9 @@ pub returns : goal.returns
 returns c = record {
   template_is = refl;
   at = record {
-    second_is = next_read (lines_in c.args.rows).second c.args.rows.second.now c.args.self.second _ c.args.i (second_in c.args.rows) c.requires.stands.second_is c.byte_at.ensures.byte c.byte_at.ensures.small;
-    above_is = next_read (lines_in c.args.rows).above c.args.rows.above.now c.args.self.above _ c.args.i (above_in c.args.rows) c.requires.stands.above_is c.byte_at-2.ensures.byte c.byte_at-2.ensures.small;
-    byte_is = read_byte (lines_in c.args.rows).row c.args.rows.current.now _ c.args.i (current_in c.args.rows) refl (omega arith);
+    second_is = next_read c.args.i (second_in c.args.rows) c.requires.stands.second_is c.byte_at.ensures.byte c.byte_at.ensures.small;
+    above_is = next_read c.args.i (above_in c.args.rows) c.requires.stands.above_is c.byte_at-2.ensures.byte c.byte_at-2.ensures.small;
+    byte_is = read_byte c.args.i (current_in c.args.rows) refl (omega arith);
   };
   past_is = c.requires.stands.past_is;
 }

@@ -7,7 +7,7 @@ use Rattle.raster_core.proofs.row_byte.Around.start.Goals as goal
 pub returns : goal.returns
 returns c = record {
   template_is = refl;
-  second_is = first_read (lines_in c.args.rows).second c.args.rows.second.now _ (second_in c.args.rows) c.byte_at.ensures.byte c.byte_at.ensures.small;
-  above_is = first_read (lines_in c.args.rows).above c.args.rows.above.now _ (above_in c.args.rows) c.byte_at-2.ensures.byte c.byte_at-2.ensures.small;
+  second_is = first_read (second_in c.args.rows) c.byte_at.ensures.byte c.byte_at.ensures.small;
+  above_is = first_read (above_in c.args.rows) c.byte_at-2.ensures.byte c.byte_at-2.ensures.small;
   past_is = sym (before_none (lines_in c.args.rows).row _);
 }

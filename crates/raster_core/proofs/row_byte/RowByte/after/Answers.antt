@@ -12,6 +12,6 @@ returns g c = λ lines i is.
       second_is = is.at.second_is ∙ ap (λ x. before lines.second x 24) rows;
       above_is = is.at.above_is ∙ ap (λ x. before lines.above x 24) rows;
       past_is = c.past_eight.ensures c.args.self.around.template.offset c.requires.moved
-          ∙ (past_run lines.row c.args.self.around.template.offset c.args.self.around.past (8 * i) c.args.self.byte is.past_is is.at.byte_is
+          ∙ (past_run lines.row c.args.self.around.template.offset (8 * i) is.past_is is.at.byte_is
           ∙ ap (λ x. before lines.row x (past_bits c.args.self.around.template.offset)) row);
     }

@@ -19,7 +19,7 @@ returns-clause-counts c rows lines few k w =
       number = omega (arith, more, k.number, c.take.ensures.same.rows, few);
       width_is = λ some. refl;
       wide = all_push (λ l. length l.row ≡ c.args.width) rows lines k.wide long;
-      none = λ empty. absurd (omega (arith, more, empty));
+      none = λ empty. absurd (omega arith);
       each = λ lag from' to'.
           let from : least_lag (c.args.self.now.two_line == 1) ≤ lag = subst (λ t. least_lag (t == 1) ≤ lag) c.take.ensures.same.two_line from' in
           let to : lag ≤ last_lag (c.args.self.now.two_line == 1) (min c.args.self.now.most 127) c.args.width =
@@ -30,11 +30,11 @@ returns-clause-counts c rows lines few k w =
           ∙ once_more (get_or c.take.new.self.counts lag 0) c.take.new.self.times (get_or c.take.new.self.last.agreed lag 0)
           ∙ ap (λ x. (x + get_or c.take.new.self.last.agreed lag 0) % 2 ^ 64) (c.take.ensures.same.counted lag low high ∙ k.each lag from to)
           ∙ ap (λ x. (agreement rows lag + x) % 2 ^ 64) (c.take.ensures.counts k.kept lines e lag (omega (arith, low, c.take.ensures.last.1)) (omega (arith, high, c.take.ensures.last.2)) ∙ wide_row lag)
-          ∙ row_more rows lines c.args.width lag k.wide long (omega (arith, few)) (omega arith);
+          ∙ row_more rows lines c.args.width lag k.wide long (omega arith) (omega arith);
       held =
           ap (λ x. (x + c.held-held.result) % 2 ^ 64) (c.take.ensures.same.held ∙ k.held)
           ∙ ap (λ x. (agreement rows c.args.offset + x) % 2 ^ 64)
           (c.held-held.ensures.agreed lines (c.take.ensures.kept k.kept) (c.take.ensures.counts k.kept) e f ∙ wide_row c.args.offset)
-          ∙ row_more rows lines c.args.width c.args.offset k.wide long (omega (arith, few)) (omega arith);
+          ∙ row_more rows lines c.args.width c.args.offset k.wide long (omega arith) (omega arith);
       kept = c.held-held.ensures.kept (c.take.ensures.kept k.kept);
     }
