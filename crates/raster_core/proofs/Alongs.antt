@@ -32,7 +32,7 @@ registers_at : {second above past : ℕ} (lines : Lines) (offset n : ℕ) (done 
     second ≡ before lines.second (length done + 16) 24 → above ≡ before lines.above (length done + 16) 24 → past ≡ before (done ++ pixels) (length (done ++ pixels)) (past_bits offset) →
     AreAt (with_row lines (done ++ pixels)) offset (second / 2 ^ 7 * 2 ^ n) (above / 2 ^ 6 * 2 ^ n) past (length (done ++ pixels))
 registers_at {second} {above} {past} lines offset n done pixels h count s a p =
-    let long : length done + n ≡ length (done ++ pixels) = sym (length-append done pixels ∙ ap (λ k. length done + k) count) in
+    let long : length done + n ≡ length (done ++ pixels) = rw (← count) (sym (length-append done pixels)) in
     subst (λ x. AreAt (with_row lines (done ++ pixels)) offset (second / 2 ^ 7 * 2 ^ n) (above / 2 ^ 6 * 2 ^ n) past x) long
     (at_registers {lines = with_row lines (done ++ pixels)} {byte = before (done ++ pixels) (length done + 8) 8} n h (record { second_is = s; above_is = a; byte_is = refl }) (rw long p))
 
@@ -49,7 +49,7 @@ along_next {S} {pull} {b} {old} {mid} {to} {n} {past} {past'} {cx} {pixel} few p
       let at = registers_at lines b.offset n done m.pixels few m.count s2 a2 m.so_far.past_is in
       let t = decodes_next m.so_far.decodes (next (after s events).place (answers ++ m.so_far.more) m.so_far.decodes.stands) in
       let more : pixel_events b.mode (with_row lines (row ++ pixel ∷ [])) b.offset ≡ pixel_events b.mode (with_row lines row) b.offset ++ record { context = cx; pixel = pixel } ∷ [] =
-      pixel_events_more b.mode lines b.offset row pixel ∙ ap (λ event. pixel_events b.mode (with_row lines row) b.offset ++ event ∷ []) (sym (event_is cx _ pixel _ (context (with_row lines row) (length row) at) refl)) in
+      rw (pixel_events_more b.mode lines b.offset row pixel, ← event_is cx _ pixel _ (context (with_row lines row) (length row) at) refl) refl in
       let p = past_is ∙ subst (λ w. past % 2 ^ (past_bits b.offset - 1) * 2 + bit pixel ≡ before (row ++ pixel ∷ []) (length (row ++ pixel ∷ [])) w) (some_past b.offset)
       (past_next row pixel past (past_bits b.offset - 1) (m.so_far.past_is ∙ ap (λ w. before row (length row) w) (sym (some_past b.offset)))) in
       let whole : PixelsSoFar (source_at pull from answers) (plain_row b.mode b.offset first s lines) (row ++ pixel ∷ []) past' to = record {
@@ -59,7 +59,7 @@ along_next {S} {pull} {b} {old} {mid} {to} {n} {past} {past'} {cx} {pixel} few p
       } in
       record {
         pixels = m.pixels ++ pixel ∷ [];
-        count = length-append m.pixels (pixel ∷ []) ∙ ap (λ k. k + 1) m.count;
+        count = rw (length-append m.pixels (pixel ∷ []), m.count) refl;
         so_far = subst (λ r. PixelsSoFar (source_at pull from answers) (plain_row b.mode b.offset first s lines) r past' to) (append_assoc done m.pixels (pixel ∷ [])) whole;
       };
 }

@@ -1,5 +1,5 @@
 -- Numbers of pixels: parts of them, and the contexts.
-use Rattle.std.proofs.Common.{◌≡◌, ℕ, zero, suc, ◌+◌, ◌-◌, ◌*◌, ◌/◌, ◌%◌, ◌^◌, ◌<◌, ◌≤◌, Bool, true, false, List, refl, sym, ◌∙◌, ap, arith}
+use Rattle.std.proofs.Common.{◌≡◌, ℕ, zero, suc, ◌+◌, ◌-◌, ◌*◌, ◌/◌, ◌%◌, ◌^◌, ◌<◌, ◌≤◌, Bool, true, false, List, refl, ◌∙◌, ap, arith}
 use Rattle.std.specs.Prelude.{if◌then◌else◌, nat_lt}
 use Rattle.std.proofs.lemmas.Bool.Decides.{nat_tests}
 use Rattle.std.proofs.Math.Nat.{pow-suc, mul-div_cancel, div-div-eq-div-mul}
@@ -80,7 +80,7 @@ pub low_part : {past : ℕ} (row : List Bool) (x offset l : ℕ) → past ≡ be
 low_part row x offset l h few =
     let large : 64 ≤ past_bits offset = least offset in
     let size : (past_bits offset - l) + l ≡ past_bits offset = omega arith in
-    ap (λ p. p % 2 ^ l) (h ∙ ap (λ w. before row x w) (sym size)) ∙ before_mod row x (past_bits offset - l) l
+    rw (h, ← size) (before_mod row x (past_bits offset - l) l)
 
 -- a part of a register
 pub before_part : (row : List Bool) (x d l m : ℕ) → before row (x + m) ((d + l) + m) / 2 ^ m % 2 ^ l ≡ before row x l
@@ -101,10 +101,8 @@ above_in row x h =
 pub shifted_div : (b left m : ℕ) → left ≤ 7 → b * 2 ^ (7 - left) / 2 ^ (7 + m) ≡ b / 2 ^ (left + m)
 shifted_div b left m h =
     let e : 7 + m ≡ (7 - left) + (left + m) = omega arith in
-    let p : 2 ^ (7 + m) ≡ 2 ^ (7 - left) * 2 ^ (left + m) = ap (λ k. 2 ^ k) e ∙ pow-add 2 (7 - left) (left + m) in
-    ap (λ z. b * 2 ^ (7 - left) / z) p
-    ∙ (sym (div-div-eq-div-mul (b * 2 ^ (7 - left)) (2 ^ (7 - left)) (2 ^ (left + m)))
-    ∙ ap (λ z. z / 2 ^ (left + m)) (mul-div_cancel b (pow_pos (7 - left))))
+    let p : 2 ^ (7 + m) ≡ 2 ^ (7 - left) * 2 ^ (left + m) = rw e (pow-add 2 (7 - left) (left + m)) in
+    rw (p, ← div-div-eq-div-mul (b * 2 ^ (7 - left)) (2 ^ (7 - left)) (2 ^ (left + m)), mul-div_cancel b (pow_pos (7 - left))) refl
 
 pub begins : (b : ℕ) → b ≡ b * 2 ^ 0
 begins b = omega arith
@@ -146,14 +144,14 @@ left_along row x k (suc d) =
 left_none : (row : List Bool) (k : ℕ) → pixel_left row 0 (suc k) ≡ false
 left_none row k =
     let test : nat_lt 0 (suc k) ≡ true = grind (arith, nat_tests) in
-    ap (λ b. if b then false else pixel_at row (0 - suc k)) test
+    rw test refl
 
 -- the farthest of the pixels before x
 pub before_far : (row : List Bool) (x k : ℕ) → before row x (suc k) ≡ bit (pixel_left row x (suc k)) * 2 ^ k + before row x k
 before_far row zero k = rw (before_none row (suc k), before_none row k, left_none row k) (omega arith)
 before_far row (suc x) zero =
     let up : suc x ≡ x + 1 = omega arith in
-    let e : pixel_left row (suc x) 1 ≡ pixel_at row x = ap (λ z. pixel_left row z 1) up ∙ left_at row x 1 in
+    let e : pixel_left row (suc x) 1 ≡ pixel_at row x = rw up (left_at row x 1) in
     rw (before_suc row x 0, before_zero row x, before_zero row (suc x), e) (omega arith)
 before_far row (suc x) (suc k) =
     let e : pixel_left row (suc x) (suc (suc k)) ≡ pixel_left row x (suc k) = left_up row x (suc k) in

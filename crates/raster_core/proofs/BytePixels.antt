@@ -12,7 +12,7 @@ pub pixel_in : {byte : ℕ} (row : List Bool) (x n : ℕ) → byte ≡ before ro
 pixel_in {byte} row x n h few =
     let place : x + 8 ≡ ((x + n) + 1) + (7 - n) = omega arith in
     let size : 8 ≡ (n + 1) + (7 - n) = omega arith in
-    let is : byte ≡ before row (((x + n) + 1) + (7 - n)) ((n + 1) + (7 - n)) = h ∙ (ap (λ z. before row z 8) place ∙ ap (λ k. before row (((x + n) + 1) + (7 - n)) k) size) in
+    let is : byte ≡ before row (((x + n) + 1) + (7 - n)) ((n + 1) + (7 - n)) = rw (h, place, size) refl in
     rw is (before_part row ((x + n) + 1) n 1 (7 - n) ∙ (before_far row ((x + n) + 1) 0 ∙ rw (before_zero row ((x + n) + 1), left_at row (x + n) 1) (omega arith)))
 
 pub byte_shifted : (byte n : ℕ) → n < 8 → byte * 2 ^ n / 2 ^ 7 ≡ byte / 2 ^ (7 - n)
@@ -28,7 +28,7 @@ pub past_at : (row : List Bool) (past x v : ℕ) → past ≡ before row x (suc 
 past_at row past x v h =
     let e : x + 1 ≡ suc x = omega arith in
     let one : suc v ≡ 1 + v = omega arith in
-    let low : past % 2 ^ v ≡ before row x v = ap (λ p. p % 2 ^ v) (h ∙ ap (λ w. before row x w) one) ∙ before_mod row x 1 v in
+    let low : past % 2 ^ v ≡ before row x v = rw (h, one) (before_mod row x 1 v) in
     rw (e, before_suc row x v, low) (omega arith)
 
 pub at_registers : {lines : Lines} {offset second above byte past x : ℕ} (n : ℕ) → n < 8 → ByteAt lines second above byte x → past ≡ before lines.row (x + n) (past_bits offset) → AreAt lines offset (second / 2 ^ 7 * 2 ^ n) (above / 2 ^ 6 * 2 ^ n) past (x + n)

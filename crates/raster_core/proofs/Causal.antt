@@ -18,7 +18,7 @@ numbers_from_last k zero = ap (λ m. m ∷ []) (let e : k ≡ k + 0 = omega arit
 numbers_from_last k (suc n) =
     let tail : numbers_from (k + 1) (suc n) ≡ numbers_from (k + 1) n ++ ((k + 1) + n) ∷ [] = numbers_from_last (k + 1) n in
     let same : (k + 1) + n ≡ k + suc n = omega arith in
-    ap (λ xs. k ∷ xs) (tail ∙ ap (λ m. numbers_from (k + 1) n ++ m ∷ []) same)
+    rw (tail, same) refl
 
 pub map_same : {A : Type 0} (f g : ℕ → A) (k n : ℕ) → ((x : ℕ) → x < k + n → f x ≡ g x) → map f (numbers_from k n) ≡ map g (numbers_from k n)
 map_same f g k zero h = refl
@@ -74,7 +74,7 @@ pixel_events_more mode lines offset xs b =
     let zero' : 0 + length xs ≡ length xs = omega arith in
     let last : f (0 + length xs) ≡ record { context = context_at mode (with_row lines xs) offset (length xs); pixel = b } =
     ap f zero' ∙ event_is _ _ _ _ (context_front mode lines xs (b ∷ []) offset (length xs) (omega arith)) (get_or-append_seam xs b [] false) in
-    ap (λ n. map f (numbers_from 0 n)) long ∙ (split ∙ (ap (λ es. es ++ f (0 + length xs) ∷ []) same ∙ ap (λ e. map g (numbers_from 0 (length xs)) ++ e ∷ []) last))
+    rw (long, split, same, last) refl
 
 -- the events of a longer row begin with those of its front
 pub pixel_events_front : (mode : Mode) (lines : Lines) (offset : ℕ) (xs ys : List Bool) → (rest : List Event) ×
@@ -101,7 +101,7 @@ pub past_next : (xs : List Bool) (b : Bool) (past v : ℕ) → past ≡ before x
 past_next xs b past v h =
     let long : length (xs ++ b ∷ []) ≡ suc (length xs) = length-append xs (b ∷ []) ∙ (let e : length xs + 1 ≡ suc (length xs) = omega arith in e) in
     let one : suc v ≡ 1 + v = omega arith in
-    let low : past % 2 ^ v ≡ before xs (length xs) v = ap (λ p. p % 2 ^ v) (h ∙ ap (λ w. before xs (length xs) w) one) ∙ before_mod xs (length xs) 1 v in
+    let low : past % 2 ^ v ≡ before xs (length xs) v = rw (h, one) (before_mod xs (length xs) 1 v) in
     let f = before_front xs (b ∷ []) (length xs) v (omega arith) in
     let seam = get_or-append_seam xs b [] false in
     rw (long, before_suc (xs ++ b ∷ []) (length xs) v, f, seam, low) (omega arith)

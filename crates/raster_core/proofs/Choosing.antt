@@ -1,5 +1,5 @@
 -- The first number of a range with the greatest value.
-use Rattle.std.proofs.Common.{◌≡◌, ℕ, zero, suc, ◌+◌, ◌<◌, ◌≤◌, Bool, true, false, ◌&&◌, List, refl, ◌∙◌, ap, arith, None, Some, replicate, get_or, inl, inr, ◌⊎◌, cond}
+use Rattle.std.proofs.Common.{◌≡◌, ℕ, zero, suc, ◌+◌, ◌<◌, ◌≤◌, Bool, true, false, List, refl, ◌∙◌, ap, arith, None, Some, replicate, get_or, inl, inr, ◌⊎◌}
 use Rattle.std.specs.Prelude.{find, nat_le, ◌-◌, if◌then◌else◌}
 use Rattle.std.specs.List.{list_all}
 use Rattle.std.specs.Bool.{then_some}
@@ -24,27 +24,26 @@ find_first p k (suc n) b low high hit miss =
     elim (le_cases k b low) [
       | inl e ↦
           let here : p k ≡ true = ap p e ∙ hit in
-          ap (λ t. cond t (Some k) (find p (numbers_from (k + 1) n))) here ∙ ap Some e
+          rw (here, e) refl
       | inr lt ↦
           let here : p k ≡ false = miss k (omega arith) lt in
           let rest : find p (numbers_from (k + 1) n) ≡ Some b =
           find_first p (k + 1) n b (omega arith) (omega arith) hit (λ u from below. miss u (omega arith) below) in
-          ap (λ t. cond t (Some k) (find p (numbers_from (k + 1) n))) here ∙ rest
+          rw here rest
     ]
 
 pub all_true : (q : ℕ → Bool) (k n : ℕ) → ((u : ℕ) → k ≤ u → u < k + n → q u ≡ true) → list_all q (numbers_from k n) ≡ true
 all_true q k zero h = refl
 all_true q k (suc n) h =
-    ap (λ t. t && list_all q (numbers_from (k + 1) n)) (h k (omega arith) (omega arith))
-    ∙ all_true q (k + 1) n (λ u from below. h u (omega arith) (omega arith))
+    rw (h k (omega arith) (omega arith)) (all_true q (k + 1) n (λ u from below. h u (omega arith) (omega arith)))
 
 pub one_false : (q : ℕ → Bool) (k n u : ℕ) → k ≤ u → u < k + n → q u ≡ false → list_all q (numbers_from k n) ≡ false
 one_false q k zero u low high miss = absurd (omega arith)
 one_false q k (suc n) u low high miss =
     elim (le_cases k u low) [
-      | inl e ↦ ap (λ t. t && list_all q (numbers_from (k + 1) n)) (ap q e ∙ miss)
+      | inl e ↦ rw (e, miss) refl
       | inr lt ↦
-          ap (λ t. q k && t) (one_false q (k + 1) n u (omega arith) (omega arith) miss) ∙ and-false (q k)
+          rw (one_false q (k + 1) n u (omega arith) (omega arith) miss) (and-false (q k))
     ]
 
 -- the first that none beats

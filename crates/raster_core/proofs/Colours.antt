@@ -26,7 +26,7 @@ bit_of : (c : Bool) (r l k : ℕ) → r % 2 ^ l ≡ bit c * (2 ^ l - 1) → k < 
 bit_of c r zero k h few = absurd (omega arith)
 bit_of c r (suc l) k h few =
     let one : suc l ≡ 1 + l = omega arith in
-    let parts : r % 2 ^ suc l ≡ (r / 2 ^ l % 2) * 2 ^ l + r % 2 ^ l = ap (λ n. r % 2 ^ n) one ∙ mod-pow-add r 1 l in
+    let parts : r % 2 ^ suc l ≡ (r / 2 ^ l % 2) * 2 ^ l + r % 2 ^ l = rw one (mod-pow-add r 1 l) in
     let twice : 2 ^ suc l ≡ 2 ^ l * 2 = pow-suc 2 l in
     let t = top_bit c (r / 2 ^ l % 2) (2 ^ l) (r % 2 ^ l) (omega arith) (mod-lt r (pow_pos l)) (sym parts ∙ (h ∙ ap (λ p. bit c * (p - 1)) twice)) in
     elim (cases_lt k l) [
@@ -46,7 +46,7 @@ part_left {row} {r} {x} {m} {l} {c} w is within h = record {
       let b : r / 2 ^ m / 2 ^ k % 2 ≡ bit c = bit_of c (r / 2 ^ m) l k h few in
       let size : w ≡ (w - suc (m + k)) + suc (m + k) = omega arith in
       let one : r / 2 ^ (m + k) % 2 ≡ bit (pixel_left row x (suc (m + k))) = rw (is, size) (past_bit row x (w - suc (m + k)) (m + k)) in
-      let two : r / 2 ^ m / 2 ^ k ≡ r / 2 ^ (m + k) = div-div-eq-div-mul r (2 ^ m) (2 ^ k) ∙ ap (λ z. r / z) (sym (pow-add 2 m k)) in
+      let two : r / 2 ^ m / 2 ^ k ≡ r / 2 ^ (m + k) = rw (div-div-eq-div-mul r (2 ^ m) (2 ^ k), ← pow-add 2 m k) refl in
       bit_same (pixel_left row x (suc (m + k))) c (sym one ∙ (ap (λ z. z % 2) (sym two) ∙ b));
 }
 
@@ -71,11 +71,11 @@ row_left {row} {x} {m} j h own k from few =
     elim (cases_lt k j) [
       | inl near ↦
           let e : (x + (j - suc k)) + suc k ≡ x + j = omega arith in
-          ap (λ z. pixel_left row z (suc k)) (sym e) ∙ (left_at row (x + (j - suc k)) (suc k) ∙ own (j - suc k) (omega arith))
+          rw (← e, left_at row (x + (j - suc k)) (suc k)) (own (j - suc k) (omega arith))
       | inr far ↦
           let after : m + j ≤ k = from far in
           let e : suc k ≡ suc (m + ((k - j) - m)) + j = omega arith in
-          ap (λ z. pixel_left row (x + j) z) e ∙ (left_along row x (suc (m + ((k - j) - m))) j ∙ h.any ((k - j) - m) (omega arith))
+          rw (e, left_along row x (suc (m + ((k - j) - m))) j) (h.any ((k - j) - m) (omega arith))
     ]
 
 -- ---- the ten pixels
@@ -124,7 +124,7 @@ nominal_adapts lines x n h = λ j few own. seen_at h (x + j + 2) (omega arith) (
 pub moved_adapts : {x m l : ℕ} {c : Bool} (lines : Lines) (t n : ℕ) → AreLeft lines.row x m l c → ((j : ℕ) → j < n → j ≤ t → m + j ≤ t) → t < m + l → Adapts lines (suc t) x n c
 moved_adapts {x} lines t n h from few = λ j within own.
     let test : (suc t == 0) ≡ false = grind (arith, nat_tests) in
-    ap (λ b. if b then pixel_at lines.above (x + j + 2) else pixel_left lines.row (x + j) (suc t)) test ∙ row_left j h own t (from j within) (omega arith)
+    rw test (row_left j h own t (from j within) (omega arith))
 
 -- ---- the pixels that a byte's contexts read
 

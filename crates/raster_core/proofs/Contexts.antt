@@ -49,9 +49,7 @@ second_part {lines} {x = x} r =
     let few = r.few in
     let place : x + (r.left + 2) ≡ (x + 2) + r.left = omega arith in
     let size : 17 ≡ ((14 - r.left) + 3) + r.left = omega arith in
-    ap (λ z. z % 8) (ap (λ z. z / 2 ^ 7) r.second_is ∙ shifted_div (before lines.second (x + (r.left + 2)) 17) r.left 0 r.few)
-    ∙ (ap (λ k. before lines.second (x + (r.left + 2)) 17 / 2 ^ k % 8) (add-zero r.left)
-    ∙ part_of lines.second (x + 2) (14 - r.left) 3 r.left (ap (λ z. before lines.second z 17) place ∙ ap (λ k. before lines.second ((x + 2) + r.left) k) size))
+    rw (r.second_is, shifted_div (before lines.second (x + (r.left + 2)) 17) r.left 0 r.few, add-zero r.left) (part_of lines.second (x + 2) (14 - r.left) 3 r.left (ap (λ z. before lines.second z 17) place ∙ ap (λ k. before lines.second ((x + 2) + r.left) k) size))
 
 -- the pixels up to the second one to the right, in the row above
 above_part : {lines : Lines} {offset second above past x : ℕ} (l : ℕ) → AreAt lines offset second above past x → l ≤ 6 → above / 2 ^ 7 % 2 ^ l ≡ before lines.above (x + 3) l
@@ -59,9 +57,7 @@ above_part {lines} {x = x} l r h =
     let few = r.few in
     let place : x + (r.left + 3) ≡ (x + 3) + r.left = omega arith in
     let size : 18 ≡ (((18 - l) - r.left) + l) + r.left = omega arith in
-    ap (λ z. z % 2 ^ l) (ap (λ z. z / 2 ^ 7) r.above_is ∙ shifted_div (before lines.above (x + (r.left + 3)) 18) r.left 0 r.few)
-    ∙ (ap (λ k. before lines.above (x + (r.left + 3)) 18 / 2 ^ k % 2 ^ l) (add-zero r.left)
-    ∙ part_of lines.above (x + 3) ((18 - l) - r.left) l r.left (ap (λ z. before lines.above z 18) place ∙ ap (λ k. before lines.above ((x + 3) + r.left) k) size))
+    rw (r.above_is, shifted_div (before lines.above (x + (r.left + 3)) 18) r.left 0 r.few, add-zero r.left) (part_of lines.above (x + 3) ((18 - l) - r.left) l r.left (ap (λ z. before lines.above z 18) place ∙ ap (λ k. before lines.above ((x + 3) + r.left) k) size))
 
 -- those up to the next one
 above_next : {lines : Lines} {offset second above past x : ℕ} (l : ℕ) → AreAt lines offset second above past x → l ≤ 5 → above / 2 ^ 8 % 2 ^ l ≡ before lines.above (x + 2) l
@@ -69,15 +65,14 @@ above_next {lines} {x = x} l r h =
     let few = r.few in
     let place : x + (r.left + 3) ≡ (x + 2) + (r.left + 1) = omega arith in
     let size : 18 ≡ (((17 - l) - r.left) + l) + (r.left + 1) = omega arith in
-    ap (λ z. z % 2 ^ l) (ap (λ z. z / 2 ^ 8) r.above_is ∙ shifted_div (before lines.above (x + (r.left + 3)) 18) r.left 1 r.few)
-    ∙ part_of lines.above (x + 2) ((17 - l) - r.left) l (r.left + 1) (ap (λ z. before lines.above z 18) place ∙ ap (λ k. before lines.above ((x + 2) + (r.left + 1)) k) size)
+    rw (r.above_is, shifted_div (before lines.above (x + (r.left + 3)) 18) r.left 1 r.few) (part_of lines.above (x + 2) ((17 - l) - r.left) l (r.left + 1) (ap (λ z. before lines.above z 18) place ∙ ap (λ k. before lines.above ((x + 2) + (r.left + 1)) k) size))
 
 -- ---- the adaptive pixel
 
 pub adaptive_moved : {lines : Lines} {second above past x t : ℕ} → AreAt lines (suc t) second above past x → t < 127 → past / 2 ^ t % 2 ≡ bit (adaptive lines (suc t) x)
 adaptive_moved {lines} {past = past} {x} {t} r h =
     let size : 128 ≡ (127 - t) + suc t = omega arith in
-    let is : past ≡ before lines.row x ((127 - t) + suc t) = r.past_is ∙ ap (λ k. before lines.row x k) size in
+    let is : past ≡ before lines.row x ((127 - t) + suc t) = rw (r.past_is, size) refl in
     let test : (suc t == 0) ≡ false = grind (arith, nat_tests) in
     rw is (past_bit lines.row x (127 - t) t ∙ ap (λ b. bit (if b then pixel_at lines.above (x + 2) else pixel_left lines.row x (suc t))) (sym test))
 
@@ -86,7 +81,7 @@ adaptive_moved {lines} {past = past} {x} {t} r h =
 three_of : (row : List Bool) (x : ℕ) → before row (x + 2) 3 ≡ bit (pixel_left row x 1) * 4 + bit (pixel_at row x) * 2 + bit (pixel_at row (x + 1))
 three_of row x =
     let e : x + 2 ≡ (x + 1) + 1 = omega arith in
-    let l1 : pixel_left row (x + 2) 1 ≡ pixel_at row (x + 1) = ap (λ z. pixel_left row z 1) e ∙ left_at row (x + 1) 1 in
+    let l1 : pixel_left row (x + 2) 1 ≡ pixel_at row (x + 1) = rw e (left_at row (x + 1) 1) in
     let l2 = left_at row x 2 in
     let l3 = left_along row x 1 2 in
     before_far row (x + 2) 2 ∙ rw (before_far row (x + 2) 1, before_far row (x + 2) 0, before_zero row (x + 2), l1, l2, l3) (omega arith)
@@ -109,19 +104,19 @@ row_two {lines} {offset} {past = past} {x} r = low_part lines.row x offset 2 r.p
 row_four : {lines : Lines} {offset second above past x : ℕ} → AreAt lines offset second above past x →
     past % 16 ≡ bit (pixel_left lines.row x 4) * 8 + bit (pixel_left lines.row x 3) * 4 + (bit (pixel_left lines.row x 2) * 2 + bit (pixel_left lines.row x 1))
 row_four {lines} {offset} {past = past} {x} r =
-    low_part lines.row x offset 4 r.past_is (omega arith) ∙ (four_before lines.row x ∙ ap (λ z. bit (pixel_left lines.row x 4) * 8 + bit (pixel_left lines.row x 3) * 4 + z) (two_before lines.row x))
+    rw (low_part lines.row x offset 4 r.past_is (omega arith), four_before lines.row x, two_before lines.row x) refl
 
 above_four_of : (row : List Bool) (x : ℕ) → before row (x + 2) 4 ≡ bit (pixel_left row x 2) * 8 + (bit (pixel_left row x 1) * 4 + bit (pixel_at row x) * 2 + bit (pixel_at row (x + 1)))
-above_four_of row x = four_of row x ∙ ap (λ z. bit (pixel_left row x 2) * 8 + z) (three_of row x)
+above_four_of row x = rw (four_of row x, three_of row x) refl
 
 above_five_of : (row : List Bool) (x : ℕ) → before row (x + 2) 5 ≡ bit (pixel_left row x 3) * 16 + (bit (pixel_left row x 2) * 8 + (bit (pixel_left row x 1) * 4 + bit (pixel_at row x) * 2 + bit (pixel_at row (x + 1))))
-above_five_of row x = five_of row x ∙ ap (λ z. bit (pixel_left row x 3) * 16 + z) (above_four_of row x)
+above_five_of row x = rw (five_of row x, above_four_of row x) refl
 
 -- one pixel more to the right
 one_right : (row : List Bool) (x k : ℕ) → before row (x + 3) (suc k) ≡ 2 * before row (x + 2) k + bit (pixel_at row (x + 2))
 one_right row x k =
     let e : x + 3 ≡ suc (x + 2) = omega arith in
-    ap (λ z. before row z (suc k)) e ∙ before_suc row (x + 2) k
+    rw e (before_suc row (x + 2) k)
 
 pub three_line_moved : {lines : Lines} {offset second above past x : ℕ} → AreAt lines offset second above past x →
     second / 2 ^ 7 % 8 * 128 + above / 2 ^ 8 % 16 * 8 + bit (adaptive lines offset x) * 4 + past % 4 ≡ binary (three_line lines offset x)

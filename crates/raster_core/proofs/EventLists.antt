@@ -1,6 +1,5 @@
 -- Lists of a row's events.
-use Rattle.std.proofs.Common.{◌≡◌, ℕ, suc, ◌+◌, ◌-◌, ◌/◌, ◌^◌, ◌≤◌, Bool, false, [], ◌∷◌, ◌++◌, length, refl, sym, ◌∙◌, ap, arith}
-use Rattle.std.specs.Prelude.{map}
+use Rattle.std.proofs.Common.{◌≡◌, ℕ, suc, ◌+◌, ◌-◌, ◌/◌, ◌^◌, ◌≤◌, Bool, false, [], ◌∷◌, ◌++◌, length, refl, sym, ◌∙◌, arith}
 use Rattle.std.proofs.Math.Nat.{div-div-eq-div-mul}
 use Rattle.std.proofs.lemmas.List.{length-map, map-append}
 use Rattle.qm_core.specs.Place.{Event}
@@ -32,7 +31,7 @@ events_first template lines x n = refl
 
 pub events_append : (template : Template) (lines : Lines) (x m n : ℕ) → events_from template lines x (m + n) ≡ events_from template lines x m ++ events_from template lines (x + m) n
 unfolding events_from
-events_append template lines x m n = ap (map _) (numbers_cat x m n) ∙ map-append _ (numbers_from x m) (numbers_from (x + m) n)
+events_append template lines x m n = rw (numbers_cat x m n) (map-append _ (numbers_from x m) (numbers_from (x + m) n))
 
 pub length-events : (template : Template) (lines : Lines) (x n : ℕ) → length (events_from template lines x n) ≡ n
 unfolding events_from
@@ -41,24 +40,21 @@ length-events template lines x n = length-map (numbers_from x n) _ ∙ length-nu
 pub events_last : (template : Template) (lines : Lines) (x n cx : ℕ) (pixel : Bool) → cx ≡ context_by template lines (x + n) → pixel ≡ pixel_at lines.row (x + n) →
     events_from template lines x n ++ record { context = cx; pixel = pixel } ∷ [] ≡ events_from template lines x (n + 1)
 events_last template lines x n cx pixel c p =
-    ap (λ e. events_from template lines x n ++ e ∷ []) (event_is cx _ pixel _ c p)
-    ∙ sym (events_append template lines x n 1 ∙ ap (λ es. events_from template lines x n ++ es) (events_first template lines (x + n) 0 ∙ ap (λ es. event_by template lines (x + n) ∷ es) (events_none template lines ((x + n) + 1))))
+    rw (event_is cx _ pixel _ c p, ← events_none template lines ((x + n) + 1), ← events_first template lines (x + n) 0) (sym (events_append template lines x n 1))
 
 -- n events and those that are left of `all`
 pub events_rest : (template : Template) (lines : Lines) (x n all : ℕ) → n ≤ all → events_from template lines x n ++ events_from template lines (x + n) (all - n) ≡ events_from template lines x all
 events_rest template lines x n all h =
     let e : n + (all - n) ≡ all = omega arith in
-    sym (events_append template lines x n (all - n)) ∙ ap (events_from template lines x) e
+    rw (← events_append template lines x n (all - n), e) refl
 
 -- ---- lanes
 
 pub two_and_two : (lanes : ℕ) → lane_events lanes 2 ++ lane_events (lanes / 2 ^ 32) 2 ≡ lane_events lanes 4
-two_and_two lanes = ap (λ z. lane_events lanes 2 ++ lane_events z 2) (sym (div-div-eq-div-mul lanes 65536 65536))
+two_and_two lanes = rw (← div-div-eq-div-mul lanes 65536 65536) refl
 
 -- the first events of a row, and those that follow
 pub events_on : (t u : Template) (lines : Lines) (x m n k : ℕ) → u ≡ t → x ≡ m → m + n ≡ k → events_from t lines 0 m ++ events_from u lines x n ≡ events_from t lines 0 k
 events_on t u lines x m n k template place size =
     let e : x ≡ 0 + m = omega arith in
-    ap (λ v. events_from t lines 0 m ++ events_from v lines x n) template
-    ∙ (ap (λ y. events_from t lines 0 m ++ events_from t lines y n) e
-    ∙ (sym (events_append t lines 0 m n) ∙ ap (λ z. events_from t lines 0 z) size))
+    rw (template, e, ← events_append t lines 0 m n, size) refl

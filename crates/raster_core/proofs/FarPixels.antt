@@ -1,5 +1,5 @@
 -- A byte's moved adaptive pixels in a register.
-use Rattle.std.proofs.Common.{◌≡◌, ℕ, zero, suc, ◌+◌, ◌-◌, ◌*◌, ◌/◌, ◌%◌, ◌^◌, ◌<◌, ◌≤◌, Bool, List, sym, ◌∙◌, ap, arith}
+use Rattle.std.proofs.Common.{◌≡◌, ℕ, zero, suc, ◌+◌, ◌-◌, ◌*◌, ◌/◌, ◌%◌, ◌^◌, ◌<◌, ◌≤◌, Bool, List, sym, arith, refl}
 use Rattle.std.proofs.Math.Nat.{div-div-eq-div-mul}
 use Rattle.std.proofs.lemmas.Nat.{pow-add}
 use Rattle.raster_core.specs.Raster.{pixel_left}
@@ -20,7 +20,7 @@ low_bit f (suc (suc (suc (suc (suc (suc (suc zero))))))) h = omega arith
 low_bit f (suc (suc (suc (suc (suc (suc (suc (suc i)))))))) h = absurd (omega arith)
 
 shifted_twice : (a m n : ℕ) → a / 2 ^ m / 2 ^ n ≡ a / 2 ^ (m + n)
-shifted_twice a m n = div-div-eq-div-mul a (2 ^ m) (2 ^ n) ∙ ap (λ z. a / z) (sym (pow-add 2 m n))
+shifted_twice a m n = rw (div-div-eq-div-mul a (2 ^ m) (2 ^ n), ← pow-add 2 m n) refl
 
 -- all that they read lies before the byte
 pub far_before : (row : List Bool) (offset past x j : ℕ) → 8 ≤ offset → offset ≤ 127 → past ≡ before row x 128 → j < 8 →
@@ -30,25 +30,16 @@ far_before row offset past x j least most is few =
     let size : 128 ≡ (127 - m) + suc m = omega arith in
     let back : suc m ≡ offset - j = omega arith in
     let whole : (offset - j) + j ≡ offset = omega arith in
-    ap (λ z. z % 2) (byte_shifted (past / 2 ^ (offset - 8) % 256) j few)
-    ∙ (low_bit (past / 2 ^ (offset - 8)) (7 - j) (omega arith)
-    ∙ (ap (λ z. z % 2) (shifted_twice past (offset - 8) (7 - j))
-    ∙ (ap (λ z. z / 2 ^ m % 2) (is ∙ ap (λ k. before row x k) size)
-    ∙ (past_bit row x (127 - m) m
-    ∙ ap bit (ap (λ k. pixel_left row x k) back ∙ (sym (left_along row x (offset - j) j) ∙ ap (λ k. pixel_left row (x + j) k) whole))))))
+    rw (byte_shifted (past / 2 ^ (offset - 8) % 256) j few, low_bit (past / 2 ^ (offset - 8)) (7 - j) (omega arith), shifted_twice past (offset - 8) (7 - j), is, size, past_bit row x (127 - m) m, back, ← left_along row x (offset - j) j, whole) refl
 
 -- some of them lie in the byte
 pub far_within : (row : List Bool) (offset past byte x j : ℕ) → offset < 8 → past ≡ before row x 128 → byte ≡ before row (x + 8) 8 → j < 8 →
     (past % 256 * 256 + byte) / 2 ^ offset * 2 ^ j / 2 ^ 7 % 2 ≡ bit (pixel_left row (x + j) offset)
 far_within row offset past byte x j small is own few =
     let m : ℕ = offset + (7 - j) in
-    let low : past % 256 ≡ before row x 8 = ap (λ z. z % 256) is ∙ before_mod row x 120 8 in
-    let register : past % 256 * 256 + byte ≡ before row (x + 8) 16 = ap (λ z. z * 256 + byte) low ∙ (ap (λ z. before row x 8 * 256 + z) own ∙ sym (before_split row x 8 8)) in
+    let low : past % 256 ≡ before row x 8 = rw is (before_mod row x 120 8) in
+    let register : past % 256 * 256 + byte ≡ before row (x + 8) 16 = rw (low, own) (sym (before_split row x 8 8)) in
     let size : 16 ≡ (15 - m) + suc m = omega arith in
     let back : suc m ≡ offset + (8 - j) = omega arith in
     let place : x + 8 ≡ (x + j) + (8 - j) = omega arith in
-    ap (λ z. z % 2) (byte_shifted ((past % 256 * 256 + byte) / 2 ^ offset) j few)
-    ∙ (ap (λ z. z % 2) (shifted_twice (past % 256 * 256 + byte) offset (7 - j))
-    ∙ (ap (λ z. z / 2 ^ m % 2) (register ∙ ap (λ k. before row (x + 8) k) size)
-    ∙ (past_bit row (x + 8) (15 - m) m
-    ∙ ap bit (ap (λ k. pixel_left row (x + 8) k) back ∙ (ap (λ y. pixel_left row y (offset + (8 - j))) place ∙ left_along row (x + j) offset (8 - j))))))
+    rw (byte_shifted ((past % 256 * 256 + byte) / 2 ^ offset) j few, shifted_twice (past % 256 * 256 + byte) offset (7 - j), register, size, past_bit row (x + 8) (15 - m) m, back, place, left_along row (x + j) offset (8 - j)) refl

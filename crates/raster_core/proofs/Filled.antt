@@ -1,13 +1,12 @@
 -- Bytes of one colour, many in one step.
 use Rattle.std.proofs.Common.{◌≡◌, ℕ, zero, suc, ◌+◌, ◌-◌, ◌*◌, ◌/◌, ◌%◌, ◌^◌, ◌<◌, ◌≤◌, Bool, true, false, inl, inr, List, refl, sym, ◌∙◌, ap, arith, replicate}
-use Rattle.std.specs.Prelude.{slice_index}
 use Rattle.std.proofs.Math.Nat.{mod-eq_of_lt, div-one}
 use Rattle.std.proofs.lemmas.Nat.{pow_pos, pow-add, mod-mul-add}
 use Rattle.std.proofs.lemmas.Bool.{cases_lt}
 use Rattle.std.proofs.lemmas.List.{replicate-append-replicate}
 use Rattle.qm_core.specs.Place.{State, Event, after}
 use Rattle.qm_core.specs.Skipping.{IsRun}
-use Rattle.raster_core.specs.Raster.{pixel_at, pixel_left}
+use Rattle.raster_core.specs.Raster.{pixel_at}
 use Rattle.raster_core.specs.Lines.{Lines, Mode}
 use Rattle.raster_core.specs.Machine.Registers.{bit, before, past_bits}
 use Rattle.raster_core.specs.Machine.Uniform.{filled, AreFilled, StaysUniform}
@@ -24,11 +23,11 @@ filled_join colour bytes i n m a b j few =
       | inl near ↦ a j near
       | inr far ↦
           let e : (i + n) + (j - n) ≡ i + j = omega arith in
-          ap (slice_index bytes) (sym e) ∙ b (j - n) (omega arith)
+          rw (← e) (b (j - n) (omega arith))
     ]
 
 pub after_more : (s : State) (event : Event) (n m : ℕ) → after s (replicate (n + m) event) ≡ after (after s (replicate n event)) (replicate m event)
-after_more s event n m = ap (after s) (sym (replicate-append-replicate n m event)) ∙ after_append s (replicate n event) (replicate m event)
+after_more s event n m = rw (← replicate-append-replicate n m event) (after_append s (replicate n event) (replicate m event))
 
 pub run_join : (s : State) (event : Event) (n m : ℕ) → IsRun s event n → IsRun (after s (replicate n event)) event m → IsRun s event (n + m)
 run_join s event n m a b = record {
@@ -36,10 +35,9 @@ run_join s event n m a b = record {
     | inl near ↦ a.quiet k (omega arith)
     | inr far ↦
         let e : k ≡ n + (k - n) = omega arith in
-        ap (λ z. (after s (replicate z event)).place.doublings) e
-        ∙ (ap (λ t. t.place.doublings) (after_more s event n (k - n)) ∙ (b.quiet (k - n) (omega arith) ∙ a.quiet n (omega arith)))
+        rw (e, after_more s event n (k - n), b.quiet (k - n) (omega arith)) (a.quiet n (omega arith))
   ];
-  taught = ap (λ t. t.learned) (after_more s event n m) ∙ (b.taught ∙ a.taught);
+  taught = rw (after_more s event n m, b.taught) a.taught;
 }
 
 -- ---- pixels of a colour as a number
@@ -61,7 +59,7 @@ filled_mod true d l =
     let one : 2 ^ d ≡ (2 ^ d - 1) + 1 = let r = pow_pos d in omega arith in
     let parts : 1 * (2 ^ (d + l) - 1) ≡ (2 ^ d - 1) * 2 ^ l + (2 ^ l - 1) = ap (λ z. 1 * (z - 1)) (p ∙ ap (λ z. z * 2 ^ l) one) ∙ apart (2 ^ d - 1) (2 ^ l) q in
     let rest : 2 ^ l - 1 ≡ 1 * (2 ^ l - 1) = omega arith in
-    ap (λ z. z % 2 ^ l) parts ∙ (mod-mul-add (2 ^ d - 1) (2 ^ l) (2 ^ l - 1) (omega arith) ∙ rest)
+    rw (parts, mod-mul-add (2 ^ d - 1) (2 ^ l) (2 ^ l - 1) (omega arith)) rest
   where
     apart : (a b : ℕ) → 0 < b → 1 * ((a + 1) * b - 1) ≡ a * b + (b - 1)
     apart a b some = omega arith
@@ -69,7 +67,7 @@ filled_mod false d l =
     let q = pow_pos l in
     let none : 0 * (2 ^ (d + l) - 1) ≡ 0 = omega arith in
     let rest : 0 ≡ 0 * (2 ^ l - 1) = omega arith in
-    ap (λ z. z % 2 ^ l) none ∙ (mod-eq_of_lt q ∙ rest)
+    rw (none, mod-eq_of_lt q) rest
 
 -- ---- the pixels of bytes of a colour
 
@@ -100,9 +98,9 @@ left_filled : {colour : Bool} {row : List Bool} {y m l : ℕ} (k : ℕ) → befo
 left_filled {colour} {row} {y} {m} k h within = record {
   any = λ j few.
       let e : 0 + (m + j) ≡ m + j = omega arith in
-      let low : before row y k / 2 ^ 0 % 2 ^ k ≡ filled colour k = ap (λ z. z % 2 ^ k) (div-one (before row y k)) ∙ (mod-eq_of_lt (before_lt row y k) ∙ h) in
+      let low : before row y k / 2 ^ 0 % 2 ^ k ≡ filled colour k = rw (div-one (before row y k), mod-eq_of_lt (before_lt row y k)) h in
       let all : AreLeft row y 0 k colour = part_left k refl (omega arith) low in
-      ap (λ z. pixel_left row y (suc z)) (sym e) ∙ all.any (m + j) (omega arith);
+      rw (← e) (all.any (m + j) (omega arith));
 }
 
 -- the pixels before byte i have a colour, as far as contexts read them
@@ -146,4 +144,4 @@ pub register_filled : {colour : Bool} {row : List Bool} {register n : ℕ} (i : 
 register_filled {row = row} {n = n} i fill is all =
     let from : 8 * i + 8 ≡ 8 * (i + 1) = omega arith in
     let to : 8 * (i + 1) + 8 * n ≡ 8 * (i + n) + 8 = omega arith in
-    all ∙ (sym (past_filled 24 fill (rw from at (sym is ∙ all))) ∙ ap (λ y. before row y 24) to)
+    rw (all, ← past_filled 24 fill (rw from at (sym is ∙ all)), to) refl

@@ -1,5 +1,5 @@
 -- Bytes of one colour, many decoded in one step.
-use Rattle.std.proofs.Common.{◌≡◌, ℕ, ◌+◌, ◌-◌, ◌*◌, ◌<◌, ◌≤◌, Bool, false, inl, inr, List, ◌++◌, length, sym, ◌∙◌, ap, arith, subst, replicate}
+use Rattle.std.proofs.Common.{◌≡◌, ℕ, ◌+◌, ◌-◌, ◌*◌, ◌<◌, ◌≤◌, Bool, false, inl, inr, List, ◌++◌, length, sym, ◌∙◌, ap, arith, subst, replicate, refl}
 use Rattle.std.specs.Prelude.{slice_index}
 use Rattle.std.proofs.lemmas.Bool.{cases_lt}
 use Rattle.std.proofs.lemmas.List.{length-append, length-replicate}
@@ -10,7 +10,6 @@ use Rattle.qm_core.specs.Skipping.{IsRun}
 use Rattle.qm_core.specs.Decoder.{DecoderIsAt, DecoderState, has_stopped, decoder_state}
 use Rattle.qm_core.specs.declared.source.Pulled.{Pulled}
 use Rattle.qm_core.specs.declared.decoder.Decoder.{Decoder}
-use Rattle.raster_core.specs.Raster.{pixel_at}
 use Rattle.raster_core.specs.Machine.Registers.{bit, before, past_bits}
 use Rattle.raster_core.specs.Machine.Decoded.{RowAround, RowPart, BytesAt, with_row, PixelsSoFar, BytesAlong, SkipsFilledAlong, filled_run, plain_row, bytes_at}
 use Rattle.raster_core.specs.Machine.Uniform.{filled, uniform_event, AreFilled, StaysUniform}
@@ -37,7 +36,7 @@ along_join {colour} {above} {second} {i} {at} {count} {d} {d'} {d''} {learned} n
           let same : record { place = t.place; learned = learned } ≡ t = ap (λ l. record { place = t.place; learned = l }) (sym one.0.taught) in
           let size : 8 * n + 64 ≡ 8 * (n + 8) = omega arith in
           let last : after t (replicate 64 event) ≡ after s (replicate (8 * (n + 8)) event) =
-          sym (after_more s event (8 * n) 64) ∙ ap (λ z. after s (replicate z event)) size in
+          rw (← after_more s event (8 * n) 64, size) refl in
           let still : t.place.doublings ≡ p.doublings = one.0.quiet (8 * n) (omega arith) in (
             subst (λ z. IsRun s event z) size (run_join s event (8 * n) 64 one.0 (subst (λ u. IsRun u event 64) same two.0)),
             subst (λ u. DecoderIsAt d'' u.place answers) (ap (λ u. after u (replicate 64 event)) same ∙ last) two.1,
@@ -50,7 +49,7 @@ run_filled : (colour : Bool) (done : List Bool) (i n : ℕ) → length done ≡ 
 run_filled colour done i n long j few =
     run_before (done ++ replicate (8 * n) colour) (8 * (i + j)) 8 colour (λ k less.
     let e : length done + (8 * j + k) ≡ 8 * (i + j) + k = omega arith in
-    ap (pixel_at (done ++ replicate (8 * n) colour)) (sym e) ∙ run_pixels done (8 * n) colour (8 * j + k) (omega arith))
+    rw (← e) (run_pixels done (8 * n) colour (8 * j + k) (omega arith)))
 
 -- the registers at a byte contain only pixels of a colour
 pub record AreOfColour (colour : Bool) (offset : ℕ) (b : BytesAt) : Type 0 where
@@ -74,15 +73,14 @@ bytes_skipped {a = a} {b = b} {colour = colour} n high left_is left_to some regi
       let rest = f.rest in
       let wide : length f.done ≡ 8 * i = omega arith in
       let row = f.done ++ replicate (8 * n) colour in
-      let long : length row ≡ 8 * i + 8 * n = length-append f.done (replicate (8 * n) colour) ∙ (ap (λ z. z + length (replicate (8 * n) colour)) wide ∙ ap (λ z. 8 * i + z) (length-replicate (8 * n) colour)) in
-      let near : before row (8 * i) (past_bits a.offset) ≡ filled colour (past_bits a.offset) = before_front f.done (replicate (8 * n) colour) (8 * i) (past_bits a.offset) (omega arith)
-      ∙ (ap (λ y. before f.done y (past_bits a.offset)) (sym wide) ∙ (sym f.so_far.past_is ∙ registers.past_is)) in
+      let long : length row ≡ 8 * i + 8 * n = rw (length-append f.done (replicate (8 * n) colour), wide, length-replicate (8 * n) colour) refl in
+      let near : before row (8 * i) (past_bits a.offset) ≡ filled colour (past_bits a.offset) = rw (before_front f.done (replicate (8 * n) colour) (8 * i) (past_bits a.offset) (omega arith), ← wide, ← f.so_far.past_is) registers.past_is in
       let above_filled = is_filled (packed_in a_is) skips.above_filled in
       let second_filled = is_filled (packed_in s_is) skips.second_filled in
       let stays : StaysUniform a.mode (with_row lines row) a.offset colour (8 * i) (8 * n) =
       filled_uniform a.mode high (record { row_is = near; above_is = sym f.above_is ∙ registers.above_is; second_is = sym f.second_is ∙ registers.second_is }) above_filled second_filled in
       let behind : b.past ≡ before row (length row) (past_bits a.offset) =
-      registers.past_is ∙ (sym (past_filled (past_bits a.offset) (record { byte = run_filled colour f.done i n wide }) near) ∙ ap (λ y. before row y (past_bits a.offset)) (sym long)) in
+      rw (registers.past_is, ← past_filled (past_bits a.offset) (record { byte = run_filled colour f.done i n wide }) near, ← long) refl in
       record {
         done = row;
         rest = omega arith;
@@ -92,7 +90,7 @@ bytes_skipped {a = a} {b = b} {colour = colour} n high left_is left_to some regi
           | inl near' ↦ painted.kept k near' ∙ (f.bytes k near' ∙ sym (before_front f.done (replicate (8 * n) colour) (8 * k + 8) 8 (omega arith)))
           | inr far ↦
               let e : i + (k - i) ≡ k = omega arith in
-              painted.filled k far few ∙ sym (ap (λ y. before row (8 * y + 8) 8) (sym e) ∙ run_filled colour f.done i n wide (k - i) (omega arith))
+              rw (painted.filled k far few, ← run_filled colour f.done i n wide (k - i) (omega arith), e) refl
         ];
         second_is = register_filled i second_filled f.second_is registers.second_is;
         above_is = register_filled i above_filled f.above_is registers.above_is;

@@ -15,7 +15,7 @@ use Rattle.raster_core.specs.declared.row_byte.RowByte.{RowByte}
 use Rattle.raster_core.proofs.Before.{before_suc, before_zero, some_past}
 use Rattle.raster_core.proofs.Causal.{before_front}
 use Rattle.raster_core.proofs.BytePixels.{at_registers, pixel_in, byte_shifted, bit_test, past_at}
-use Rattle.raster_core.proofs.EventLists.{context_by, event_by, event_is, events_none, events_first, events_append, events_last}
+use Rattle.raster_core.proofs.EventLists.{context_by, event_is, events_none, events_first, events_append, events_last}
 use Rattle.raster_core.proofs.LaneTables.{later_lane}
 use Rattle.raster_core.proofs.LanePixels.{lane_pixel, pixels_context}
 
@@ -30,7 +30,7 @@ unfolding bits
 length-bits zero v = refl
 length-bits (suc n) v =
     let e : n + 1 ≡ suc n = omega arith in
-    length-append (bits n (v / 2)) (nat_eq (v % 2) 1 ∷ []) ∙ (ap (λ k. k + 1) (length-bits n (v / 2)) ∙ e)
+    rw (length-append (bits n (v / 2)) (nat_eq (v % 2) 1 ∷ []), length-bits n (v / 2)) e
 
 bit_nat : (m : ℕ) → m < 2 → bit (nat_eq m 1) ≡ m
 bit_nat zero h = refl
@@ -48,7 +48,7 @@ bits_before (suc n) (suc k) v h =
     let rest : before (front ++ last ∷ []) n k ≡ v / 2 % 2 ^ k = before_front front (last ∷ []) n k (omega arith) ∙ bits_before n k (v / 2) (omega arith) in
     let own : bit last ≡ v % 2 = bit_nat (v % 2) (omega arith) in
     let e : k + 1 ≡ suc k = omega arith in
-    let parts : v % 2 ^ suc k ≡ (v / 2 ^ 1 % 2 ^ k) * 2 ^ 1 + v % 2 ^ 1 = ap (λ z. v % 2 ^ z) (sym e) ∙ mod-pow-add v k 1 in
+    let parts : v % 2 ^ suc k ≡ (v / 2 ^ 1 % 2 ^ k) * 2 ^ 1 + v % 2 ^ 1 = rw (← e) (mod-pow-add v k 1) in
     ap (λ row. before row (suc n) (suc k)) (bits_suc n v)
     ∙ (before_suc (front ++ last ∷ []) n k ∙ (rw (rest, seam, own) (omega arith)))
 
@@ -60,10 +60,7 @@ bits_early n zero k v =
 bits_early n (suc m) k v =
     let a : n + suc m ≡ suc (n + m) = omega arith in
     let long = length-bits (n + m) (v / 2) in
-    ap (λ z. before (bits z v) n k) a
-    ∙ (ap (λ row. before row n k) (bits_suc (n + m) v)
-    ∙ (before_front (bits (n + m) (v / 2)) (nat_eq (v % 2) 1 ∷ []) n k (omega arith)
-    ∙ (bits_early n m k (v / 2) ∙ ap (λ z. before (bits n z) n k) (div-div-eq-div-mul v 2 (2 ^ m) ∙ ap (λ z. v / z) (two_times m)))))
+    rw (a, bits_suc (n + m) v, before_front (bits (n + m) (v / 2)) (nat_eq (v % 2) 1 ∷ []) n k (omega arith), bits_early n m k (v / 2), div-div-eq-div-mul v 2 (2 ^ m), two_times m) refl
   where
     two_times : (m : ℕ) → 2 * 2 ^ m ≡ 2 ^ suc m
     two_times m = let p = pow-suc 2 m in omega arith
@@ -106,7 +103,7 @@ pixel_of_byte b j small few =
 has_later : (lanes : ℕ) (beside : ℕ → ℕ) (row n k : ℕ) → HasPixels lanes beside row n (suc k) → HasPixels (lanes / 2 ^ 16) beside row (n + 1) k
 has_later lanes beside row n k has = λ j few.
     let e : n + (1 + j) ≡ (n + 1) + j = omega arith in
-    later_lane lanes 1 j ∙ (has (1 + j) (omega arith) ∙ ap (λ m. 2 * beside m + own row m) e)
+    rw (later_lane lanes 1 j, has (1 + j) (omega arith), e) refl
 
 pub lanes_are : {beside : ℕ → ℕ} (b : RowByte) (lanes n k : ℕ) → b.byte < 256 → false ≡ b.around.template.two_line →
     AreBeside beside b.around.template.offset b.around.second b.around.above b.byte b.around.past →
@@ -120,12 +117,11 @@ lanes_are {beside} b lanes n (suc k) small three are has few =
     pixels_context false lanes n (omega arith) are one refl (holds b small) (holds_past b small)
     ∙ ap (λ t. context_at (record { two_line = t; typical = false }) (byte_lines b) b.around.template.offset (128 + n)) three in
     let pixel : nat_eq (lanes % 0x800 % 2) 1 ≡ pixel_at (byte_lines b).row (128 + n) =
-    ap (λ z. nat_eq z 1) (lane_pixel lanes beside b.around.past b.byte n (omega arith) (are.small n) one) ∙ pixel_of_byte b n small (omega arith) in
+    rw (lane_pixel lanes beside b.around.past b.byte n (omega arith) (are.small n) one) (pixel_of_byte b n small (omega arith)) in
     let place : 128 + (n + 1) ≡ (128 + n) + 1 = omega arith in
     let rest : lane_events (lanes / 2 ^ 16) k ≡ events_from b.around.template (byte_lines b) ((128 + n) + 1) k =
-    lanes_are b (lanes / 2 ^ 16) (n + 1) k small three are (has_later lanes beside row n k has) (omega arith) ∙ ap (λ x. events_from b.around.template (byte_lines b) x k) place in
-    ap (λ e. e ∷ lane_events (lanes / 2 ^ 16) k) (event_is _ _ _ _ context pixel)
-    ∙ (ap (λ es. event_by b.around.template (byte_lines b) (128 + n) ∷ es) rest ∙ sym (events_first b.around.template (byte_lines b) (128 + n) k))
+    rw (lanes_are b (lanes / 2 ^ 16) (n + 1) k small three are (has_later lanes beside row n k has) (omega arith), place) refl in
+    rw (event_is _ _ _ _ context pixel, rest) (sym (events_first b.around.template (byte_lines b) (128 + n) k))
 
 -- the pixels of a byte by lanes, of which `own` are the byte's bits
 lanes_at : {moved : Bool} {own : ℕ} (b : RowByte) (far lanes n : ℕ) → b.byte < 256 → IsMadeFor false moved b.around.template → own ≡ b.byte →
@@ -150,8 +146,7 @@ pub both_lanes : {moved : Bool} {own : ℕ} (b : RowByte) (far first last : ℕ)
     HasPixels last (near moved b.around.second b.around.above far) (b.around.past % 256 * 256 + own) 4 4 →
     lane_events first 4 ++ lane_events last 4 ≡ events_from b.around.template (byte_lines b) 128 8
 both_lanes b far first last small made is are has then =
-    ap (λ es. lane_events first 4 ++ es) (lanes_at b far last 4 small made is are then (omega arith))
-    ∙ first_lanes b far first small made is are has
+    rw (lanes_at b far last 4 small made is are then (omega arith)) (first_lanes b far first small made is are has)
 
 -- ---- a pixel
 
@@ -168,10 +163,7 @@ past_more {past} b j is next own =
     let w : ℕ = past_bits b.around.template.offset in
     let row : List Bool = (byte_lines b).row in
     let place : (128 + j) + 1 ≡ 128 + (j + 1) = omega arith in
-    next ∙ (ap (λ q. past % 2 ^ (w - 1) * 2 + bit q) own
-    ∙ (subst (λ v. past % 2 ^ (w - 1) * 2 + bit (pixel_at row (128 + j)) ≡ before row ((128 + j) + 1) v) (some_past b.around.template.offset)
-    (past_at row past (128 + j) (w - 1) (is ∙ ap (λ v. before row (128 + j) v) (sym (some_past b.around.template.offset))))
-    ∙ ap (λ x. before row x w) place))
+    rw (next, own, subst (λ v. past % 2 ^ (w - 1) * 2 + bit (pixel_at row (128 + j)) ≡ before row ((128 + j) + 1) v) (some_past b.around.template.offset) (past_at row past (128 + j) (w - 1) (is ∙ ap (λ v. before row (128 + j) v) (sym (some_past b.around.template.offset)))), place) refl
 
 -- pixel j in its context, after those before it
 pub pixel_next : {cx second above row past : ℕ} {two_line : Bool} (b : RowByte) (j : ℕ) → b.byte < 256 → j < 8 →

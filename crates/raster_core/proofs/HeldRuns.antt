@@ -1,5 +1,5 @@
 -- Pixels among pixels of their own colour, as events.
-use Rattle.std.proofs.Common.{◌≡◌, ℕ, zero, suc, ◌+◌, ◌*◌, ◌<◌, Bool, false, [], ◌∷◌, ◌++◌, sym, ◌∙◌, ap, arith, replicate}
+use Rattle.std.proofs.Common.{◌≡◌, ℕ, zero, suc, ◌+◌, ◌*◌, ◌<◌, Bool, false, sym, arith, replicate, refl}
 use Rattle.raster_core.specs.Raster.{pixel_at}
 use Rattle.raster_core.specs.Lines.{Lines, Mode}
 use Rattle.raster_core.specs.Machine.Registers.{bit, before, past_bits}
@@ -19,7 +19,7 @@ uniform_events template lines x (suc n) c stays own =
     let e : n + 1 ≡ suc n = omega arith in
     let shorter = uniform_events template lines x n c (λ j few before. stays j (omega arith) before) (λ k few. own k (omega arith)) in
     let last = events_last template lines x n (uniform_context c) c (sym (stays n (omega arith) (λ k few. own k (omega arith)))) (sym (own n (omega arith))) in
-    sym (one_more n (uniform_event c)) ∙ (ap (λ es. es ++ uniform_event c ∷ []) shorter ∙ (last ∙ ap (events_from template lines x) e))
+    rw (← one_more n (uniform_event c), shorter, last, e) refl
 
 pub byte_run : (b : RowByte) (c : Bool) → b.byte < 256 → b.byte ≡ bit c * 255 →
     ((mode : Mode) (lines : Lines) (x : ℕ) → b.around.second ≡ before lines.second (x + 16) 24 → b.around.above ≡ before lines.above (x + 16) 24 → b.around.past ≡ before lines.row x (past_bits b.around.template.offset) →

@@ -1,5 +1,5 @@
 -- The answers of a source and the bytes of a sink, in succession.
-use Rattle.std.proofs.Common.{◌≡◌, ℕ, suc, Bool, true, false, List, [], ◌∷◌, ◌++◌, length, refl, sym, ap, subst, Ok, Err}
+use Rattle.std.proofs.Common.{◌≡◌, ℕ, Bool, true, false, List, [], ◌∷◌, ◌++◌, length, refl, sym, ap, subst, Ok, Err}
 use Rattle.std.specs.Prelude.{Result, IsTrue}
 use Rattle.qm_core.specs.Source.{bytes_of, heard_of, IsClosed, Gives, before_fault}
 use Rattle.qm_core.specs.Sink.{Took}
@@ -11,20 +11,20 @@ use Rattle.qm_core.specs.declared.encoder.CoderFault.TheVariants.{Failed}
 
 pub bytes_of-append : (xs ys : List Pulled) → bytes_of (xs ++ ys) ≡ bytes_of xs ++ bytes_of ys
 bytes_of-append [] ys = refl
-bytes_of-append (Byte b ∷ xs) ys = ap (λ bytes. b ∷ bytes) (bytes_of-append xs ys)
+bytes_of-append (Byte b ∷ xs) ys = rw (bytes_of-append xs ys) refl
 bytes_of-append (End ∷ xs) ys = bytes_of-append xs ys
 bytes_of-append (Fault ∷ xs) ys = bytes_of-append xs ys
 
 pub length-bytes_of : (xs : List Pulled) → heard_of xs ≡ More → length (bytes_of xs) ≡ length xs
 length-bytes_of [] h = refl
-length-bytes_of (Byte b ∷ xs) h = ap (λ n. suc n) (length-bytes_of xs h)
+length-bytes_of (Byte b ∷ xs) h = rw (length-bytes_of xs h) refl
 length-bytes_of (End ∷ xs) h = cc
 length-bytes_of (Fault ∷ xs) h = cc
 
 -- nothing is behind a fault
 pub bytes_before : (xs : List Pulled) → IsClosed xs → bytes_of (before_fault xs) ≡ bytes_of xs
 bytes_before [] h = refl
-bytes_before (Byte b ∷ xs) h = ap (λ bytes. b ∷ bytes) (bytes_before xs h)
+bytes_before (Byte b ∷ xs) h = rw (bytes_before xs h) refl
 bytes_before (End ∷ xs) h = subst (λ r. bytes_of (before_fault r) ≡ bytes_of r) (sym h) refl
 bytes_before (Fault ∷ xs) h = sym (ap bytes_of h)
 

@@ -1,5 +1,5 @@
 -- Contexts from lanes are those of the coordinates.
-use Rattle.std.proofs.Common.{◌≡◌, ℕ, ◌+◌, ◌*◌, ◌/◌, ◌%◌, ◌^◌, ◌<◌, ◌≤◌, false, sym, ◌∙◌, ap, arith, subst}
+use Rattle.std.proofs.Common.{◌≡◌, ℕ, ◌+◌, ◌*◌, ◌/◌, ◌%◌, ◌^◌, ◌<◌, ◌≤◌, false, sym, arith, subst, refl}
 use Rattle.qm_core.specs.declared.source.Pulled.{Pulled}
 use Rattle.qm_core.specs.Decoder.{DecoderState}
 use Rattle.raster_core.specs.Lines.{Lines, context_at}
@@ -20,10 +20,10 @@ pub lane_context : (b : ByteAround) (lanes n past cx : ℕ) → AreLanesOf lanes
     (lines : Lines) (x : ℕ) → AreAt lines b.offset (b.second / 2 ^ 7 * 2 ^ n) (b.above / 2 ^ 6 * 2 ^ n) past x → cx ≡ context_at b.mode lines b.offset x
 lane_context b lanes n past cx has cx_is lines x r =
     let z : n + 0 ≡ n = omega arith in
-    let here : lane lanes 0 ≡ around b.second b.above n = has.around_is 0 (omega arith) ∙ ap (λ k. around b.second b.above k) z in
+    let here : lane lanes 0 ≡ around b.second b.above n = rw (has.around_is 0 (omega arith), z) refl in
     let p = parts lanes (b.second / 2 ^ 7 * 2 ^ n / 2 ^ 7 % 8) (b.above / 2 ^ 6 * 2 ^ n / 2 ^ 7 % 32) (omega arith) (omega arith) here in
     let e : cx ≡ context_at (record { two_line = false; typical = b.mode.typical }) lines 0 x =
-    cx_is ∙ (ap (λ z. z + past % 4) p ∙ three_line_nominal (subst (λ o. AreAt lines o (b.second / 2 ^ 7 * 2 ^ n) (b.above / 2 ^ 6 * 2 ^ n) past x) has.nominal r)) in
+    rw (cx_is, p) (three_line_nominal (subst (λ o. AreAt lines o (b.second / 2 ^ 7 * 2 ^ n) (b.above / 2 ^ 6 * 2 ^ n) past x) has.nominal r)) in
     subst (λ o. cx ≡ context_at b.mode lines o x) (sym has.nominal) (subst (λ t. cx ≡ context_at (record { two_line = t; typical = b.mode.typical }) lines 0 x) (sym has.three_line) e)
 
 -- pixels after pixels
@@ -41,7 +41,7 @@ later_lanes {lanes} {b} {n} i k h = record {
   within = let w = h.within in omega arith;
   around_is = λ j few.
       let e : n + (i + j) ≡ (n + i) + j = omega arith in
-      later_lane lanes i j ∙ (h.around_is (i + j) (omega arith) ∙ ap (λ m. around b.second b.above m) e);
+      rw (later_lane lanes i j, h.around_is (i + j) (omega arith), e) refl;
 }
 
 pub more_then : {S : Type 0} {pull : S → Pulled → S → Type 0} {lanes p i p' k p'' : ℕ} {old mid to : DecoderState S} →

@@ -5,7 +5,7 @@ use Rattle.std.proofs.lemmas.Bool.Decides.{nat_tests}
 use Rattle.raster_core.specs.Raster.{pixel_at, pixel_left}
 use Rattle.raster_core.specs.Lines.{Lines, adaptive, context_at}
 use Rattle.raster_core.specs.Machine.Registers.{AreAt, before, bit, past_bits}
-use Rattle.raster_core.specs.Machine.Lanes.{lane, around, moved_around, near, own, HasFar, HasPixels}
+use Rattle.raster_core.specs.Machine.Lanes.{lane, near, own, HasFar, HasPixels}
 use Rattle.raster_core.specs.Machine.Registers.{ByteAt}
 use Rattle.raster_core.specs.Machine.Lanes.{AreBeside}
 use Rattle.raster_core.proofs.Before.{before_split, before_div, before_part, low_part}
@@ -20,7 +20,7 @@ parts lanes v o hv ho h = (omega arith, omega arith)
 first_lane : (lanes : ℕ) (beside : ℕ → ℕ) (row n : ℕ) → HasPixels lanes beside row n 1 → lane lanes 0 ≡ 2 * beside n + own row n
 first_lane lanes beside row n has =
     let z : n + 0 ≡ n = omega arith in
-    has 0 (omega arith) ∙ ap (λ k. 2 * beside k + own row k) z
+    rw (has 0 (omega arith), z) refl
 
 lane_parts : (lanes : ℕ) (beside : ℕ → ℕ) (row n : ℕ) → beside n ≤ 1020 → HasPixels lanes beside row n 1 → (lanes % 0x800 / 2 ≡ beside n + own row n / 2) × (lanes % 0x800 % 2 ≡ own row n % 2)
 lane_parts lanes beside row n small has = parts lanes (beside n) (own row n) small (omega arith) (first_lane lanes beside row n has)
@@ -43,12 +43,12 @@ lane_pixel lanes beside past₀ byte n few small has = (lane_parts lanes beside 
 own_before : {past₀ byte past : ℕ} (row : List Bool) (offset x n : ℕ) → n < 8 → past₀ ≡ before row x (past_bits offset) → byte ≡ before row (x + 8) 8 → past ≡ before row (x + n) (past_bits offset) → own (past₀ % 256 * 256 + byte) n / 2 ≡ past % 4
 own_before {past₀} {byte} row offset x n few p₀ b p =
     let register : past₀ % 256 * 256 + byte ≡ before row (x + 8) 16 =
-    ap (λ z. z * 256 + byte) (low_part row x offset 8 p₀ (omega arith)) ∙ (ap (λ z. before row x 8 * 256 + z) b ∙ sym (before_split row x 8 8)) in
+    rw (low_part row x offset 8 p₀ (omega arith), b) (sym (before_split row x 8 8)) in
     let place : x + 8 ≡ ((x + n) + 1) + (7 - n) = omega arith in
     let size : 16 ≡ ((6 + n) + 3) + (7 - n) = omega arith in
     let three : own (past₀ % 256 * 256 + byte) n ≡ before row ((x + n) + 1) 3 =
-    ap (λ z. z % 8) (byte_shifted (past₀ % 256 * 256 + byte) n few) ∙ (ap (λ z. z / 2 ^ (7 - n) % 8) (register ∙ (ap (λ y. before row y 16) place ∙ ap (λ k. before row (((x + n) + 1) + (7 - n)) k) size)) ∙ before_part row ((x + n) + 1) (6 + n) 3 (7 - n)) in
-    ap (λ z. z / 2) three ∙ (before_div row (x + n) 2 1 ∙ sym (low_part row (x + n) offset 2 p (omega arith)))
+    rw (byte_shifted (past₀ % 256 * 256 + byte) n few, register, place, size) (before_part row ((x + n) + 1) (6 + n) 3 (7 - n)) in
+    rw (three, before_div row (x + n) 2 1) (sym (low_part row (x + n) offset 2 p (omega arith)))
 
 pub pixels_context : {beside : ℕ → ℕ} {offset second above past₀ byte cx x : ℕ} {lines : Lines} (typical : Bool) (lanes n : ℕ) → n < 8 → AreBeside beside offset second above byte past₀ → HasPixels lanes beside (past₀ % 256 * 256 + byte) n 1 → cx ≡ lanes % 0x800 / 2 →
     ByteAt lines second above byte x → past₀ ≡ before lines.row x (past_bits offset) →
@@ -63,8 +63,7 @@ beside_nominal far second above byte past₀ = record {
   small = λ j. omega arith;
   contexts = λ typical lines x j few b p₀.
       let past = before lines.row (x + j) 64 in
-      ap (λ z. around second above j + z) (own_before lines.row 0 x j few p₀ b.byte_is refl)
-      ∙ three_line_nominal (at_registers j few b refl);
+      rw (own_before lines.row 0 x j few p₀ b.byte_is refl) (three_line_nominal (at_registers j few b refl));
 }
 
 pub beside_moved : (t far second above byte past₀ : ℕ) → HasFar far (suc t) past₀ byte → AreBeside (near true second above far) (suc t) second above byte past₀
@@ -76,7 +75,5 @@ beside_moved t far second above byte past₀ has = record {
       let test : (suc t == 0) ≡ false = grind (arith, nat_tests) in
       let adaptive_is : far * 2 ^ j / 2 ^ 7 % 2 ≡ bit (adaptive lines (suc t) (x + j)) =
       has lines.row x j p₀ b.byte_is few ∙ ap (λ v. bit (cond v (pixel_at lines.above ((x + j) + 2)) (pixel_left lines.row (x + j) (suc t)))) (sym test) in
-      ap (λ z. moved_around second above far j + z) (own_before lines.row (suc t) x j few p₀ b.byte_is refl)
-      ∙ (ap (λ z. second / 2 ^ 7 * 2 ^ j / 2 ^ 7 % 8 * 128 + above / 2 ^ 6 * 2 ^ j / 2 ^ 8 % 16 * 8 + z * 4 + past % 4) adaptive_is
-      ∙ three_line_moved r);
+      rw (own_before lines.row (suc t) x j few p₀ b.byte_is refl, adaptive_is) (three_line_moved r);
 }

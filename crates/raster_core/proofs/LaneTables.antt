@@ -1,5 +1,5 @@
 -- Lanes of 16 bits, and the tables that fill them.
-use Rattle.std.proofs.Common.{◌≡◌, ℕ, zero, suc, ◌+◌, ◌*◌, ◌/◌, ◌%◌, ◌^◌, ◌<◌, ◌≤◌, Bool, true, ◌&&◌, List, [], ◌∷◌, length, get_or, eqb, leb, arith, refl, sym, ◌∙◌, ap, add-zero, zero-add, Ok, Err}
+use Rattle.std.proofs.Common.{◌≡◌, ℕ, zero, suc, ◌+◌, ◌*◌, ◌/◌, ◌%◌, ◌^◌, ◌<◌, ◌≤◌, Bool, true, ◌&&◌, List, [], ◌∷◌, length, get_or, eqb, leb, arith, refl, ◌∙◌, ap, add-zero, zero-add, Ok, Err}
 use Rattle.std.specs.Prelude.{Result, IfOk, OnOk, OnErr, IfErr}
 use Rattle.std.proofs.lemmas.Bool.{eqb-true, leb-true, and_parts}
 use Rattle.std.proofs.Math.Nat.{div-div-eq-div-mul}
@@ -30,28 +30,25 @@ on_ok (Err e) f h = h
 next_lane : (c j : ℕ) → lane c (suc j) ≡ lane (c / 2 ^ 16) j
 next_lane c j =
     let e : 16 * suc j ≡ 16 + 16 * j = omega arith in
-    let p : 2 ^ (16 * suc j) ≡ 2 ^ 16 * 2 ^ (16 * j) = ap (λ k. 2 ^ k) e ∙ pow-add 2 16 (16 * j) in
-    ap (λ z. z % 2 ^ 16) (ap (λ z. c / z) p ∙ sym (div-div-eq-div-mul c (2 ^ 16) (2 ^ (16 * j))))
+    let p : 2 ^ (16 * suc j) ≡ 2 ^ 16 * 2 ^ (16 * j) = rw e (pow-add 2 16 (16 * j)) in
+    rw (p, ← div-div-eq-div-mul c (2 ^ 16) (2 ^ (16 * j))) refl
 
 pub later_lane : (lanes i j : ℕ) → lane (lanes / 2 ^ (16 * i)) j ≡ lane lanes (i + j)
 later_lane lanes i j =
     let e : 16 * (i + j) ≡ 16 * i + 16 * j = omega arith in
-    let p : 2 ^ (16 * (i + j)) ≡ 2 ^ (16 * i) * 2 ^ (16 * j) = ap (λ k. 2 ^ k) e ∙ pow-add 2 (16 * i) (16 * j) in
-    ap (λ z. z % 2 ^ 16) (div-div-eq-div-mul lanes (2 ^ (16 * i)) (2 ^ (16 * j)) ∙ ap (λ z. lanes / z) (sym p))
+    let p : 2 ^ (16 * (i + j)) ≡ 2 ^ (16 * i) * 2 ^ (16 * j) = rw e (pow-add 2 (16 * i) (16 * j)) in
+    rw (div-div-eq-div-mul lanes (2 ^ (16 * i)) (2 ^ (16 * j)), ← p) refl
 
 pub sum_lane : (a b j : ℕ) → ((i : ℕ) → i ≤ j → lane a i + lane b i < 2 ^ 16) → lane (a + b) j ≡ lane a j + lane b j
 sum_lane a b zero small = let s : a / 1 % 2 ^ 16 + b / 1 % 2 ^ 16 < 2 ^ 16 = small 0 (omega arith) in let e : (a + b) / 1 % 2 ^ 16 ≡ a / 1 % 2 ^ 16 + b / 1 % 2 ^ 16 = omega arith in e
 sum_lane a b (suc j) small =
     let s : a / 1 % 2 ^ 16 + b / 1 % 2 ^ 16 < 2 ^ 16 = small 0 (omega arith) in
     let e : (a + b) / 2 ^ 16 ≡ a / 2 ^ 16 + b / 2 ^ 16 = omega arith in
-    next_lane (a + b) j ∙ (ap (λ z. lane z j) e
-    ∙ (sum_lane (a / 2 ^ 16) (b / 2 ^ 16) j (λ i l. let t : lane a (suc i) + lane b (suc i) < 2 ^ 16 = small (suc i) (omega arith) in omega (arith, t, next_lane a i, next_lane b i))
-    ∙ (ap (λ z. z + lane (b / 2 ^ 16) j) (sym (next_lane a j)) ∙ ap (λ z. lane a (suc j) + z) (sym (next_lane b j)))))
+    rw (next_lane (a + b) j, e, sum_lane (a / 2 ^ 16) (b / 2 ^ 16) j (λ i l. let t : lane a (suc i) + lane b (suc i) < 2 ^ 16 = small (suc i) (omega arith) in omega (arith, t, next_lane a i, next_lane b i)), ← next_lane a j, ← next_lane b j) refl
 
 pub sum_is : (a b : ℕ) (f g : ℕ → ℕ) (j : ℕ) → j < 4 → ((i : ℕ) → i < 4 → lane a i ≡ f i) → ((i : ℕ) → i < 4 → lane b i ≡ g i) → ((i : ℕ) → i < 4 → f i + g i < 2 ^ 16) → lane (a + b) j ≡ f j + g j
 sum_is a b f g j few fa gb small =
-    sum_lane a b j (λ i l. let k : i < 4 = omega arith in let s = small i k in let p : lane a i ≡ f i = fa i k in let q : lane b i ≡ g i = gb i k in rw (p, q) s)
-    ∙ (ap (λ z. z + lane b j) (fa j few) ∙ ap (λ z. f j + z) (gb j few))
+    rw (sum_lane a b j (λ i l. let k : i < 4 = omega arith in let s = small i k in let p : lane a i ≡ f i = fa i k in let q : lane b i ≡ g i = gb i k in rw (p, q) s), fa j few, gb j few) refl
 
 -- ---- the tables
 
@@ -166,7 +163,7 @@ pub first_pixels_are : (s a r j : ℕ) → j < 4 → 2 * (second_lane (s / 2 ^ 1
 first_pixels_are s a r j h = let z : 0 + j ≡ j = omega arith in rw (z, first_second s j h, first_above a j h, first_row r j h) refl
 
 pub last_around_is : (s a j : ℕ) → j < 4 → second_lane (s / 2 ^ 7 % 64) j + above_lane (a / 2 ^ 6 % 256) j ≡ around s a (4 + j)
-last_around_is s a j h = ap (λ z. z * 128 + above_lane (a / 2 ^ 6 % 256) j) (last_second s j h) ∙ ap (λ z. s / 2 ^ 7 * 2 ^ (4 + j) / 2 ^ 7 % 8 * 128 + z * 4) (last_above a j h)
+last_around_is s a j h = rw (last_second s j h, last_above a j h) refl
 
 pub last_pixels_are : (s a r j : ℕ) → j < 4 → 2 * (second_lane (s / 2 ^ 7 % 64) j + above_lane (a / 2 ^ 6 % 256) j) + row_lane (r % 64) j ≡ 2 * around s a (4 + j) + own r (4 + j)
 last_pixels_are s a r j h = rw (last_second s j h, last_above a j h, last_row r j h) refl

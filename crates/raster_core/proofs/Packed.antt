@@ -26,7 +26,7 @@ binary_before row x zero = sym (before_zero row (x + 0))
 binary_before row x (suc n) =
     let long : length (map (pixel_at row) (numbers_from (x + 1) n)) ≡ n = length-map (numbers_from (x + 1) n) (pixel_at row) ∙ length-numbers (x + 1) n in
     let e : (x + 1) + n ≡ x + suc n = omega arith in
-    let rest : binary (map (pixel_at row) (numbers_from (x + 1) n)) ≡ before row (x + suc n) n = binary_before row (x + 1) n ∙ ap (λ z. before row z n) e in
+    let rest : binary (map (pixel_at row) (numbers_from (x + 1) n)) ≡ before row (x + suc n) n = rw (binary_before row (x + 1) n, e) refl in
     binary_bit (pixel_at row x) (map (pixel_at row) (numbers_from (x + 1) n))
     ∙ (rw (long, rest, ← left_at row x (suc n)) (sym (before_far row (x + suc n) n)))
 
@@ -47,7 +47,7 @@ packed_byte row i =
     elim (cases_lt i (row_bytes (length row))) [
       | inl inside ↦
           get_or-numbers (λ k. binary (map (pixel_at row) (numbers_from (8 * k) 8))) 0 (row_bytes (length row)) i 0 inside
-          ∙ (let e : 0 + i ≡ i = omega arith in ap (λ k. binary (map (pixel_at row) (numbers_from (8 * k) 8))) e ∙ binary_before row (8 * i) 8)
+          ∙ (let e : 0 + i ≡ i = omega arith in rw e (binary_before row (8 * i) 8))
       | inr outside ↦
           let far : length (packed_row row) ≤ i = omega (arith, packed-length row) in
           let white : length row ≤ 8 * i = omega arith in
@@ -72,7 +72,7 @@ first_byte row = sym (before_split row 0 16 8 ∙ rw (before_none row 16) (omega
 
 pub byte_in : {register : ℕ} (row : List Bool) (i : ℕ) → register ≡ before row (8 * i + 8) 24 → register % 65536 * 256 + before row (8 * (i + 1) + 8) 8 ≡ before row (8 * (i + 1) + 8) 24
 byte_in {register} row i h =
-    let low : register % 65536 ≡ before row (8 * i + 8) 16 = ap (λ r. r % 65536) h ∙ before_mod row (8 * i + 8) 8 16 in
+    let low : register % 65536 ≡ before row (8 * i + 8) 16 = rw h (before_mod row (8 * i + 8) 8 16) in
     let e : (8 * i + 8) + 8 ≡ 8 * (i + 1) + 8 = omega arith in
     let s : before row (8 * (i + 1) + 8) 24 ≡ before row (8 * i + 8) 16 * 256 + before row (8 * (i + 1) + 8) 8 =
     subst (λ z. before row z 24 ≡ before row (8 * i + 8) 16 * 256 + before row z 8) e (before_split row (8 * i + 8) 16 8) in

@@ -26,11 +26,7 @@ binary_is p a (suc n) =
     let both : word p a (1 + n) ≡ word p a 1 * 2 ^ n + word p (a + 1) n = word_cat p a 1 n in
     let s : 1 + n ≡ suc n = omega arith in
     let one : bit (p a) ≡ word p a 1 = sym (ap (λ k. 0 * 2 + bit (p k)) (add-zero a) ∙ start (bit (p a))) in
-    binary_bit (p a) (map p (numbers_from (a + 1) n))
-    ∙ ap (λ k. bit (p a) * 2 ^ k + binary (map p (numbers_from (a + 1) n))) (length-map (numbers_from (a + 1) n) p ∙ length-numbers (a + 1) n)
-    ∙ ap (λ x. bit (p a) * 2 ^ n + x) (binary_is p (a + 1) n)
-    ∙ ap (λ x. x * 2 ^ n + word p (a + 1) n) one
-    ∙ sym both ∙ ap (word p a) s
+    rw (binary_bit (p a) (map p (numbers_from (a + 1) n)), length-map (numbers_from (a + 1) n) p, length-numbers (a + 1) n, binary_is p (a + 1) n, one, ← both, s) refl
   where
     start : (k : ℕ) → 0 * 2 + k ≡ k
     start k = omega arith
@@ -39,15 +35,13 @@ white : (p : ℕ → Bool) (a n : ℕ) → ((i : ℕ) → i < n → p (a + i) �
 unfolding word
 white p a zero h = refl
 white p a (suc n) h =
-    ap (λ x. x * 2 + bit (p (a + n))) (white p a n (λ i lt. h i (omega arith))) ∙ ap (λ b. 0 * 2 + bit b) (h n (omega arith))
+    rw (white p a n (λ i lt. h i (omega arith)), h n (omega arith)) refl
 
 -- a byte of the row is eight of its pixels
 pub byte_is : (line : List Bool) (j : ℕ) → get_or (packed_row line) j 0 ≡ word (pixel_at line) (8 * j) 8
 byte_is line j =
     elim (cases_lt j (row_bytes (length line))) [
-      | inl lt ↦ get_or-numbers (λ k. binary (map (pixel_at line) (numbers_from (8 * k) 8))) 0 (row_bytes (length line)) j 0 lt
-          ∙ ap (λ k. binary (map (pixel_at line) (numbers_from (8 * k) 8))) (zero-add j)
-          ∙ binary_is (pixel_at line) (8 * j) 8
+      | inl lt ↦ rw (get_or-numbers (λ k. binary (map (pixel_at line) (numbers_from (8 * k) 8))) 0 (row_bytes (length line)) j 0 lt, zero-add j) (binary_is (pixel_at line) (8 * j) 8)
       | inr past ↦
           get_or-eq_default (packed_row line) 0 (omega (arith, packed-length line, past))
           ∙ sym (white (pixel_at line) (8 * j) 8 (λ i lt. get_or-eq_default line false (omega arith)))
@@ -56,11 +50,7 @@ byte_is line j =
 -- one byte more of a word
 pub one_byte : {w b : ℕ} (p : ℕ → Bool) (a k : ℕ) → k + 8 ≤ 64 → w ≡ word p a k → b ≡ word p (a + k) 8 → bit_or (w * 2 ^ 8 % 2 ^ 64) b ≡ word p a (k + 8)
 one_byte {b = b} p a k h e f =
-    ap (λ x. bit_or (x * 2 ^ 8 % 2 ^ 64) b) e
-    ∙ ap (λ x. bit_or x b) (mod-eq_of_lt (fits (word p a k) k (word_lt p a k) h))
-    ∙ ap (bit_or (word p a k * 2 ^ 8)) f
-    ∙ or_shifted (word p a k) 8 (word p (a + k) 8) (word_lt p (a + k) 8)
-    ∙ sym (word_cat p a k 8)
+    rw (e, mod-eq_of_lt (fits (word p a k) k (word_lt p a k) h), f, or_shifted (word p a k) 8 (word p (a + k) 8) (word_lt p (a + k) 8)) (sym (word_cat p a k 8))
   where
     fits : (x n : ℕ) → x < 2 ^ n → n + 8 ≤ 64 → x * 2 ^ 8 < 2 ^ 64
     fits x n lt le =
@@ -85,7 +75,7 @@ pub led_white : (line : List Bool) (place : ℕ) → place < 2 → 0 ≡ word (l
 led_white line place h = sym (white (led line) (64 * place) 64 (λ i lt. before (64 * place + i) (omega arith)))
   where
     before : (x : ℕ) → x < 128 → led line x ≡ false
-    before x lt = ap (λ b. if b then false else pixel_at line (x - 128)) (is_lt x 128 lt)
+    before x lt = rw (is_lt x 128 lt) refl
 
 pub nothing : (p : ℕ → Bool) (a : ℕ) → 0 ≡ word p a 0
 unfolding word
@@ -121,15 +111,13 @@ mask_part w a h k =
     let ones : word (is_within w) a (w - a) + 1 ≡ 2 ^ (w - a) = black (is_within w) a (w - a) (λ i lt. inside w (a + i) (omega arith)) in
     let none : word (is_within w) (a + (w - a)) (64 - (w - a)) ≡ 0 = white (is_within w) (a + (w - a)) (64 - (w - a)) (λ i lt. outside w (a + (w - a) + i) (omega arith)) in
     let n : (w - a) + (64 - (w - a)) ≡ 64 = omega arith in
-    let all : 2 ^ (w - a) * 2 ^ (64 - (w - a)) ≡ 2 ^ 64 = sym (pow-add 2 (w - a) (64 - (w - a))) ∙ ap (λ x. 2 ^ x) n in
+    let all : 2 ^ (w - a) * 2 ^ (64 - (w - a)) ≡ 2 ^ 64 = rw (← pow-add 2 (w - a) (64 - (w - a)), n) refl in
     let shl : (2 ^ 64 - 1) * 2 ^ (64 - (w - a)) % 2 ^ 64 ≡ 2 ^ 64 - 2 ^ (64 - (w - a)) = ones_shl 64 (64 - (w - a)) (omega arith) in
-    shl ∙ collected (2 ^ (w - a)) (2 ^ (64 - (w - a))) (word (is_within w) a (w - a)) (2 ^ 64) all ones
-    ∙ sym (ap (λ x. word (is_within w) a (w - a) * 2 ^ (64 - (w - a)) + x) none)
-    ∙ sym cat ∙ ap (word (is_within w) a) n
+    rw (shl, collected (2 ^ (w - a)) (2 ^ (64 - (w - a))) (word (is_within w) a (w - a)) (2 ^ 64) all ones, ← none, ← cat, n) refl
   where
     collected : (d s x m : ℕ) → d * s ≡ m → x + 1 ≡ d → m - s ≡ x * s + 0
     collected d s x m all e =
-        let both : (x + 1) * s ≡ m = ap (λ y. y * s) e ∙ all in
+        let both : (x + 1) * s ≡ m = rw e all in
         omega arith
 
 -- ---- one pixel of a byte

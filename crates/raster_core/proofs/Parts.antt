@@ -39,10 +39,10 @@ led_left row y x lag e =
 pub adaptive_left : (lines : Lines) (lag x : ℕ) → 1 ≤ lag → adaptive lines lag x ≡ pixel_left lines.row x lag
 adaptive_left lines lag x h =
     let test : (lag == 0) ≡ false = grind (arith, nat_tests) in
-    ap (λ b. if b then pixel_at lines.above (x + 2) else pixel_left lines.row x lag) test
+    rw test refl
 
 three : {a a' b b' c c' : Bool} → a ≡ a' → b ≡ b' → c ≡ c' → a && same b c ≡ (a' && same b' c')
-three {a} {a'} {b} {b'} {c} {c'} e f g = ap (λ x. x && same b c) e ∙ ap (λ x. a' && same x c) f ∙ ap (λ x. a' && same b' x) g
+three {a} {a'} {b} {b'} {c} {c'} e f g = rw (e, f, g) refl
 
 pub row_part : (lines : Lines) (width lag k n : ℕ) → 1 ≤ lag → lag ≤ 127 →
     agreed_from (pixels_from (led lines.row) (64 * k + 128)) (pixels_from (led lines.row) (64 * k + 128 - lag)) (pixels_from (is_within width) (64 * k)) n ≡ part_agreement lines width lag (64 * k) n
@@ -88,17 +88,13 @@ pub part_more : (lines : Lines) (width offset n k : ℕ) →
     part_agreement lines width offset 0 (n + k) ≡ part_agreement lines width offset 0 n + part_agreement lines width offset n k
 unfolding part_agreement
 part_more lines width offset n k =
-    count_cat (λ x. is_within width x && same (pixel_at lines.row x) (adaptive lines offset x)) 0 n k
-    ∙ ap (λ y. count_by (λ x. is_within width x && same (pixel_at lines.row x) (adaptive lines offset x)) (numbers_from 0 n)
-    + count_by (λ x. is_within width x && same (pixel_at lines.row x) (adaptive lines offset x)) (numbers_from y k)) (zero-add n)
+    rw (count_cat (λ x. is_within width x && same (pixel_at lines.row x) (adaptive lines offset x)) 0 n k, zero-add n) refl
 
 count_none : (f : ℕ → Bool) (a n : ℕ) → ((i : ℕ) → i < n → f (a + i) ≡ false) → count_by f (numbers_from a n) ≡ 0
 count_none f a zero h = refl
 count_none f a (suc n) h =
-    let first : f a ≡ false = ap f (sym (add-zero a)) ∙ h 0 (omega arith) in
-    sum_by-cons (λ x. cond (f x) 1 0) a (numbers_from (a + 1) n)
-    ∙ ap (λ t. cond t 1 0 + count_by f (numbers_from (a + 1) n)) first
-    ∙ ap (λ x. 0 + x) (count_none f (a + 1) n (λ i lt. ap f (shifted a i) ∙ h (i + 1) (omega arith)))
+    let first : f a ≡ false = rw (← add-zero a) (h 0 (omega arith)) in
+    rw (sum_by-cons (λ x. cond (f x) 1 0) a (numbers_from (a + 1) n), first, count_none f (a + 1) n (λ i lt. ap f (shifted a i) ∙ h (i + 1) (omega arith))) refl
 
 -- a word more of the row
 pub part_next : {y z p : ℕ} (lines : Lines) (width offset b : ℕ) → y ≡ part_agreement lines width offset 0 (64 * b) → z ≡ y + p →
@@ -106,7 +102,7 @@ pub part_next : {y z p : ℕ} (lines : Lines) (width offset b : ℕ) → y ≡ p
 part_next lines width offset b e f g =
     let n : 64 * b + 64 ≡ 64 * (b + 1) = omega arith in
     let h : part_agreement lines width offset 0 (64 * (b + 1)) ≡ part_agreement lines width offset 0 (64 * b) + part_agreement lines width offset (64 * b) 64 =
-    sym (ap (part_agreement lines width offset 0) n) ∙ part_more lines width offset (64 * b) 64 in
+    rw (← n) (part_more lines width offset (64 * b) 64) in
     omega arith
 
 -- the whole row
@@ -114,14 +110,7 @@ pub part_all : (lines : Lines) (width offset n : ℕ) → length lines.row ≡ w
     part_agreement lines width offset 0 n ≡ agreements offset lines
 unfolding part_agreement
 part_all lines width offset n e h =
-    ap (λ k. count_by f (numbers_from 0 k)) (whole n h)
-    ∙ count_cat f 0 width (n - width)
-    ∙ ap (λ x. x + count_by f (numbers_from (0 + width) (n - width)))
-    (count_same f g 0 0 width (λ i lt. ap (λ b. b && g (0 + i)) (is_lt (0 + i) width (omega arith))))
-    ∙ ap (λ x. count_by g (numbers_from 0 width) + x)
-    (count_none f (0 + width) (n - width) (λ i lt. ap (λ b. b && g (0 + width + i)) (is_not_lt (0 + width + i) width (omega arith))))
-    ∙ add-zero (count_by g (numbers_from 0 width))
-    ∙ ap (λ k. count_by g (numbers_from 0 k)) (sym e)
+    rw (whole n h, count_cat f 0 width (n - width), count_same f g 0 0 width (λ i lt. ap (λ b. b && g (0 + i)) (is_lt (0 + i) width (omega arith))), count_none f (0 + width) (n - width) (λ i lt. ap (λ b. b && g (0 + width + i)) (is_not_lt (0 + width + i) width (omega arith))), add-zero (count_by g (numbers_from 0 width)), ← e) refl
   where
     g : ℕ → Bool
     g = λ x. same (pixel_at lines.row x) (adaptive lines offset x)
@@ -150,5 +139,4 @@ one_pixel : (lines : Lines) (width offset x : ℕ) → x < width →
     part_agreement lines width offset x 1 ≡ cond (same (pixel_at lines.row x) (adaptive lines offset x)) 1 0
 unfolding part_agreement
 one_pixel lines width offset x h =
-    ap (λ b. 0 + cond (b && same (pixel_at lines.row x) (adaptive lines offset x)) 1 0) (is_lt x width h)
-    ∙ zero-add (cond (same (pixel_at lines.row x) (adaptive lines offset x)) 1 0)
+    rw (is_lt x width h) (zero-add (cond (same (pixel_at lines.row x) (adaptive lines offset x)) 1 0))

@@ -14,7 +14,7 @@ abbrev pub three : ℕ → List ℕ → List ℕ → List ℕ → Held
 three width current above second = record { width = width; current = current; above = above; second = second }
 
 pub same_rows : {c a s c' a' s' : List ℕ} (width : ℕ) → c ≡ c' → a ≡ a' → s ≡ s' → three width c a s ≡ three width c' a' s'
-same_rows {c} {a} {s} {c'} {a'} {s'} width e f g = ap (λ r. three width r a s) e ∙ ap (λ r. three width c' r s) f ∙ ap (λ r. three width c' a' r) g
+same_rows {c} {a} {s} {c'} {a'} {s'} width e f g = rw (e, f, g) refl
 
 -- bytes with another row in place of the one at p
 abbrev with_row : ℕ → ℕ → List ℕ → List ℕ → List ℕ
@@ -23,15 +23,12 @@ with_row n p bytes row = take (p * n) bytes ++ (row ++ drop n (drop (p * n) byte
 -- it is there
 put_here : (n p : ℕ) (bytes row : List ℕ) → p * n + n ≤ length bytes → length row ≡ n → row_placed n (with_row n p bytes row) p ≡ row
 put_here n p bytes row inside long =
-    ap (take n) (drop_at (take (p * n) bytes) (row ++ drop n (drop (p * n) bytes)) (p * n) (length-take-le (p * n) bytes (omega arith)))
-    ∙ take_at row (drop n (drop (p * n) bytes)) n long
+    rw (drop_at (take (p * n) bytes) (row ++ drop n (drop (p * n) bytes)) (p * n) (length-take-le (p * n) bytes (omega arith))) (take_at row (drop n (drop (p * n) bytes)) n long)
 
 -- a row before it stays
 put_before : (n p q : ℕ) (bytes row : List ℕ) → p * n + n ≤ length bytes → q * n + n ≤ p * n → row_placed n (with_row n p bytes row) q ≡ row_placed n bytes q
 put_before n p q bytes row inside before =
-    sym (drop-take (q * n) n (with_row n p bytes row))
-    ∙ ap (drop (q * n)) (take-put_mid_below (p * n) n bytes row (q * n + n) before (omega arith))
-    ∙ drop-take (q * n) n bytes
+    rw (← drop-take (q * n) n (with_row n p bytes row), take-put_mid_below (p * n) n bytes row (q * n + n) before (omega arith)) (drop-take (q * n) n bytes)
 
 -- a row behind it stays
 put_behind : (n p q : ℕ) (bytes row : List ℕ) → p * n + n ≤ length bytes → length row ≡ n → p * n + n ≤ q * n → row_placed n (with_row n p bytes row) q ≡ row_placed n bytes q
@@ -102,7 +99,7 @@ repeats {p} {q} {width} {start} {end} {to} bytes h small down long from until at
     let same : k ≡ n = omega arith in
     let q_small : q < 3 = subst (λ r. r < 3) (sym down) (next_small (next_place p) (next_small p small)) in
     let _within = inside p n small in
-    let row_is : take k (drop start bytes) ≡ row_placed n bytes p = ap (λ m. take m (drop start bytes)) same ∙ ap (λ m. take n (drop m bytes)) from in
+    let row_is : take k (drop start bytes) ≡ row_placed n bytes p = rw (same, from) refl in
     let above_is : row_placed n bytes p ≡ h.current = ap (λ r. row_placed n bytes r) (sym (ap next_place down ∙ next_last p small)) ∙ ap (λ w. w.above) turned_is in
     let wide : length (take k (drop start bytes)) ≡ n = length-take-le k (drop start bytes) (le_at (length-drop start bytes) (omega arith)) ∙ same in
     ap (rows_at q width) (new_is ∙ copied bytes start end to)
@@ -121,7 +118,7 @@ rows_cut {n} p width front row back long lf lr is_above is_second =
 pub row_next : (n q : ℕ) (a b : List ℕ) → length a ≡ n → row_placed n (a ++ b) (q + 1) ≡ row_placed n b q
 row_next n q a b la =
     let more : (q + 1) * n ≡ n + q * n = omega arith in
-    ap (λ k. take n (drop k (a ++ b))) more ∙ ap (take n) (sym (drop-drop (q * n) n (a ++ b)) ∙ ap (drop (q * n)) (drop_at a b n la))
+    rw (more, ← drop-drop (q * n) n (a ++ b), drop_at a b n la) refl
 
 -- a row of nothing in front
 none_of : (l : List ℕ) → length l ≡ 0 → l ≡ []

@@ -43,7 +43,7 @@ refused_later took refused from mid to xs ys t r =
     record {
       done = xs ++ r.done;
       left = r.left;
-      all = ap (λ zs. xs ++ zs) r.all ∙ sym (append_assoc xs r.done r.left);
+      all = rw (r.all) (sym (append_assoc xs r.done r.left));
       last = r.last;
       taken = Took-append took from mid r.last xs r.done t r.taken;
       then = r.then;
@@ -51,7 +51,7 @@ refused_later took refused from mid to xs ys t r =
 
 -- the state after some events, and then after others
 state_then : (s : State) (xs ys : List Event) (learned : List Estimate) → learned ≡ (after s xs).learned → after (record { place = (after s xs).place; learned = learned }) ys ≡ after s (xs ++ ys)
-state_then s xs ys learned taught = ap (λ l. after (record { place = (after s xs).place; learned = l }) ys) taught ∙ sym (after_append s xs ys)
+state_then s xs ys learned taught = rw taught (sym (after_append s xs ys))
 
 pub encodes_join : {S : Type 0} {old : SinkAt S} {mid new : EncoderState S} {s : State} {xs : List Event} (ys : List Event) → Encodes old s xs mid →
     ((p : Place) (given : List ℕ) → EncoderIsAt mid.encoder p given → Encodes (sink_at old.sink mid.out given) (record { place = p; learned = mid.learned }) ys new) → Encodes old s (xs ++ ys) new
@@ -62,7 +62,7 @@ encodes_join {S} {old} {mid} {new} {s} {xs} ys h next =
       more = h.more ++ k.more;
       taken = Took-append old.sink.took old.from mid.out new.out h.more k.more h.taken k.taken;
       codes = rw (← last, ← append_assoc old.pushed h.more k.more) k.codes;
-      taught = k.taught ∙ ap (λ t. t.learned) last;
+      taught = rw (k.taught, last) refl;
     }
 
 fails_later : {S : Type 0} {old : SinkAt S} {mid : EncoderState S} {new : S} {s : State} {xs : List Event} (ys : List Event) → Encodes old s xs mid →
@@ -73,7 +73,7 @@ fails_later {S} {old} {mid} {new} {s} {xs} ys h next =
     record {
       events = xs ++ k.events;
       rest = k.rest;
-      all_are = ap (λ zs. xs ++ zs) k.all_are ∙ sym (append_assoc xs k.events k.rest);
+      all_are = rw (k.all_are) (sym (append_assoc xs k.events k.rest));
       fails = record {
         more = h.more ++ k.fails.more;
         cut = refused_later old.sink.took old.sink.refused old.from mid.out new h.more k.fails.more h.taken k.fails.cut;
@@ -82,7 +82,7 @@ fails_later {S} {old} {mid} {new} {s} {xs} ys h next =
     }
 
 fails_first : {S : Type 0} {old : SinkAt S} {new : S} {s : State} {xs : List Event} (ys : List Event) → FailsIn old s xs new → FailsIn old s (xs ++ ys) new
-fails_first ys h = record { events = h.events; rest = h.rest ++ ys; all_are = ap (λ zs. zs ++ ys) h.all_are ∙ append_assoc h.events h.rest ys; fails = h.fails }
+fails_first ys h = record { events = h.events; rest = h.rest ++ ys; all_are = rw (h.all_are) (append_assoc h.events h.rest ys); fails = h.fails }
 
 -- ---- no event
 
@@ -187,10 +187,10 @@ pub puts_idle : {S : Type 0} {sink : Ghosts S} {a b c : Coder S} {xs : List Even
 puts_idle {sink = sink} {c = c} {xs} loan same h = puts_as (append-nil xs) (puts_join {ys = []} {result = Ok tt} h (record {
   lends = loan;
   count = let e = ap event_count same.encoder_is in omega arith;
-  same = ap sink.failed same.out_is;
+  same = rw (same.out_is) refl;
   stuck = λ _. (refl, same);
   goes = λ going. record {
-    fails = ap has_failed same.encoder_is ∙ going;
+    fails = rw (same.encoder_is) going;
     fault = λ e. absurd (no_err tt e);
     counted = tt;
     ok = λ p pushed at. record {

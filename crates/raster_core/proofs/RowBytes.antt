@@ -19,7 +19,7 @@ use Rattle.raster_core.proofs.Packed.{packed_byte, packed_is, byte_in, byte_out}
 pub register_in : {bytes : List ℕ} {register : ℕ} (row : List Bool) (i : ℕ) → bytes ≡ packed_row row → register ≡ before row (8 * i + 8) 24 →
     register % 65536 * 256 + slice_index bytes (i + 1) ≡ before row (8 * (i + 1) + 8) 24
 register_in {bytes} {register} row i h r =
-    let e : slice_index bytes (i + 1) ≡ before row (8 * (i + 1) + 8) 8 = ap (λ l. slice_index l (i + 1)) h ∙ packed_byte row (i + 1) in
+    let e : slice_index bytes (i + 1) ≡ before row (8 * (i + 1) + 8) 8 = rw h (packed_byte row (i + 1)) in
     rw e (byte_in row i r)
 
 set_bytes : (current : List ℕ) (byte i : ℕ) (done : List Bool) → i < length current → byte ≡ before done (8 * i + 8) 8 →
@@ -111,7 +111,7 @@ byte_ended {S} {pull} {a} {part} {second} {above} {n} {byte} {past'} {place} {to
       let i : ℕ = x / 8 in
       let shift : (8 - x % 8) - n ≡ 8 - (x % 8 + n) = omega arith in
       let here : byte ≡ before (done ++ m.pixels) (8 * i + 8) 8 =
-      byte_is ∙ (ap (λ z. past' % 256 * 2 ^ z % 256) shift ∙ byte_out (done ++ m.pixels) a.offset i (x % 8 + n) m.so_far.past_is (omega arith) (omega arith)) in
+      rw (byte_is, shift) (byte_out (done ++ m.pixels) a.offset i (x % 8 + n) m.so_far.past_is (omega arith) (omega arith)) in
       record {
         done = done ++ m.pixels;
         count = omega arith;

@@ -1,6 +1,6 @@
 -- A whole row's events: what is put for the bytes of a window is what the standard codes for its lines.
 use Rattle.std.proofs.Common.{◌≡◌, ℕ, zero, suc, ◌+◌, ◌-◌, ◌*◌, ◌/◌, ◌%◌, ◌<◌, ◌≤◌, Bool, true, false, List, [], ◌∷◌, ◌++◌, length, refl, sym, ◌∙◌, ap, arith, subst, Ok, Err}
-use Rattle.std.specs.Prelude.{Result, IsTrue, OnOk, nat_lt, ◌==◌, if◌then◌else◌}
+use Rattle.std.specs.Prelude.{Result, IsTrue, OnOk, ◌==◌, if◌then◌else◌}
 use Rattle.std.proofs.lemmas.Bool.Decides.{nat_tests}
 use Rattle.std.proofs.lemmas.List.{append-nil}
 use Rattle.qm_core.specs.Place.{Place, Event, same}
@@ -49,7 +49,7 @@ same_pixels {a} {b} p q = record {
 }
 
 same_left : {a b : List Bool} (x k : ℕ) → SamePixels a b → pixel_left a x k ≡ pixel_left b x k
-same_left x k h = ap (λ v. if nat_lt x k then false else v) (h.at (x - k))
+same_left x k h = rw (h.at (x - k)) refl
 
 -- two raster lines and the two above each have the same pixels
 record SameLines (p q : Lines) : Type 0 where
@@ -97,7 +97,7 @@ pub coded_are : (typical : Bool) (template : Template) (rows : Rows) (lines : Li
     coded_events (record { two_line = template.two_line; typical = typical }) template rows previous flag ≡ row_events (record { two_line = template.two_line; typical = typical }) lines template.offset previous flag
 unfolding coded_events
 coded_are typical template rows lines previous flag w =
-    ap (λ es. first_events (record { two_line = template.two_line; typical = typical }) previous flag ++ (if flag then [] else es)) (plain_are typical template rows w)
+    rw (plain_are typical template rows w) refl
 
 -- ---- a row has events
 
@@ -115,7 +115,7 @@ coded_some mode template rows previous flag h some = by mode.typical flag h
   where
     at_least : (n : ℕ) → 1 ≤ n → failed_answer (events_from template (lines_in rows) 0 n) ≡ Err Failed
     at_least zero h = absurd (omega arith)
-    at_least (suc n) h = ap failed_answer (events_first template (lines_in rows) 0 n)
+    at_least (suc n) h = rw (events_first template (lines_in rows) 0 n) refl
 
     by : (t f : Bool) → (IsTrue f → IsTrue t) → failed_answer (first_events (record { two_line = mode.two_line; typical = t }) previous flag ++ (if f then [] else plain_events template rows)) ≡ Err Failed
     by true f h = refl
@@ -163,7 +163,7 @@ pub put_or_failed : {S : Type 0} {sink : Ghosts S} {events : List Event} {c c' :
     FailsOnce {T = Unit {0}} sink.failed c.encoder.now e' c.out.now to (Ok tt)
 put_or_failed {S} {sink} {e' = e'} e_is to_is some h =
     let failed = failed_same e_is to_is some h in
-    let now : has_failed e' ≡ false = ap has_failed e_is ∙ going_on some h in (
+    let now : has_failed e' ≡ false = rw e_is (going_on some h) in (
       ((λ t. let f = failed t in (f.0, f.2)), (λ _ e. absurd (let bot : ⊥ = cc in bot)), (ap sink.failed to_is ∙ h.same), (λ _. tt)),
       (λ t. (failed t).1),
       ((λ t. absurd (not_both t now)), (λ e. absurd (let bot : ⊥ = cc in bot))),

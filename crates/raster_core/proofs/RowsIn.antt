@@ -5,7 +5,7 @@ use Rattle.std.proofs.Math.Nat.{mod-eq_of_lt}
 use Rattle.std.proofs.lemmas.List.{get_or-append-add}
 use Rattle.raster_core.specs.Raster.{pixel_at}
 use Rattle.raster_core.specs.Lines.{Lines, binary, two_line, three_line}
-use Rattle.raster_core.specs.Machine.Registers.{bit, before, past_bits, AreAt}
+use Rattle.raster_core.specs.Machine.Registers.{before, past_bits, AreAt}
 use Rattle.raster_core.specs.Machine.Registers.{ByteAt}
 use Rattle.raster_core.specs.Machine.Bytes.{bits, byte_lines, events_from, byte_events}
 use Rattle.raster_core.specs.Machine.Rows.{row_in, lines_in, RemembersOnly, StandsAt, StopsAt, IsByte, AreUniform, PassesRun, byte_range}
@@ -41,15 +41,14 @@ row_in_is : (bytes : List ℕ) (k : ℕ) → before (row_in bytes) (8 * k + 8) 8
 unfolding row_in
 row_in_is [] k =
     let none : slice_index [] k ≡ 0 = refl in
-    before_white [] (8 * k) 8 (omega arith) ∙ ap (λ z. z % 256) (sym none)
+    rw (before_white [] (8 * k) 8 (omega arith), ← none) refl
 row_in_is (b ∷ bytes) zero =
     let long = length-bits 8 b in
     before_front (bits 8 b) (row_in bytes) 8 8 (omega arith) ∙ bits_before 8 8 b (omega arith)
 row_in_is (b ∷ bytes) (suc k) =
     let long = length-bits 8 b in
     let e : 8 * suc k + 8 ≡ length (bits 8 b) + (8 * k + 8) = omega arith in
-    ap (λ x. before (bits 8 b ++ row_in bytes) x 8) e
-    ∙ (before_after (bits 8 b) (row_in bytes) (8 * k + 8) 8 (omega arith) ∙ row_in_is bytes k)
+    rw (e, before_after (bits 8 b) (row_in bytes) (8 * k + 8) 8 (omega arith)) (row_in_is bytes k)
 
 pub current_in : (rows : Rows) → IsIn (lines_in rows).row rows.current.now
 unfolding lines_in
@@ -75,7 +74,7 @@ pub next_read : {row : List Bool} {bytes : List ℕ} {register v : ℕ} (i : ℕ
     register % 65536 * 256 + v ≡ before row (8 * i + 16) 24
 next_read {row} {bytes} {register} {v} i is h at small =
     let e : 8 * (i + 1) + 8 ≡ 8 * i + 16 = omega arith in
-    ap (λ z. register % 65536 * 256 + z) (read_byte (i + 1) is at small) ∙ (byte_in row i h ∙ ap (λ x. before row x 24) e)
+    rw (read_byte (i + 1) is at small, byte_in row i h, e) refl
 
 -- ---- the events of a byte are those of the row
 
@@ -88,13 +87,9 @@ context_same {p} {q} {second} {above} {past} {x} {y} template a b = by template.
     by true zero h a b = sym (two_line_nominal a) ∙ two_line_nominal b
     by false zero h a b = sym (three_line_nominal a) ∙ three_line_nominal b
     by true (suc t) h a b =
-        sym (two_line_moved a)
-        ∙ (ap (λ z. above / 2 ^ 8 % 32 * 32 + z * 16 + past % 16) (sym (adaptive_moved a (omega arith)) ∙ adaptive_moved b (omega arith))
-        ∙ two_line_moved b)
+        rw (← two_line_moved a, ← adaptive_moved a (omega arith), adaptive_moved b (omega arith)) (two_line_moved b)
     by false (suc t) h a b =
-        sym (three_line_moved a)
-        ∙ (ap (λ z. second / 2 ^ 7 % 8 * 128 + above / 2 ^ 8 % 16 * 8 + z * 4 + past % 4) (sym (adaptive_moved a (omega arith)) ∙ adaptive_moved b (omega arith))
-        ∙ three_line_moved b)
+        rw (← three_line_moved a, ← adaptive_moved a (omega arith), adaptive_moved b (omega arith)) (three_line_moved b)
 
 record Same (b : RowByte) (lines : Lines) (i n : ℕ) : Type 0 where
   past : before (byte_lines b).row (128 + n) (past_bits b.around.template.offset) ≡ before lines.row (8 * i + n) (past_bits b.around.template.offset)
@@ -120,27 +115,20 @@ same_to b lines i (suc n) small at past few =
     bit_test _ _ (ap (λ z. z % 2) (byte_shifted b.byte n (omega arith)) ∙ pixel_in lines.row (8 * i) n at.byte_is (omega arith)) in
     let pixel : pixel_at own (128 + n) ≡ pixel_at lines.row (8 * i + n) = sym (pixel_of_byte b n small (omega arith)) ∙ there in
     let one_more : before own ((128 + n) + 1) (suc (w - 1)) ≡ before lines.row ((8 * i + n) + 1) (suc (w - 1)) =
-    sym (past_at own p (128 + n) (w - 1) (ap (λ v. before own (128 + n) v) (sym (some_past b.around.template.offset))))
-    ∙ (ap (λ q. p % 2 ^ (w - 1) * 2 + bit q) pixel
-    ∙ past_at lines.row p (8 * i + n) (w - 1) (m.past ∙ ap (λ v. before lines.row (8 * i + n) v) (sym (some_past b.around.template.offset)))) in
+    rw (← past_at own p (128 + n) (w - 1) (ap (λ v. before own (128 + n) v) (sym (some_past b.around.template.offset))), pixel) (past_at lines.row p (8 * i + n) (w - 1) (m.past ∙ ap (λ v. before lines.row (8 * i + n) v) (sym (some_past b.around.template.offset)))) in
     let context : context_by b.around.template (byte_lines b) (128 + n) ≡ context_by b.around.template lines (8 * i + n) =
     context_same b.around.template
     (at_registers n (omega arith) (holds b small) refl)
     (at_registers n (omega arith) at m.past) in
     record {
-      past = ap (λ x. before own x w) (sym near)
-          ∙ (ap (λ v. before own ((128 + n) + 1) v) (sym (some_past b.around.template.offset))
-          ∙ (one_more ∙ (ap (λ v. before lines.row ((8 * i + n) + 1) v) (some_past b.around.template.offset) ∙ ap (λ x. before lines.row x w) far)));
-      events = ap (λ k. events_from b.around.template (byte_lines b) 128 k) (sym one)
-          ∙ (sym (events_last b.around.template (byte_lines b) 128 n (context_by b.around.template lines (8 * i + n)) (pixel_at lines.row (8 * i + n)) (sym context) (sym pixel))
-          ∙ (ap (λ es. es ++ record { context = context_by b.around.template lines (8 * i + n); pixel = pixel_at lines.row (8 * i + n) } ∷ []) m.events
-          ∙ (events_last b.around.template lines (8 * i) n _ _ refl refl ∙ ap (λ k. events_from b.around.template lines (8 * i) k) one)));
+      past = rw (← near, ← some_past b.around.template.offset, one_more, some_past b.around.template.offset, far) refl;
+      events = rw (← one, ← events_last b.around.template (byte_lines b) 128 n (context_by b.around.template lines (8 * i + n)) (pixel_at lines.row (8 * i + n)) (sym context) (sym pixel), m.events, events_last b.around.template lines (8 * i) n _ _ refl refl, one) refl;
     }
 
 pub same_events : {b : RowByte} {template : Template} {lines : Lines} {i : ℕ} (n : ℕ) → b.byte < 256 → IsByte b template lines i → n ≤ 8 → byte_events b n ≡ events_from template lines (8 * i) n
 same_events {b} {lines = lines} {i} n small is few =
     let s = same_to b lines i n small is.at (is.past_is ∙ ap (λ t. before lines.row (8 * i) (past_bits t.offset)) (sym is.template_is)) few in
-    s.events ∙ ap (λ t. events_from t lines (8 * i) n) is.template_is
+    rw (s.events, is.template_is) refl
 
 -- ---- bytes of a colour
 
@@ -171,7 +159,7 @@ stands_on {a} {rows} {i} {n} h only uniform =
       template_is = refl;
       second_is = register_filled i (is_filled (second_in rows) uniform.second_filled) h.second_is only.second_is;
       above_is = register_filled i (is_filled (above_in rows) uniform.above_filled) h.above_is only.above_is;
-      past_is = only.past_is ∙ (sym (past_filled _ (is_filled (current_in rows) uniform.row_filled) (sym h.past_is ∙ only.past_is)) ∙ ap (λ x. before (lines_in rows).row x (past_bits a.template.offset)) to);
+      past_is = rw (only.past_is, ← past_filled _ (is_filled (current_in rows) uniform.row_filled) (sym h.past_is ∙ only.past_is), to) refl;
     }
 
 pub run_events : {a : Around} {rows : Rows} {i n : ℕ} {colour : Bool} → StandsAt a a.template (lines_in rows) i → RemembersOnly colour a → AreUniform colour rows i n →
@@ -194,7 +182,7 @@ byte_as {b} {lines = lines} {i} e h = subst (λ v. IsByte b v lines i) e h
 pub byte_on : {b : RowByte} {t u : Template} {lines : Lines} {i : ℕ} (n k : ℕ) → b.byte < 256 → IsByte b u lines i → u ≡ t → n ≤ 8 → 8 * i + n ≡ k →
     events_from t lines 0 (8 * i) ++ byte_events b n ≡ events_from t lines 0 k
 byte_on {b} {t} {u} {lines} {i} n k small is template few size =
-    ap (λ es. events_from t lines 0 (8 * i) ++ es) (same_events n small is few) ∙ events_on t u lines (8 * i) (8 * i) n k template refl size
+    rw (same_events n small is few) (events_on t u lines (8 * i) (8 * i) n k template refl size)
 
 -- no byte at all
 pub no_run : {S : Type 0} {sink : Ghosts S} {a : Around} {rows : Rows} {i : ℕ} {c : Coder S} → 8 * i < rows.width → StandsAt a a.template (lines_in rows) i →

@@ -42,7 +42,7 @@ pub ends_full : {S : Type 0} {colour : Bool} {rows : Rows} {i : ℕ} {c c' : Cod
 ends_full {colour = colour} exact is same = record {
   no_room = λ more uniform p pushed going at.
       let e = exact p pushed (subst (λ e. has_failed e ≡ false) same.encoder_is going) (subst (λ e. EncoderIsAt e p pushed) same.encoder_is at) in
-      ap (λ l. has_room (record { place = p; learned = l }) (uniform_event colour) 64) same.learned_is ∙ (sym e ∙ is);
+      rw (same.learned_is, ← e) is;
 }
 
 -- ---- where none begins

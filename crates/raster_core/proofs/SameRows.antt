@@ -17,7 +17,7 @@ use Rattle.raster_core.proofs.Before.{bit_same}
 pixel_of : (row : List Bool) (x : ℕ) → slice_index (packed_row row) (x / 8) / 2 ^ (7 - x % 8) % 2 ≡ bit (pixel_at row x)
 pixel_of row x =
     let e : 8 * (x / 8) + x % 8 ≡ x = omega arith in
-    pixel_in row (8 * (x / 8)) (x % 8) (packed_byte row (x / 8)) (omega arith) ∙ ap (λ z. bit (pixel_at row z)) e
+    rw (pixel_in row (8 * (x / 8)) (x % 8) (packed_byte row (x / 8)) (omega arith), e) refl
 
 pub packed_same : (a b : List Bool) → length a ≡ length b → packed_row a ≡ packed_row b → a ≡ b
 packed_same a b l h =

@@ -1,5 +1,5 @@
 -- Pixels in words.
-use Rattle.std.proofs.Common.{◌≡◌, ℕ, zero, suc, ◌+◌, ◌-◌, ◌*◌, ◌/◌, ◌%◌, ◌^◌, ◌<◌, ◌≤◌, Bool, true, false, ◌++◌, ◌&&◌, not, ◌∷◌, refl, sym, ◌∙◌, ap, arith, cond, add-zero, lit<, lit≤, inl, inr, zero-add}
+use Rattle.std.proofs.Common.{◌≡◌, ℕ, zero, suc, ◌+◌, ◌-◌, ◌*◌, ◌/◌, ◌%◌, ◌^◌, ◌<◌, ◌≤◌, Bool, true, false, ◌++◌, ◌&&◌, not, refl, sym, ◌∙◌, ap, arith, cond, add-zero, lit<, lit≤, inl, inr, zero-add}
 use Rattle.std.specs.Prelude.{bit_and, bit_or, bit_xor, count_ones, count_by}
 use Rattle.std.proofs.Math.Nat.{pow-suc, mul-add-mod_self_right, mod-eq_of_lt, mul-le-mul_right}
 use lib.Count.{ones, ones_in}
@@ -40,9 +40,7 @@ word_cat p f m (suc n) =
     let e : word p f (m + n) ≡ word p f m * 2 ^ n + word p (f + m) n = word_cat p f m n in
     let s : m + suc n ≡ suc (m + n) = omega arith in
     let q : f + (m + n) ≡ (f + m) + n = omega arith in
-    ap (word p f) s ∙ ap (λ x. x * 2 + bit (p (f + (m + n)))) e ∙ ap (λ y. (word p f m * 2 ^ n + word p (f + m) n) * 2 + bit (p y)) q
-    ∙ regroup (word p f m) (2 ^ n) (word p (f + m) n) (bit (p ((f + m) + n)))
-    ∙ ap (λ x. word p f m * x + (word p (f + m) n * 2 + bit (p ((f + m) + n)))) (sym (pow_two n))
+    rw (s, e, q, regroup (word p f m) (2 ^ n) (word p (f + m) n) (bit (p ((f + m) + n))), ← pow_two n) refl
 
 -- the same pixels, the same word
 pub word_same : (p q : ℕ → Bool) (f g n : ℕ) → ((i : ℕ) → i < n → p (f + i) ≡ q (g + i)) → word p f n ≡ word q g n
@@ -50,7 +48,7 @@ unfolding word
 word_same p q f g zero h = refl
 word_same p q f g (suc n) h =
     let rest : word p f n ≡ word q g n = word_same p q f g n (λ i lt. h i (omega arith)) in
-    ap (λ x. x * 2 + bit (p (f + n))) rest ∙ ap (λ b. word q g n * 2 + bit b) (h n (omega arith))
+    rw (rest, h n (omega arith)) refl
 
 and_bit : (a b : Bool) → bit_and (bit a) (bit b) ≡ bit (a && b)
 and_bit true true = refl
@@ -130,7 +128,7 @@ modded : (a b s p m : ℕ) → s * p ≡ m → b < s → 0 < p → ((a * s + b) 
 modded a b s p m e lt pos =
     let parts : (a * s + b) * p ≡ a * (s * p) + b * p = omega arith in
     let small : b * p < m = below (omega (arith, mul-le-mul_right p (up lt))) in
-    ap (λ x. x % m) (parts ∙ ap (λ x. a * x + b * p) e) ∙ mul-add-mod_self_right a m (b * p) ∙ mod-eq_of_lt small
+    rw (parts, e, mul-add-mod_self_right a m (b * p)) (mod-eq_of_lt small)
   where
     up : b < s → b + 1 ≤ s
     up h = omega arith
@@ -141,7 +139,7 @@ modded a b s p m e lt pos =
 twice : (w p m : ℕ) → w * 2 % m * p % m ≡ w * (2 * p) % m
 twice w p m =
     let e : w * 2 * p ≡ w * (2 * p) = omega arith in
-    mul-mod_first (w * 2) p m ∙ ap (λ x. x % m) e
+    rw (mul-mod_first (w * 2) p m, e) refl
 
 first_part : (q : ℕ → Bool) (g s : ℕ) → s < 64 → word q g 64 * 2 ^ 1 % 2 ^ 64 * 2 ^ (63 - s) % 2 ^ 64 ≡ word q (g + (64 - s)) s * 2 ^ (64 - s)
 first_part q g s h =
@@ -151,8 +149,8 @@ first_part q g s h =
     let e : word q g ((64 - s) + s) ≡ word q g (64 - s) * 2 ^ s + word q (g + (64 - s)) s = word_cat q g (64 - s) s in
     let n : (64 - s) + s ≡ 64 = omega arith in
     let lt : word q (g + (64 - s)) s < 2 ^ s = word_lt q (g + (64 - s)) s in
-    let up : 2 * 2 ^ (63 - s) ≡ 2 ^ (64 - s) = doubled ∙ ap (λ k. 2 ^ k) one_more in
-    let all : 2 ^ s * 2 ^ (64 - s) ≡ 2 ^ 64 = sym (pow-add 2 s (64 - s)) ∙ ap (λ k. 2 ^ k) whole in
+    let up : 2 * 2 ^ (63 - s) ≡ 2 ^ (64 - s) = rw (doubled, one_more) refl in
+    let all : 2 ^ s * 2 ^ (64 - s) ≡ 2 ^ 64 = rw (← pow-add 2 s (64 - s), whole) refl in
     twice (word q g 64) (2 ^ (63 - s)) (2 ^ 64)
     ∙ ap (λ x. word q g 64 * x % 2 ^ 64) up
     ∙ ap (λ k. word q g k * 2 ^ (64 - s) % 2 ^ 64) (sym n)
@@ -187,37 +185,28 @@ shifted x i = omega arith
 pub count_same : (f g : ℕ → Bool) (a b n : ℕ) → ((i : ℕ) → i < n → f (a + i) ≡ g (b + i)) → count_by f (numbers_from a n) ≡ count_by g (numbers_from b n)
 count_same f g a b zero h = refl
 count_same f g a b (suc n) h =
-    let first : f a ≡ g b = ap f (sym (add-zero a)) ∙ h 0 (omega arith) ∙ ap g (add-zero b) in
-    sum_by-cons (λ x. cond (f x) 1 0) a (numbers_from (a + 1) n)
-    ∙ ap (λ t. cond t 1 0 + count_by f (numbers_from (a + 1) n)) first
-    ∙ ap (λ x. cond (g b) 1 0 + x) (count_same f g (a + 1) (b + 1) n (λ i lt. ap f (shifted a i) ∙ h (i + 1) (omega arith) ∙ ap g (sym (shifted b i))))
-    ∙ sym (sum_by-cons (λ x. cond (g x) 1 0) b (numbers_from (b + 1) n))
+    let first : f a ≡ g b = rw (← add-zero a, h 0 (omega arith), add-zero b) refl in
+    rw (sum_by-cons (λ x. cond (f x) 1 0) a (numbers_from (a + 1) n), first, count_same f g (a + 1) (b + 1) n (λ i lt. ap f (shifted a i) ∙ h (i + 1) (omega arith) ∙ ap g (sym (shifted b i)))) (sym (sum_by-cons (λ x. cond (g x) 1 0) b (numbers_from (b + 1) n)))
 
 pub numbers_cat : (a n k : ℕ) → numbers_from a (n + k) ≡ numbers_from a n ++ numbers_from (a + n) k
 numbers_cat a zero k = ap (numbers_from a) (zero-add k) ∙ ap (λ x. numbers_from x k) (sym (add-zero a))
 numbers_cat a (suc n) k =
     let later : suc n + k ≡ suc (n + k) = omega arith in
     let moved : (a + 1) + n ≡ a + suc n = omega arith in
-    ap (numbers_from a) later ∙ ap (λ xs. a ∷ xs) (numbers_cat (a + 1) n k ∙ ap (λ x. numbers_from (a + 1) n ++ numbers_from x k) moved)
+    rw (later, numbers_cat (a + 1) n k, moved) refl
 
 pub count_cat : (f : ℕ → Bool) (a n k : ℕ) → count_by f (numbers_from a (n + k)) ≡ count_by f (numbers_from a n) + count_by f (numbers_from (a + n) k)
-count_cat f a n k = ap (count_by f) (numbers_cat a n k) ∙ sum_by-append (λ x. cond (f x) 1 0) (numbers_from a n) (numbers_from (a + n) k)
+count_cat f a n k = rw (numbers_cat a n k) (sum_by-append (λ x. cond (f x) 1 0) (numbers_from a n) (numbers_from (a + n) k))
 
 pub agreed_word_is : (p q m : ℕ → Bool) (a b c n : ℕ) →
     count_ones (bit_and (word m c n) (2 ^ n - 1 - bit_xor (word p a n) (word q b n))) ≡ agreed_from (pixels_from p a) (pixels_from q b) (pixels_from m c) n
 unfolding agreed_from
 agreed_word_is p q m a b c n =
-    ap (λ x. count_ones (bit_and (word m c n) (2 ^ n - 1 - x))) (word_xor p q a b n)
-    ∙ ap (λ x. count_ones (bit_and (word m c n) x)) (word_not (λ i. not (same (p (a + i)) (q (b + i)))) 0 n)
-    ∙ ap count_ones (word_and m (λ i. not (not (same (p (a + i)) (q (b + i))))) c 0 n)
-    ∙ ap count_ones (word_same (λ i. m (c + i) && not (not (same (p (a + (0 + i))) (q (b + (0 + i)))))) (λ i. m (c + i) && same (p (a + i)) (q (b + i))) 0 0 n
-    (λ i lt. here (0 + i)))
-    ∙ word_ones (λ i. m (c + i) && same (p (a + i)) (q (b + i))) 0 n
+    rw (word_xor p q a b n, word_not (λ i. not (same (p (a + i)) (q (b + i)))) 0 n, word_and m (λ i. not (not (same (p (a + i)) (q (b + i))))) c 0 n, word_same (λ i. m (c + i) && not (not (same (p (a + (0 + i))) (q (b + (0 + i)))))) (λ i. m (c + i) && same (p (a + i)) (q (b + i))) 0 0 n (λ i lt. here (0 + i))) (word_ones (λ i. m (c + i) && same (p (a + i)) (q (b + i))) 0 n)
   where
     here : (i : ℕ) → m (c + i) && not (not (same (p (a + (0 + i))) (q (b + (0 + i))))) ≡ (m (c + i) && same (p (a + i)) (q (b + i)))
     here i =
-        kept_same (m (c + i)) (same (p (a + (0 + i))) (q (b + (0 + i))))
-        ∙ ap (λ k. m (c + i) && same (p (a + k)) (q (b + k))) (zero-add i)
+        rw (kept_same (m (c + i)) (same (p (a + (0 + i))) (q (b + (0 + i)))), zero-add i) refl
 
 -- ---- a word's left neighbour moves in, a pixel at a time
 
@@ -226,7 +215,7 @@ far_next q g d h =
     let e : word q g ((63 - d) + 1) ≡ word q g (63 - d) * 2 ^ 1 + word q (g + (63 - d)) 1 = word_cat q g (63 - d) 1 in
     let n : 64 - d ≡ (63 - d) + 1 = omega arith in
     let m : 63 - d ≡ 64 - (d + 1) = omega arith in
-    ap (λ k. word q g k / 2) n ∙ ap (λ x. x / 2) e ∙ div-mul-add (word q g (63 - d)) 2 (word q (g + (63 - d)) 1) (word_lt q (g + (63 - d)) 1) ∙ ap (word q g) m
+    rw (n, e, div-mul-add (word q g (63 - d)) 2 (word q (g + (63 - d)) 1) (word_lt q (g + (63 - d)) 1), m) refl
 
 pub near_next : (q : ℕ → Bool) (g d : ℕ) → d < 64 →
     bit_or (word q g (64 - d) * 2 ^ 63 % 2 ^ 64) (word q (g + 64 - d) 64 / 2 ^ 1) ≡ word q (g + 64 - (d + 1)) 64
@@ -236,14 +225,7 @@ near_next q g d h =
     let e : word q g ((63 - d) + 1) ≡ word q g (63 - d) * 2 ^ 1 + word q (g + (63 - d)) 1 = word_cat q g (63 - d) 1 in
     let n : 64 - d ≡ (63 - d) + 1 = omega arith in
     let last : word q (g + (63 - d)) 1 < 2 ^ 1 = word_lt q (g + (63 - d)) 1 in
-    ap (λ k. bit_or (word q g k * 2 ^ 63 % 2 ^ 64) (word q (g + 64 - d) 64 / 2 ^ 1)) n
-    ∙ ap (λ x. bit_or (x * 2 ^ 63 % 2 ^ 64) (word q (g + 64 - d) 64 / 2 ^ 1)) e
-    ∙ ap (λ x. bit_or x (word q (g + 64 - d) 64 / 2 ^ 1)) (modded (word q g (63 - d)) (word q (g + (63 - d)) 1) 2 (2 ^ 63) (2 ^ 64) refl last (lit< tt))
-    ∙ ap (bit_or (word q (g + (63 - d)) 1 * 2 ^ 63)) (second_part q (g + 64 - d) 1 (lit≤ tt))
-    ∙ or_shifted (word q (g + (63 - d)) 1) 63 (word q (g + 64 - d) 63) (word_lt q (g + 64 - d) 63)
-    ∙ ap (λ k. word q (g + (63 - d)) 1 * 2 ^ 63 + word q k 63) beside
-    ∙ sym (word_cat q (g + (63 - d)) 1 63)
-    ∙ ap (λ k. word q k 64) one_left
+    rw (n, e, modded (word q g (63 - d)) (word q (g + (63 - d)) 1) 2 (2 ^ 63) (2 ^ 64) refl last (lit< tt), second_part q (g + 64 - d) 1 (lit≤ tt), or_shifted (word q (g + (63 - d)) 1) 63 (word q (g + 64 - d) 63) (word_lt q (g + 64 - d) 63), beside, ← word_cat q (g + (63 - d)) 1 63, one_left) refl
 
 -- ---- words of one colour
 
@@ -254,7 +236,7 @@ dark p f (suc n) e i lt =
     let rest : word p f n ≡ 0 = omega arith in
     let last : bit (p (f + n)) ≡ 0 = omega arith in
     elim (le_cases i n (omega arith)) [
-      | inl eq ↦ ap (λ k. p (f + k)) eq ∙ white_bit (p (f + n)) last
+      | inl eq ↦ rw eq (white_bit (p (f + n)) last)
       | inr below ↦ dark p f n rest i below
     ]
   where
@@ -275,7 +257,7 @@ lit p f n e i lt =
 pub in_all : (p : ℕ → Bool) (place : ℕ) (b : Bool) → ((i : ℕ) → i < 64 → p (place + i) ≡ b) → ((i : ℕ) → i < 64 → p (place + 64 + i) ≡ b) → ((i : ℕ) → i < 64 → p (place + 128 + i) ≡ b) →
     (i : ℕ) → i < 192 → p (place + i) ≡ p place
 in_all p place b one two three i lt =
-    there i lt ∙ sym (ap p (sym (add-zero place)) ∙ one 0 (omega arith))
+    rw (there i lt, ← one 0 (omega arith), add-zero place) refl
   where
     at : (i k : ℕ) → k ≤ i → place + i ≡ place + k + (i - k)
     at i k h = omega arith
@@ -307,7 +289,4 @@ even_agreed p m place c lag n h high le =
         let other_at : (place + 128 - lag) + (0 + i) ≡ place + (128 - lag + i) = omega arith in
         let one : p (place + 128 + (0 + i)) ≡ p place = ap p one_at ∙ h (128 + i) (omega arith) in
         let other : p ((place + 128 - lag) + (0 + i)) ≡ p place = ap p other_at ∙ h (128 - lag + i) (omega arith) in
-        ap (λ x. m (c + (0 + i)) && same x (p ((place + 128 - lag) + (0 + i)))) one
-        ∙ ap (λ x. m (c + (0 + i)) && same (p place) x) other
-        ∙ ap (λ x. m (c + (0 + i)) && x) (same_self (p place))
-        ∙ and-true (m (c + (0 + i))) ∙ ap (λ k. m (c + k)) (zero-add i)
+        rw (one, other, same_self (p place), and-true (m (c + (0 + i))), zero-add i) refl

@@ -1,5 +1,5 @@
 -- Bytes of one colour.
-use Rattle.std.proofs.Common.{◌≡◌, ℕ, zero, suc, ◌+◌, ◌-◌, ◌*◌, ◌/◌, ◌%◌, ◌^◌, ◌<◌, Bool, true, false, List, [], ◌∷◌, ◌++◌, refl, sym, ◌∙◌, ap, arith, replicate}
+use Rattle.std.proofs.Common.{◌≡◌, ℕ, zero, suc, ◌+◌, ◌-◌, ◌*◌, ◌/◌, ◌%◌, ◌^◌, ◌<◌, Bool, true, false, List, [], ◌∷◌, ◌++◌, refl, ◌∙◌, ap, arith, replicate}
 use Rattle.std.proofs.lemmas.List.{replicate-append-replicate}
 use Rattle.raster_core.specs.Raster.{pixel_at}
 use Rattle.raster_core.specs.Machine.Registers.{bit, before, past_bits}
@@ -9,7 +9,7 @@ use Rattle.raster_core.proofs.Colours.{AreLeft, part_left, seen_at}
 pub one_more : {A : Type 0} (n : ℕ) (a : A) → replicate n a ++ a ∷ [] ≡ replicate (suc n) a
 one_more n a =
     let e : n + 1 ≡ suc n = omega arith in
-    replicate-append-replicate n 1 a ∙ ap (λ k. replicate k a) e
+    rw (replicate-append-replicate n 1 a, e) refl
 
 -- ---- a byte of one colour
 
@@ -22,7 +22,7 @@ pub past_run : {past byte : ℕ} (row : List Bool) (offset x : ℕ) → past ≡
 past_run {past} {byte} row offset x p b =
     let low : past % 2 ^ (past_bits offset - 8) ≡ before row x (past_bits offset - 8) = ap (λ z. z % 2 ^ (past_bits offset - 8)) (p ∙ ap (λ w. before row x w) (past_size offset)) ∙ before_mod row x 8 (past_bits offset - 8) in
     let size : (past_bits offset - 8) + 8 ≡ past_bits offset = omega (arith, past_size offset) in
-    ap (λ z. z * 256 + byte) low ∙ (ap (λ z. before row x (past_bits offset - 8) * 256 + z) b ∙ (sym (before_split row x (past_bits offset - 8) 8) ∙ ap (λ w. before row (x + 8) w) size))
+    rw (low, b, ← before_split row x (past_bits offset - 8) 8, size) refl
 
 -- the pixels of a byte of one colour
 pub own_pixels : (row : List Bool) (byte x : ℕ) (c : Bool) → byte ≡ bit c * 255 → byte ≡ before row (x + 8) 8 → (k : ℕ) → k < 8 → pixel_at row (x + k) ≡ c

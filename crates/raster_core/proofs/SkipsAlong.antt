@@ -36,7 +36,7 @@ run_before row x zero c own = before_zero row (x + 0) ∙ none c
 run_before row x (suc n) c own =
     let e : x + suc n ≡ suc (x + n) = omega arith in
     let shorter = run_before row x n c (λ k few. own k (omega arith)) in
-    ap (λ y. before row y (suc n)) e ∙ (before_suc row (x + n) n ∙ (ap (λ b. 2 * before row (x + n) n + bit b) (own n (omega arith)) ∙ (ap (λ z. 2 * z + bit c) shorter ∙ twice c n)))
+    rw (e, before_suc row (x + n) n, own n (omega arith), shorter) (twice c n)
   where
     twice : (c : Bool) (n : ℕ) → 2 * (bit c * (2 ^ n - 1)) + bit c ≡ bit c * (2 ^ suc n - 1)
     twice true n = let p = pow-suc 2 n in let q = pow_pos n in omega arith
@@ -51,27 +51,20 @@ run_front done n j c few =
 run_contexts : (mode : Mode) (lines : Lines) (offset : ℕ) (done : List Bool) (n : ℕ) (c : Bool) → StaysUniform mode (with_row lines (done ++ replicate n c)) offset c (length done) n →
     (j : ℕ) → j < n → context_at mode (with_row lines (done ++ replicate j c)) offset (length done + j) ≡ uniform_context c
 run_contexts mode lines offset done n c stays j few =
-    let long : length (done ++ replicate j c) ≡ length done + j = length-append done (replicate j c) ∙ ap (λ k. length done + k) (length-replicate j c) in
-    sym (context_front mode lines (done ++ replicate j c) (replicate (n - j) c) offset (length done + j) (omega arith))
-    ∙ (ap (λ row. context_at mode (with_row lines row) offset (length done + j)) (sym (run_front done n j c (omega arith)))
-    ∙ stays j few (λ k less. run_pixels done n c k (omega arith)))
+    let long : length (done ++ replicate j c) ≡ length done + j = rw (length-append done (replicate j c), length-replicate j c) refl in
+    rw (← context_front mode lines (done ++ replicate j c) (replicate (n - j) c) offset (length done + j) (omega arith), ← run_front done n j c (omega arith)) (stays j few (λ k less. run_pixels done n c k (omega arith)))
 
 events_run : (mode : Mode) (lines : Lines) (offset : ℕ) (done : List Bool) (n : ℕ) (c : Bool) →
     ((j : ℕ) → j < n → context_at mode (with_row lines (done ++ replicate j c)) offset (length done + j) ≡ uniform_context c) →
     pixel_events mode (with_row lines (done ++ replicate n c)) offset ≡ pixel_events mode (with_row lines done) offset ++ replicate n (uniform_event c)
-events_run mode lines offset done zero c contexts = ap (λ row. pixel_events mode (with_row lines row) offset) (append-nil done) ∙ sym (append-nil (pixel_events mode (with_row lines done) offset))
+events_run mode lines offset done zero c contexts = rw (append-nil done) (sym (append-nil (pixel_events mode (with_row lines done) offset)))
 events_run mode lines offset done (suc n) c contexts =
     let shorter = events_run mode lines offset done n c (λ j few. contexts j (omega arith)) in
-    let long : length (done ++ replicate n c) ≡ length done + n = length-append done (replicate n c) ∙ ap (λ k. length done + k) (length-replicate n c) in
-    let row : done ++ replicate (suc n) c ≡ (done ++ replicate n c) ++ c ∷ [] = ap (λ z. done ++ z) (sym (one_more n c)) ∙ sym (append_assoc done (replicate n c) (c ∷ [])) in
+    let long : length (done ++ replicate n c) ≡ length done + n = rw (length-append done (replicate n c), length-replicate n c) refl in
+    let row : done ++ replicate (suc n) c ≡ (done ++ replicate n c) ++ c ∷ [] = rw (← one_more n c) (sym (append_assoc done (replicate n c) (c ∷ []))) in
     let here : context_at mode (with_row lines (done ++ replicate n c)) offset (length (done ++ replicate n c)) ≡ uniform_context c =
-    ap (λ x. context_at mode (with_row lines (done ++ replicate n c)) offset x) long ∙ contexts n (omega arith) in
-    ap (λ r. pixel_events mode (with_row lines r) offset) row
-    ∙ (pixel_events_more mode lines offset (done ++ replicate n c) c
-    ∙ (ap (λ k. pixel_events mode (with_row lines (done ++ replicate n c)) offset ++ record { context = k; pixel = c } ∷ []) here
-    ∙ (ap (λ es. es ++ uniform_event c ∷ []) shorter
-    ∙ (append_assoc (pixel_events mode (with_row lines done) offset) (replicate n (uniform_event c)) (uniform_event c ∷ [])
-    ∙ ap (λ es. pixel_events mode (with_row lines done) offset ++ es) (one_more n (uniform_event c))))))
+    rw long (contexts n (omega arith)) in
+    rw (row, pixel_events_more mode lines offset (done ++ replicate n c) c, here, shorter, append_assoc (pixel_events mode (with_row lines done) offset) (replicate n (uniform_event c)) (uniform_event c ∷ []), one_more n (uniform_event c)) refl
 
 -- ---- a run needs no byte
 
@@ -104,16 +97,16 @@ decoded_run {S} {old} {row} {at} {done} {d' = d'} n c h stays past_is going deco
     let k = decoded (after s es).place given h.decodes.stands in
     let same : after s es ≡ record { place = (after s es).place; learned = at.learned } = ap (λ l. record { place = (after s es).place; learned = l }) (sym h.decodes.taught) in
     let run : es ++ replicate n (uniform_event c) ≡ events_up_to row (done ++ replicate n c) =
-    append_assoc row.first _ (replicate n (uniform_event c)) ∙ ap (λ z. row.first ++ z) (sym (events_run row.mode row.lines row.offset done n c (run_contexts row.mode row.lines row.offset done n c stays))) in
+    rw (append_assoc row.first _ (replicate n (uniform_event c)), ← events_run row.mode row.lines row.offset done n c (run_contexts row.mode row.lines row.offset done n c stays)) refl in
     let last : after (record { place = (after s es).place; learned = at.learned }) (replicate n (uniform_event c)) ≡ after s (events_up_to row (done ++ replicate n c)) =
-    ap (λ t. after t (replicate n (uniform_event c))) (sym same) ∙ (sym (after_append s es (replicate n (uniform_event c))) ∙ ap (after s) run) in
+    rw (← same, ← after_append s es (replicate n (uniform_event c)), run) refl in
     record {
       past_is = past_is;
       more = h.more;
       decodes = record {
         gives = h.decodes.gives;
         stands = subst (λ t. DecoderIsAt d' t.place given) last k.1;
-        taught = sym k.0.taught ∙ ap (λ t. t.learned) last;
+        taught = rw (← k.0.taught, last) refl;
         enough = λ more. subst (λ z. AreEnough (length (bytes_of given)) s z) run
             (enough_append es (replicate n (uniform_event c)) (length (bytes_of given)) s (h.decodes.enough more)
             (subst (λ t. AreEnough (length (bytes_of given)) t (replicate n (uniform_event c))) (sym same)
@@ -132,7 +125,7 @@ skipped_along {b = b} {byte} {past'} k past_is = record {
       let byte_is : byte ≡ before row (length done + 8) 8 = k.byte_is ∙ sym (run_before row (length done) 8 k.colour (run_pixels done 8 k.colour)) in
       let long : length row ≡ length done + 8 = length-append done (replicate 8 k.colour) in
       let behind : past' ≡ before row (length row) (past_bits b.offset) =
-      past_is ∙ (past_run row b.offset (length done) near byte_is ∙ ap (λ x. before row x (past_bits b.offset)) (sym long)) in
+      rw (past_is, past_run row b.offset (length done) near byte_is, ← long) refl in
       record {
         pixels = replicate 8 k.colour;
         count = refl;

@@ -1,6 +1,6 @@
 -- The counts of a tally, modulo 2^64 and for rows whose counts stay below it, and the lag that it chooses.
 use Rattle.std.proofs.Common.{◌≡◌, ℕ, ◌+◌, ◌-◌, ◌*◌, ◌%◌, ◌^◌, ◌<◌, ◌≤◌, Bool, true, false, List, [], ◌∷◌, ◌++◌, length, refl, sym, ◌∙◌, ap, subst, arith, get_or, replicate, inl, inr, Some, None}
-use Rattle.std.specs.Prelude.{◌/◌, nat_lt, if◌then◌else◌, option_and_then}
+use Rattle.std.specs.Prelude.{◌/◌, nat_lt, if◌then◌else◌}
 use Rattle.std.specs.List.{AllByRecursion}
 use Rattle.std.proofs.lemmas.Bool.{cases_lt}
 use Rattle.std.proofs.lemmas.Nat.{mul-mod_first}
@@ -19,7 +19,7 @@ use Rattle.raster_core.proofs.Parts.{is_lt, adaptive_left, agreement_push, all_p
 -- ---- no rows
 
 none_at : (x t g : ℕ) → x ≡ 0 → t ≡ 0 → (x + t * g) % 2 ^ 64 ≡ 0
-none_at x t g e f = let none : (x + 0 * g) % 2 ^ 64 ≡ 0 = omega arith in ap (λ n. (x + n * g) % 2 ^ 64) f ∙ none
+none_at x t g e f = let none : (x + 0 * g) % 2 ^ 64 ≡ 0 = omega arith in rw f none
 
 pub none_counted : (t : Tally) (width current : ℕ) → t.rows ≡ 0 → t.held ≡ 0 → t.times ≡ 0 → t.counts ≡ replicate 128 0 → KeepsCounts t.last → CountsLines t width current []
 none_counted t width current no_rows none_held no_times no_counts kept =
@@ -42,7 +42,7 @@ rows_small : (rows : List Lines) (width lag : ℕ) → AllByRecursion (λ lines.
 rows_small [] width lag wide = omega arith
 rows_small (r ∷ rows) width lag wide =
     let most = count_by-le-length (λ x. same (pixel_at r.row x) (adaptive r lag x)) (numbers_from 0 (length r.row)) in
-    let product : length (r ∷ rows) * width ≡ length rows * width + 1 * width = (let one : length (r ∷ rows) ≡ length rows + 1 = omega arith in ap (λ n. n * width) one) ∙ Rattle.std.proofs.Math.Nat.add-mul (length rows) 1 width in
+    let product : length (r ∷ rows) * width ≡ length rows * width + 1 * width = (let one : length (r ∷ rows) ≡ length rows + 1 = omega arith in rw one refl) ∙ Rattle.std.proofs.Math.Nat.add-mul (length rows) 1 width in
     omega (arith, sum_by-cons (agreements lag) r rows, product, most, length-numbers 0 (length r.row), wide.0, rows_small rows width lag wide.1)
 
 pub row_more : (rows : List Lines) (lines : Lines) (width lag : ℕ) → AllByRecursion (λ l. length l.row ≡ width) rows → length lines.row ≡ width → length rows + 1 < 2 ^ 32 → width < 2 ^ 32 →
@@ -55,7 +55,7 @@ row_more rows lines width lag wide long few narrow =
 -- ---- lags beyond the width, at which no pixel has one to its left
 
 white_beyond : (lines : Lines) (lag x : ℕ) → 1 ≤ lag → x < lag → adaptive lines lag x ≡ false
-white_beyond lines lag x some h = adaptive_left lines lag x some ∙ ap (λ b. if b then false else pixel_at lines.row (x - lag)) (is_lt x lag h)
+white_beyond lines lag x some h = rw (adaptive_left lines lag x some, is_lt x lag h) refl
 
 beyond_row : (lines : Lines) (width a b : ℕ) → length lines.row ≡ width → width ≤ a → width ≤ b → 1 ≤ a → 1 ≤ b → agreements a lines ≡ agreements b lines
 beyond_row lines width a b long from-a from-b some-a some-b =
@@ -65,10 +65,7 @@ beyond_row lines width a b long from-a from-b some-a some-b =
 pub beyond : (rows : List Lines) (width a b : ℕ) → AllByRecursion (λ lines. length lines.row ≡ width) rows → width ≤ a → width ≤ b → 1 ≤ a → 1 ≤ b → agreement rows a ≡ agreement rows b
 beyond [] width a b wide from-a from-b some-a some-b = refl
 beyond (r ∷ rows) width a b wide from-a from-b some-a some-b =
-    sum_by-cons (agreements a) r rows
-    ∙ (ap (λ n. n + agreement rows a) (beyond_row r width a b wide.0 from-a from-b some-a some-b)
-    ∙ (ap (λ n. agreements b r + n) (beyond rows width a b wide.1 from-a from-b some-a some-b)
-    ∙ sym (sum_by-cons (agreements b) r rows)))
+    rw (sum_by-cons (agreements a) r rows, beyond_row r width a b wide.0 from-a from-b some-a some-b, beyond rows width a b wide.1 from-a from-b some-a some-b) (sym (sum_by-cons (agreements b) r rows))
 
 -- ---- the lag that is chosen
 
@@ -83,11 +80,11 @@ threshold : (t : Tally) (width current : ℕ) (rows : List Lines) → CountsLine
 threshold t width current [] k =
     let none : t.rows ≡ 0 = k.number in
     let nothing : width * 0 ≡ t.width * 0 = omega arith in
-    ap (λ n. n / 8) (nothing ∙ ap (λ n. t.width * n) (sym none))
+    rw (nothing, ← none) refl
 threshold t width current (r ∷ rows) k =
     let some : 0 < length (r ∷ rows) = omega arith in
     let w : t.width ≡ width = k.width_is some in
-    ap (λ n. n / 8) (ap (λ x. x * length (r ∷ rows)) (sym w) ∙ ap (λ n. t.width * n) (sym k.number))
+    rw (← w, ← k.number) refl
 
 some_lag : (two_line : Bool) → 1 ≤ least_lag two_line
 some_lag true = omega arith
@@ -141,7 +138,4 @@ pub chosen_by : (t : Tally) (width current : ℕ) (rows : List Lines) (b : ℕ) 
     chosen_offset (is_two_line t) (most_of t) width rows current
     ≡ (if nat_lt (t.width * t.rows / 8) (counted_at t b - t.held) then Some b else None)
 chosen_by t width current rows b k low high best =
-    ap (option_and_then (λ u. if nat_lt (width * length rows / 8) (agreement rows u - agreement rows current) then Some u else None)) best
-    ∙ ap (λ x. if nat_lt x (agreement rows b - agreement rows current) then Some b else None) (threshold t width current rows k)
-    ∙ ap (λ x. if nat_lt (t.width * t.rows / 8) (x - agreement rows current) then Some b else None) (sym (counted_best t width current rows b k low high))
-    ∙ ap (λ x. if nat_lt (t.width * t.rows / 8) (counted_at t b - x) then Some b else None) (sym k.held)
+    rw (best, threshold t width current rows k, ← counted_best t width current rows b k low high, ← k.held) refl

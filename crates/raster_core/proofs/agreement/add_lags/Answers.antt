@@ -1,6 +1,6 @@
-use Rattle.std.proofs.Common.{◌≡◌, ℕ, ◌+◌, ◌-◌, ◌*◌, ◌/◌, ◌%◌, ◌^◌, ◌<◌, ◌≤◌, ◌≢◌, ◌∙◌, sym, ap, arith, get_or, set, List, length, ◌⊎◌, inl, inr, get_or-set_other, get_or-set_same, length-set, refl}
+use Rattle.std.proofs.Common.{◌≡◌, ℕ, ◌+◌, ◌-◌, ◌*◌, ◌/◌, ◌%◌, ◌^◌, ◌<◌, ◌≤◌, ◌≢◌, ◌∙◌, ap, arith, get_or, set, List, length, ◌⊎◌, inl, inr, get_or-set_other, get_or-set_same, length-set, refl}
 use Rattle.std.specs.Prelude.{bit_or}
-use Rattle.raster_core.specs.Machine.Words.{word, agreed_from, pixels_from}
+use Rattle.raster_core.specs.Machine.Words.{word}
 use Rattle.raster_core.proofs.Choosing.{le_cases}
 use Rattle.raster_core.proofs.Shifts.{second_part, far_next, near_next}
 use Rattle.raster_core.proofs.agreement.add_lags.Goals as goal
@@ -54,20 +54,16 @@ loop-lag-preserved c =
           elim (le_cases j k (omega arith)) [
             | inr lt ↦ same_else xs k v j (λ eq. omega arith) ∙ c.loop-lag.invariant.done p m place a q e f g h j from lt
             | inl eq ↦
-                ap (λ i. get_or (set xs k v) i 0) eq ∙ same_here xs k v there
-                ∙ ap (λ x. x + c.agreed_word.result) (c.loop-lag.invariant.above k (omega arith))
-                ∙ ap (λ x. get_or c.args.counts.now k 0 + x) (c.agreed_word.ensures.agreed p p m a (place + 64 - d) q g (c.loop-lag.invariant.near p place e f) h)
-                ∙ ap (λ x. get_or c.args.counts.now k 0 + agreed_from (pixels_from p a) (pixels_from p x) (pixels_from m q) 64) (at_place place c.args.shift c.args.from k begin)
-                ∙ ap (λ i. get_or c.args.counts.now i 0 + agreed_from (pixels_from p a) (pixels_from p (place + 64 + c.args.from - (c.args.shift + i))) (pixels_from m q) 64) (sym eq)
+                rw (eq, same_here xs k v there, c.loop-lag.invariant.above k (omega arith), c.agreed_word.ensures.agreed p p m a (place + 64 - d) q g (c.loop-lag.invariant.near p place e f) h, at_place place c.args.shift c.args.from k begin, ← eq) refl
           ];
       below = λ j lt. same_else xs k v j (λ eq. omega arith) ∙ c.loop-lag.invariant.below j lt;
       above = λ j le. same_else xs k v j (λ eq. omega arith) ∙ c.loop-lag.invariant.above j (omega arith);
       room = λ j.
           elim (eq_cases j k) [
             | inl eq ↦
-                let a : get_or (set xs k v) j 0 ≡ v = ap (λ i. get_or (set xs k v) i 0) eq ∙ same_here xs k v there in
+                let a : get_or (set xs k v) j 0 ≡ v = rw eq (same_here xs k v there) in
                 let b : get_or xs k 0 ≡ get_or c.args.counts.now k 0 = c.loop-lag.invariant.above k (omega arith) in
-                let same : get_or c.args.counts.now j 0 ≡ get_or c.args.counts.now k 0 = ap (λ i. get_or c.args.counts.now i 0) eq in
+                let same : get_or c.args.counts.now j 0 ≡ get_or c.args.counts.now k 0 = rw eq refl in
                 omega (arith, a, b, same, c.agreed_word.ensures.small)
             | inr ne ↦
                 let a : get_or (set xs k v) j 0 ≡ get_or xs j 0 = same_else xs k v j ne in

@@ -1,6 +1,5 @@
-use Rattle.std.proofs.Common.{◌≡◌, ℕ, ◌+◌, ◌-◌, ◌∙◌, ap, arith, get_or, inl, inr, lit≤}
+use Rattle.std.proofs.Common.{◌≡◌, ℕ, ◌+◌, ◌-◌, ◌∙◌, ap, arith, get_or, inl, inr, lit≤, refl}
 use Rattle.raster_core.specs.Machine.Words.{word, agreed_from, pixels_from}
-use Rattle.std.specs.Prelude.{count_ones}
 use Rattle.raster_core.proofs.Shifts.{even_agreed}
 use Rattle.std.proofs.lemmas.Bool.{cases_lt}
 use Rattle.raster_core.proofs.agreement.add_word.Goals as goal
@@ -27,17 +26,11 @@ pub returns-else-end-le64-clause-counts : goal.returns-else-end-le64-clause-coun
 returns-else-end-le64-clause-counts d p m place c second before one mask lag from to =
     none_more _ _ (elim (cases_lt lag 64) [
       | inl lt ↦
-          d.add_lags-else-end-le64-2.ensures.below lag lt
-          ∙ d.add_lags-else-end-le64.ensures.counts p m (place + 64) (place + 128) c before (one ∙ ap (λ x. word p x 64) (beside place)) one mask lag from lt
-          ∙ ap (λ x. get_or d.args.counts.now lag 0 + agreed_from (pixels_from p (place + 128)) (pixels_from p x) (pixels_from m c) 64) (near place d.args.least lag)
+          rw (d.add_lags-else-end-le64-2.ensures.below lag lt, d.add_lags-else-end-le64.ensures.counts p m (place + 64) (place + 128) c before (one ∙ ap (λ x. word p x 64) (beside place)) one mask lag from lt, near place d.args.least lag) refl
       | inr le ↦
-          d.add_lags-else-end-le64-2.ensures.counts p m place (place + 128) c second before one mask lag le (omega arith)
-          ∙ ap (λ x. x + agreed_from (pixels_from p (place + 128)) (pixels_from p (place + 64 + 64 - (0 + lag))) (pixels_from m c) 64) (d.add_lags-else-end-le64.ensures.above lag le)
-          ∙ ap (λ x. get_or d.args.counts.now lag 0 + agreed_from (pixels_from p (place + 128)) (pixels_from p x) (pixels_from m c) 64) (far place lag)
+          rw (d.add_lags-else-end-le64-2.ensures.counts p m place (place + 128) c second before one mask lag le (omega arith), d.add_lags-else-end-le64.ensures.above lag le, far place lag) refl
     ])
 
 pub returns-then-is_even-clause-counts : goal.returns-then-is_even-clause-counts
 returns-then-is_even-clause-counts d p m place c second before one mask lag from to =
-    ap (λ x. get_or d.args.counts.now lag 0 + x) d.from.ensures
-    ∙ ap (λ x. get_or d.args.counts.now lag 0 + count_ones x) mask
-    ∙ ap (λ x. get_or d.args.counts.now lag 0 + x) (even_agreed p m place c lag 64 (d.is_even.ensures p place second before one d.if-is_even.true) (omega (arith, to, d.requires.most)) (lit≤ tt))
+    rw (d.from.ensures, mask, even_agreed p m place c lag 64 (d.is_even.ensures p place second before one d.if-is_even.true) (omega (arith, to, d.requires.most)) (lit≤ tt)) refl

@@ -1,6 +1,6 @@
-use Rattle.std.proofs.Common.{◌≡◌, ℕ, ◌+◌, ◌-◌, ◌*◌, ◌∙◌, ap, arith, get_or}
+use Rattle.std.proofs.Common.{◌≡◌, ℕ, ◌+◌, ◌-◌, ◌*◌, arith, get_or, refl}
 use Rattle.raster_core.specs.Packed.{packed_row}
-use Rattle.raster_core.specs.Machine.Words.{led, word}
+use Rattle.raster_core.specs.Machine.Words.{led}
 use Rattle.raster_core.proofs.Packs.{led_white, nothing, one_byte, byte_led}
 use Rattle.raster_core.proofs.words.word_at.Goals as goal
 
@@ -20,16 +20,12 @@ pub inside-preserved : goal.inside-preserved
 inside-preserved c line e =
     let i : ℕ = c.inside.i in
     let byte : c.from.result ≡ get_or (packed_row line) (8 * (c.args.place - 2) + i) 0 =
-    c.from.ensures ∙ ap (λ xs. get_or xs (8 * (c.args.place - 2) + i) 0) e in
-    one_byte (led line) (64 * c.args.place) (8 * i) (omega (arith, c.inside-test.true))
-    (c.inside.invariant line e) (byte_led line c.args.place i c.from.result c.if-place-lt2.false c.inside-test.true byte)
-    ∙ ap (word (led line) (64 * c.args.place)) (next i)
+    rw (c.from.ensures, e) refl in
+    rw (one_byte (led line) (64 * c.args.place) (8 * i) (omega (arith, c.inside-test.true)) (c.inside.invariant line e) (byte_led line c.args.place i c.from.result c.if-place-lt2.false c.inside-test.true byte), next i) refl
 
 pub across-preserved : goal.across-preserved
 across-preserved c line e =
     let i : ℕ = c.across.i in
     let byte : c.from-in-across.result ≡ get_or (packed_row line) (8 * (c.args.place - 2) + i) 0 =
-    c.from-in-across.ensures ∙ c.byte_at.ensures.byte ∙ ap (λ xs. get_or xs (8 * (c.args.place - 2) + i) 0) e in
-    one_byte (led line) (64 * c.args.place) (8 * i) (omega (arith, c.across-test.true))
-    (c.across.invariant line e) (byte_led line c.args.place i c.from-in-across.result c.if-place-lt2.false c.across-test.true byte)
-    ∙ ap (word (led line) (64 * c.args.place)) (next i)
+    rw (c.from-in-across.ensures, c.byte_at.ensures.byte, e) refl in
+    rw (one_byte (led line) (64 * c.args.place) (8 * i) (omega (arith, c.across-test.true)) (c.across.invariant line e) (byte_led line c.args.place i c.from-in-across.result c.if-place-lt2.false c.across-test.true byte), next i) refl

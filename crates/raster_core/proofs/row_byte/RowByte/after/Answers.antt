@@ -1,5 +1,4 @@
-use Rattle.std.proofs.Common.{◌≡◌, ◌+◌, ◌*◌, arith, refl, ◌∙◌, ap}
-use Rattle.raster_core.specs.Machine.Registers.{before, past_bits}
+use Rattle.std.proofs.Common.{◌≡◌, ◌+◌, ◌*◌, arith, refl}
 use Rattle.raster_core.proofs.Skips.{past_run}
 use Rattle.raster_core.proofs.row_byte.RowByte.after.Goals as goal
 
@@ -9,9 +8,7 @@ returns g c = λ lines i is.
     let row : 8 * i + 8 ≡ 8 * (i + 1) = omega arith in
     record {
       template_is = refl;
-      second_is = is.at.second_is ∙ ap (λ x. before lines.second x 24) rows;
-      above_is = is.at.above_is ∙ ap (λ x. before lines.above x 24) rows;
-      past_is = c.past_eight.ensures c.args.self.around.template.offset c.requires.moved
-          ∙ (past_run lines.row c.args.self.around.template.offset (8 * i) is.past_is is.at.byte_is
-          ∙ ap (λ x. before lines.row x (past_bits c.args.self.around.template.offset)) row);
+      second_is = rw (is.at.second_is, rows) refl;
+      above_is = rw (is.at.above_is, rows) refl;
+      past_is = rw (c.past_eight.ensures c.args.self.around.template.offset c.requires.moved, past_run lines.row c.args.self.around.template.offset (8 * i) is.past_is is.at.byte_is, row) refl;
     }

@@ -1,6 +1,6 @@
-use Rattle.std.proofs.Common.{ℕ, ◌^◌, ◌≡◌, subst, ◌+◌, ◌*◌, ◌%◌, ◌≤◌, ◌∙◌, ap, arith, get_or, length, min, ◌==◌, [], ◌∷◌, ◌++◌, refl}
+use Rattle.std.proofs.Common.{ℕ, ◌≡◌, subst, ◌+◌, ◌*◌, ◌≤◌, ◌∙◌, ap, arith, get_or, length, min, ◌==◌, [], ◌∷◌, ◌++◌, refl}
 use Rattle.std.specs.Int.{div_ceil}
-use Rattle.raster_core.specs.Offset.{agreement, agreements}
+use Rattle.raster_core.specs.Offset.{agreements}
 use Rattle.raster_core.specs.Tally.{least_lag, last_lag}
 use Rattle.raster_core.specs.Machine.Words.{part_agreement}
 use Rattle.raster_core.proofs.Parts.{part_all, all_push, length_push}
@@ -26,15 +26,8 @@ returns-clause-counts c rows lines few k w =
           subst (λ n. lag ≤ last_lag (c.args.self.now.two_line == 1) (min n 127) c.args.width) c.take.ensures.same.most (subst (λ t. lag ≤ last_lag (t == 1) (min c.take.new.self.most 127) c.args.width) c.take.ensures.same.two_line to') in
           let low : c.least_lag-least.result ≤ lag = omega (arith, c.least_lag-least.ensures.lag, from) in
           let high : lag ≤ c.last_lag-most.result = omega (arith, to, c.last_lag-most.ensures) in
-          ap (λ a. (get_or c.take.new.self.counts lag 0 + (c.take.new.self.times + 1) % 2 ^ 64 * get_or a lag 0) % 2 ^ 64) c.held-held.ensures.same
-          ∙ once_more (get_or c.take.new.self.counts lag 0) c.take.new.self.times (get_or c.take.new.self.last.agreed lag 0)
-          ∙ ap (λ x. (x + get_or c.take.new.self.last.agreed lag 0) % 2 ^ 64) (c.take.ensures.same.counted lag low high ∙ k.each lag from to)
-          ∙ ap (λ x. (agreement rows lag + x) % 2 ^ 64) (c.take.ensures.counts k.kept lines e lag (omega (arith, low, c.take.ensures.last.1)) (omega (arith, high, c.take.ensures.last.2)) ∙ wide_row lag)
-          ∙ row_more rows lines c.args.width lag k.wide long (omega arith) (omega arith);
+          rw (c.held-held.ensures.same, once_more (get_or c.take.new.self.counts lag 0) c.take.new.self.times (get_or c.take.new.self.last.agreed lag 0), c.take.ensures.same.counted lag low high, k.each lag from to, c.take.ensures.counts k.kept lines e lag (omega (arith, low, c.take.ensures.last.1)) (omega (arith, high, c.take.ensures.last.2)), wide_row lag) (row_more rows lines c.args.width lag k.wide long (omega arith) (omega arith));
       held =
-          ap (λ x. (x + c.held-held.result) % 2 ^ 64) (c.take.ensures.same.held ∙ k.held)
-          ∙ ap (λ x. (agreement rows c.args.offset + x) % 2 ^ 64)
-          (c.held-held.ensures.agreed lines (c.take.ensures.kept k.kept) (c.take.ensures.counts k.kept) e f ∙ wide_row c.args.offset)
-          ∙ row_more rows lines c.args.width c.args.offset k.wide long (omega arith) (omega arith);
+          rw (c.take.ensures.same.held, k.held, c.held-held.ensures.agreed lines (c.take.ensures.kept k.kept) (c.take.ensures.counts k.kept) e f, wide_row c.args.offset) (row_more rows lines c.args.width c.args.offset k.wide long (omega arith) (omega arith));
       kept = c.held-held.ensures.kept (c.take.ensures.kept k.kept);
     }
