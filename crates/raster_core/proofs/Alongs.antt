@@ -23,7 +23,7 @@ along_none {S} {pull} {b} {old} = record {
   any = λ from first s answers lines done so_far s2 a2. record {
     pixels = [];
     count = refl;
-    so_far = subst (λ row. PixelsSoFar (source_at pull from answers) (plain_row b.mode b.offset first s lines) row b.past old) (sym (append-nil done)) so_far;
+    so_far = rw (append-nil done) so_far;
   };
 }
 
@@ -33,8 +33,7 @@ registers_at : {second above past : ℕ} (lines : Lines) (offset n : ℕ) (done 
     AreAt (with_row lines (done ++ pixels)) offset (second / 2 ^ 7 * 2 ^ n) (above / 2 ^ 6 * 2 ^ n) past (length (done ++ pixels))
 registers_at {second} {above} {past} lines offset n done pixels h count s a p =
     let long : length done + n ≡ length (done ++ pixels) = rw (← count) (sym (length-append done pixels)) in
-    subst (λ x. AreAt (with_row lines (done ++ pixels)) offset (second / 2 ^ 7 * 2 ^ n) (above / 2 ^ 6 * 2 ^ n) past x) long
-    (at_registers {lines = with_row lines (done ++ pixels)} {byte = before (done ++ pixels) (length done + 8) 8} n h (record { second_is = s; above_is = a; byte_is = refl }) (rw long p))
+    rw (← long) (at_registers {lines = with_row lines (done ++ pixels)} {byte = before (done ++ pixels) (length done + 8) 8} n h (record { second_is = s; above_is = a; byte_is = refl }) (rw long p))
 
 pub along_next : {S : Type 0} {pull : S → Pulled → S → Type 0} {b : ByteAround} {old mid to : DecoderState S} {n past past' cx : ℕ} {pixel : Bool} →
     n < 8 → past' ≡ past % 2 ^ (past_bits b.offset - 1) * 2 + bit pixel →
@@ -60,7 +59,7 @@ along_next {S} {pull} {b} {old} {mid} {to} {n} {past} {past'} {cx} {pixel} few p
       record {
         pixels = m.pixels ++ pixel ∷ [];
         count = rw (length-append m.pixels (pixel ∷ []), m.count) refl;
-        so_far = subst (λ r. PixelsSoFar (source_at pull from answers) (plain_row b.mode b.offset first s lines) r past' to) (append_assoc done m.pixels (pixel ∷ [])) whole;
+        so_far = rw (← append_assoc done m.pixels (pixel ∷ [])) whole;
       };
 }
 

@@ -1,5 +1,5 @@
 -- Pixels among pixels of their own colour.
-use Rattle.std.proofs.Common.{◌≡◌, ℕ, zero, suc, ◌+◌, ◌-◌, ◌*◌, ◌/◌, ◌%◌, ◌^◌, ◌<◌, ◌≤◌, Bool, true, false, inl, inr, List, [], ◌∷◌, refl, sym, ◌∙◌, ap, arith, subst}
+use Rattle.std.proofs.Common.{◌≡◌, ℕ, zero, suc, ◌+◌, ◌-◌, ◌*◌, ◌/◌, ◌%◌, ◌^◌, ◌<◌, ◌≤◌, Bool, true, false, inl, inr, List, [], ◌∷◌, refl, sym, ◌∙◌, ap, arith}
 use Rattle.std.specs.Prelude.{if◌then◌else◌, ◌==◌}
 use Rattle.std.proofs.Math.Nat.{pow-suc, mod-lt, div-div-eq-div-mul}
 use Rattle.std.proofs.lemmas.Nat.{pow_pos, pow-add, mod-pow-add}
@@ -31,7 +31,7 @@ bit_of c r (suc l) k h few =
     let t = top_bit c (r / 2 ^ l % 2) (2 ^ l) (r % 2 ^ l) (omega arith) (mod-lt r (pow_pos l)) (sym parts ∙ (h ∙ ap (λ p. bit c * (p - 1)) twice)) in
     elim (cases_lt k l) [
       | inl below ↦ bit_of c r l k t.1 below
-      | inr at ↦ let e : l ≡ k = omega arith in subst (λ n. r / 2 ^ n % 2 ≡ bit c) e t.0
+      | inr at ↦ let e : l ≡ k = omega arith in rw (← e) t.0
     ]
 
 -- ---- the pixels of a part of a register

@@ -4,15 +4,13 @@ use Rattle.std.specs.Prelude.{slice_index}
 use Rattle.std.proofs.lemmas.Bool.{cases_lt}
 use Rattle.std.proofs.lemmas.List.{length-append, length-replicate}
 use Rattle.qm_core.specs.Place.{State, Estimate, after}
-use Rattle.qm_core.specs.Code.{wanted_bytes}
-use Rattle.qm_core.specs.Source.{bytes_of, source_at}
 use Rattle.qm_core.specs.Skipping.{IsRun}
-use Rattle.qm_core.specs.Decoder.{DecoderIsAt, DecoderState, has_stopped, decoder_state}
+use Rattle.qm_core.specs.Decoder.{DecoderState, has_stopped, decoder_state}
 use Rattle.qm_core.specs.declared.source.Pulled.{Pulled}
 use Rattle.qm_core.specs.declared.decoder.Decoder.{Decoder}
 use Rattle.raster_core.specs.Machine.Registers.{bit, before, past_bits}
-use Rattle.raster_core.specs.Machine.Decoded.{RowAround, RowPart, BytesAt, with_row, PixelsSoFar, BytesAlong, SkipsFilledAlong, filled_run, plain_row, bytes_at}
-use Rattle.raster_core.specs.Machine.Uniform.{filled, uniform_event, AreFilled, StaysUniform}
+use Rattle.raster_core.specs.Machine.Decoded.{RowAround, RowPart, BytesAt, with_row, BytesAlong, SkipsFilledAlong, filled_run, bytes_at}
+use Rattle.raster_core.specs.Machine.Uniform.{filled, uniform_event, StaysUniform}
 use Rattle.raster_core.proofs.Causal.{before_front}
 use Rattle.raster_core.proofs.Packed.{packed_in}
 use Rattle.raster_core.proofs.SkipsAlong.{run_pixels, run_before, decoded_run}
@@ -24,8 +22,8 @@ along_join {colour} {above} {second} {i} {at} {count} {d} {d'} {d''} {learned} n
     let behind : at + 1 ≡ (i + 1) + n = omega arith in
     subst (λ z. SkipsFilledAlong (filled_run colour i z) above second d learned d'') (sym count_is)
     (record {
-      above_filled = filled_join colour above (i + 1) n 8 a.above_filled (subst (λ z. AreFilled colour above z 8) behind b.above_filled);
-      second_filled = filled_join colour second (i + 1) n 8 a.second_filled (subst (λ z. AreFilled colour second z 8) behind b.second_filled);
+      above_filled = filled_join colour above (i + 1) n 8 a.above_filled (rw (← behind) b.above_filled);
+      second_filled = filled_join colour second (i + 1) n 8 a.second_filled (rw (← behind) b.second_filled);
       none = λ e. absurd (omega arith);
       decoded = λ p answers h.
           let s : State = record { place = p; learned = learned } in
@@ -38,9 +36,9 @@ along_join {colour} {above} {second} {i} {at} {count} {d} {d'} {d''} {learned} n
           let last : after t (replicate 64 event) ≡ after s (replicate (8 * (n + 8)) event) =
           rw (← after_more s event (8 * n) 64, size) refl in
           let still : t.place.doublings ≡ p.doublings = one.0.quiet (8 * n) (omega arith) in (
-            subst (λ z. IsRun s event z) size (run_join s event (8 * n) 64 one.0 (subst (λ u. IsRun u event 64) same two.0)),
-            subst (λ u. DecoderIsAt d'' u.place answers) (ap (λ u. after u (replicate 64 event)) same ∙ last) two.1,
-            λ _ more. subst (λ z. wanted_bytes z ≤ length (bytes_of answers)) still (two.2 (omega arith) more),
+            rw (← size) (run_join s event (8 * n) 64 one.0 (subst (λ u. IsRun u event 64) same two.0)),
+            rw (← ap (λ u. after u (replicate 64 event)) same ∙ last) two.1,
+            λ _ more. rw (← still) (two.2 (omega arith) more),
           );
     })
 
@@ -84,7 +82,7 @@ bytes_skipped {a = a} {b = b} {colour = colour} n high left_is left_to some regi
       record {
         done = row;
         rest = omega arith;
-        so_far = decoded_run (8 * n) colour f.so_far (subst (λ x. StaysUniform a.mode (with_row lines row) a.offset colour x (8 * n)) (sym wide) stays) behind going
+        so_far = decoded_run (8 * n) colour f.so_far (rw wide stays) behind going
             (λ p given h. let k = skips.decoded p given h in (k.0, k.1, k.2 some));
         bytes = λ k few. elim (cases_lt k i) [
           | inl near' ↦ painted.kept k near' ∙ (f.bytes k near' ∙ sym (before_front f.done (replicate (8 * n) colour) (8 * k + 8) 8 (omega arith)))
@@ -108,7 +106,7 @@ kept_along {pull = pull} {a} {b = b} {mid = mid} same kept along = record {
       record {
         done = f.done;
         rest = f.rest;
-        so_far = subst (λ u. PixelsSoFar (source_at pull from answers) (plain_row a.mode a.offset first s lines) f.done b.past (decoder_state mid.source u mid.learned)) (sym same) f.so_far;
+        so_far = rw same f.so_far;
         bytes = λ k few. kept k few ∙ f.bytes k few;
         second_is = f.second_is;
         above_is = f.above_is;

@@ -130,7 +130,7 @@ lanes_at : {moved : Bool} {own : ℕ} (b : RowByte) (far lanes n : ℕ) → b.by
     lane_events lanes 4 ≡ events_from b.around.template (byte_lines b) (128 + n) 4
 lanes_at {moved} b far lanes n small made is are has few =
     lanes_are b lanes n 4 small made.two_line_is are
-    (subst (λ z. HasPixels lanes (near moved b.around.second b.around.above far) (b.around.past % 256 * 256 + z) n 4) is has) few
+    (rw (← is) has) few
 
 pub first_lanes : {moved : Bool} {own : ℕ} (b : RowByte) (far first : ℕ) → b.byte < 256 → IsMadeFor false moved b.around.template → own ≡ b.byte →
     AreBeside (near moved b.around.second b.around.above far) b.around.template.offset b.around.second b.around.above b.byte b.around.past →

@@ -1,5 +1,5 @@
 -- The answers of a source and the bytes of a sink, in succession.
-use Rattle.std.proofs.Common.{◌≡◌, ℕ, Bool, true, false, List, [], ◌∷◌, ◌++◌, length, refl, sym, ap, subst, Ok, Err}
+use Rattle.std.proofs.Common.{◌≡◌, ℕ, Bool, true, false, List, [], ◌∷◌, ◌++◌, length, refl, sym, ap, Ok, Err}
 use Rattle.std.specs.Prelude.{Result, IsTrue}
 use Rattle.qm_core.specs.Source.{bytes_of, heard_of, IsClosed, Gives, before_fault}
 use Rattle.qm_core.specs.Sink.{Took}
@@ -25,15 +25,15 @@ length-bytes_of (Fault ∷ xs) h = cc
 pub bytes_before : (xs : List Pulled) → IsClosed xs → bytes_of (before_fault xs) ≡ bytes_of xs
 bytes_before [] h = refl
 bytes_before (Byte b ∷ xs) h = rw (bytes_before xs h) refl
-bytes_before (End ∷ xs) h = subst (λ r. bytes_of (before_fault r) ≡ bytes_of r) (sym h) refl
+bytes_before (End ∷ xs) h = rw h refl
 bytes_before (Fault ∷ xs) h = sym (ap bytes_of h)
 
 pub Gives-append : {S : Type 0} (pull : S → Pulled → S → Type 0) (a b c : S) (xs ys : List Pulled) → Gives pull a xs b → Gives pull b ys c → Gives pull a (xs ++ ys) c
-Gives-append pull a b c [] ys h k = subst (λ s. Gives pull s ys c) (sym h) k
+Gives-append pull a b c [] ys h k = rw h k
 Gives-append pull a b c (x ∷ xs) ys h k = (h.0, h.1, Gives-append pull h.0 b c xs ys h.2 k)
 
 pub Took-append : {S : Type 0} (took : S → ℕ → S → Type 0) (a b c : S) (xs ys : List ℕ) → Took took a xs b → Took took b ys c → Took took a (xs ++ ys) c
-Took-append took a b c [] ys h k = subst (λ s. Took took s ys c) (sym h) k
+Took-append took a b c [] ys h k = rw h k
 Took-append took a b c (x ∷ xs) ys h k = (h.0, h.1, Took-append took h.0 b c xs ys h.2 k)
 
 -- an encoder that puts something had not failed

@@ -6,7 +6,7 @@ use Rattle.raster_core.specs.Lines.{Lines, context_at}
 use Rattle.raster_core.specs.Machine.Registers.{AreAt}
 use Rattle.raster_core.specs.Machine.Lanes.{lane, around, HasAround}
 use Rattle.raster_core.specs.declared.place.Pause.{Pause}
-use Rattle.raster_core.specs.Machine.Decoded.{ByteAround, Along, StopsAlong}
+use Rattle.raster_core.specs.Machine.Decoded.{ByteAround, StopsAlong}
 use Rattle.raster_core.specs.Machine.DecodedLanes.{LanesAround, AreLanesOf, AlongMore, StopsMore, later, lanes_around}
 use Rattle.raster_core.proofs.Contexts.{three_line_nominal}
 use Rattle.raster_core.proofs.LaneTables.{later_lane}
@@ -24,7 +24,7 @@ lane_context b lanes n past cx has cx_is lines x r =
     let p = parts lanes (b.second / 2 ^ 7 * 2 ^ n / 2 ^ 7 % 8) (b.above / 2 ^ 6 * 2 ^ n / 2 ^ 7 % 32) (omega arith) (omega arith) here in
     let e : cx ≡ context_at (record { two_line = false; typical = b.mode.typical }) lines 0 x =
     rw (cx_is, p) (three_line_nominal (subst (λ o. AreAt lines o (b.second / 2 ^ 7 * 2 ^ n) (b.above / 2 ^ 6 * 2 ^ n) past x) has.nominal r)) in
-    subst (λ o. cx ≡ context_at b.mode lines o x) (sym has.nominal) (subst (λ t. cx ≡ context_at (record { two_line = t; typical = b.mode.typical }) lines 0 x) (sym has.three_line) e)
+    rw (has.nominal) (subst (λ t. cx ≡ context_at (record { two_line = t; typical = b.mode.typical }) lines 0 x) (sym has.three_line) e)
 
 -- pixels after pixels
 
@@ -49,7 +49,7 @@ pub more_then : {S : Type 0} {pull : S → Pulled → S → Type 0} {lanes p i p
 more_then {S} {pull} {lanes} {p} {i} {p'} {k} {p''} {old} {mid} {to} first then = record {
   any = λ b from n has so_far.
       let e : (n + i) + k ≡ n + (i + k) = omega arith in
-      subst (λ m. Along pull b from m p'' to) e (then.any b from (n + i) (later_lanes i k has) (first.any b from n (first_lanes i (omega arith) has) so_far));
+      rw (← e) (then.any b from (n + i) (later_lanes i k has) (first.any b from n (first_lanes i (omega arith) has) so_far));
 }
 
 pub stops_first : {S : Type 0} {pull : S → Pulled → S → Type 0} {a : LanesAround} {old to : DecoderState S} {i k : ℕ} {pause : Pause} → i ≤ k → StopsMore pull a old i pause to → StopsMore pull a old k pause to
@@ -61,8 +61,7 @@ pub stops_then : {S : Type 0} {pull : S → Pulled → S → Type 0} {lanes p i 
 stops_then {S} {pull} {lanes} {p} {i} {p'} {k} {old} {mid} {to} {pause} {pause'} count_is past_is first then = record {
   any = λ b from n has so_far.
       let e : (n + i) + pause.count ≡ n + pause'.count = omega arith in
-      subst (λ at. StopsAlong pull b from 8 at to) (same_pause _ _ _ _ e (sym past_is))
-      (then.any b from (n + i) (later_lanes i k has) (first.any b from n (first_lanes i (omega arith) has) so_far));
+      rw (← same_pause _ _ _ _ e (sym past_is)) (then.any b from (n + i) (later_lanes i k has) (first.any b from n (first_lanes i (omega arith) has) so_far));
 }
 
 pub are_first : {lanes : ℕ} {b : ByteAround} → b.mode.two_line ≡ false → b.offset ≡ 0 → HasAround lanes b.second b.above 0 4 → AreLanesOf lanes b 0 4
@@ -74,4 +73,4 @@ are_last three nominal has = record { three_line = three; nominal = nominal; wit
 -- where the source stopped, counted from a byte's first pixel
 pub stops_at : {S : Type 0} {pull : S → Pulled → S → Type 0} {b : ByteAround} {old to : DecoderState S} {pause' : Pause} (n : ℕ) (pause : Pause) →
     pause'.count ≡ n + pause.count → pause'.past ≡ pause.past → StopsAlong pull b old 8 (later n pause) to → StopsAlong pull b old 8 pause' to
-stops_at {S} {pull} {b} {old} {to} n pause count_is past_is stops = subst (λ at. StopsAlong pull b old 8 at to) (same_pause _ _ _ _ (sym count_is) (sym past_is)) stops
+stops_at {S} {pull} {b} {old} {to} n pause count_is past_is stops = rw (← same_pause _ _ _ _ (sym count_is) (sym past_is)) stops

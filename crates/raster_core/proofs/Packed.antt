@@ -1,5 +1,5 @@
 -- Rows in bytes, and registers that take a byte in.
-use Rattle.std.proofs.Common.{◌≡◌, ℕ, zero, suc, ◌+◌, ◌-◌, ◌*◌, ◌/◌, ◌%◌, ◌^◌, ◌<◌, ◌≤◌, Bool, false, inl, inr, List, length, refl, sym, ◌∙◌, ap, arith, subst, get_or}
+use Rattle.std.proofs.Common.{◌≡◌, ℕ, zero, suc, ◌+◌, ◌-◌, ◌*◌, ◌/◌, ◌%◌, ◌^◌, ◌<◌, ◌≤◌, Bool, false, inl, inr, List, length, refl, sym, ◌∙◌, ap, arith, get_or}
 use Rattle.std.specs.Prelude.{map, slice_index}
 use Rattle.std.proofs.lemmas.Bool.{cases_lt}
 use Rattle.std.proofs.lemmas.List.{length-map, ext_get_or}
@@ -75,7 +75,7 @@ byte_in {register} row i h =
     let low : register % 65536 ≡ before row (8 * i + 8) 16 = rw h (before_mod row (8 * i + 8) 8 16) in
     let e : (8 * i + 8) + 8 ≡ 8 * (i + 1) + 8 = omega arith in
     let s : before row (8 * (i + 1) + 8) 24 ≡ before row (8 * i + 8) 16 * 256 + before row (8 * (i + 1) + 8) 8 =
-    subst (λ z. before row z 24 ≡ before row (8 * i + 8) 16 * 256 + before row z 8) e (before_split row (8 * i + 8) 16 8) in
+    rw (← e) (before_split row (8 * i + 8) 16 8) in
     rw low (sym s)
 
 -- the byte of a row whose last n pixels are in it
@@ -86,21 +86,20 @@ byte_out {past} done offset i n h long few =
     let white = before_white done (length done) (8 - n) (omega arith) in
     let e : length done + (8 - n) ≡ 8 * i + 8 = omega arith in
     let c : 8 + (8 - n) ≡ (8 - n) + 8 = omega arith in
-    let m : before done (length done) 8 * 2 ^ (8 - n) ≡ before done (8 * i + 8) ((8 - n) + 8) = sym (subst (λ z. before done z ((8 - n) + 8) ≡ before done (length done) 8 * 2 ^ (8 - n)) e
-    (ap (λ k. before done (length done + (8 - n)) k) (sym c) ∙ (s ∙ rw white (omega arith)))) in
+    let m : before done (length done) 8 * 2 ^ (8 - n) ≡ before done (8 * i + 8) ((8 - n) + 8) = sym (rw (← e) (ap (λ k. before done (length done + (8 - n)) k) (sym c) ∙ (s ∙ rw white (omega arith)))) in
     rw (low, m) (before_mod done (8 * i + 8) (8 - n) 8)
 
 -- a register from its three bytes
 two_bytes : (row : List Bool) (k : ℕ) → before row (8 * k + 8) 8 * 256 + before row (8 * k + 16) 8 ≡ before row (8 * k + 16) 16
 two_bytes row k =
     let e : (8 * k + 8) + 8 ≡ 8 * k + 16 = omega arith in
-    sym (subst (λ z. before row z 16 ≡ before row (8 * k + 8) 8 * 256 + before row z 8) e (before_split row (8 * k + 8) 8 8))
+    sym (rw (← e) (before_split row (8 * k + 8) 8 8))
 
 pub three_bytes : (row : List Bool) (k : ℕ) → (before row (8 * k + 8) 8 * 65536 + before row (8 * k + 16) 8 * 256) + before row (8 * k + 24) 8 ≡ before row (8 * k + 24) 24
 three_bytes row k =
     let e : (8 * k + 16) + 8 ≡ 8 * k + 24 = omega arith in
     let s : before row (8 * k + 24) 24 ≡ before row (8 * k + 16) 16 * 256 + before row (8 * k + 24) 8 =
-    subst (λ z. before row z 24 ≡ before row (8 * k + 16) 16 * 256 + before row z 8) e (before_split row (8 * k + 16) 16 8) in
+    rw (← e) (before_split row (8 * k + 16) 16 8) in
     omega (arith, s, two_bytes row k)
 
 pub second_byte : (row : List Bool) → before row 8 8 * 256 + before row 16 8 ≡ before row 16 24
@@ -120,6 +119,5 @@ moves_on row i k register next few r n =
     let f : (8 * i + 16) + k ≡ (8 * i + k) + 16 = omega arith in
     let c : 24 + k ≡ k + 24 = omega arith in
     let s : before row ((8 * i + k) + 16) (k + 24) ≡ register * 2 ^ k + before row ((8 * i + k) + 16) k =
-    subst (λ x. before row x (k + 24) ≡ register * 2 ^ k + before row x k) f
-    (ap (λ z. before row ((8 * i + 16) + k) z) (sym c) ∙ (before_split row (8 * i + 16) 24 k ∙ ap (λ z. z * 2 ^ k + before row ((8 * i + 16) + k) k) (sym r))) in
+    rw (← f) (ap (λ z. before row ((8 * i + 16) + k) z) (sym c) ∙ (before_split row (8 * i + 16) 24 k ∙ ap (λ z. z * 2 ^ k + before row ((8 * i + 16) + k) k) (sym r))) in
     rw low (ap (λ z. z % 2 ^ 24) (sym s) ∙ before_mod row ((8 * i + k) + 16) k 24)

@@ -1,5 +1,5 @@
 -- Three rows in bytes, at places in a ring.
-use Rattle.std.proofs.Common.{◌≡◌, ℕ, zero, suc, ◌+◌, ◌*◌, ◌-◌, ◌<◌, ◌≤◌, List, [], ◌∷◌, ◌++◌, length, take, drop, refl, sym, subst, ◌∙◌, ap, arith, replicate}
+use Rattle.std.proofs.Common.{◌≡◌, ℕ, zero, suc, ◌+◌, ◌*◌, ◌-◌, ◌<◌, ◌≤◌, List, [], ◌∷◌, ◌++◌, length, take, drop, refl, sym, ◌∙◌, ap, arith, replicate}
 use Rattle.std.specs.List.{copy_within}
 use Rattle.std.proofs.lemmas.List.{append_assoc, drop-drop, take_at, drop_at, drop-take, drop-replicate, take-replicate, length-take-le, length-drop}
 use Rattle.std.proofs.lemmas.Slice.{take-put_mid_below, drop-put_mid}
@@ -97,7 +97,7 @@ repeats {p} {q} {width} {start} {end} {to} bytes h small down long from until at
     let n = row_bytes width in
     let k = end - start in
     let same : k ≡ n = omega arith in
-    let q_small : q < 3 = subst (λ r. r < 3) (sym down) (next_small (next_place p) (next_small p small)) in
+    let q_small : q < 3 = rw down (next_small (next_place p) (next_small p small)) in
     let _within = inside p n small in
     let row_is : take k (drop start bytes) ≡ row_placed n bytes p = rw (same, from) refl in
     let above_is : row_placed n bytes p ≡ h.current = ap (λ r. row_placed n bytes r) (sym (ap next_place down ∙ next_last p small)) ∙ ap (λ w. w.above) turned_is in

@@ -4,7 +4,7 @@ use Rattle.std.specs.Prelude.{◌↔◌, Result, IsTrue, IsErr, IsErrAnd, OnOk, 
 use Rattle.std.proofs.lemmas.List.{append-nil, length-append}
 use Rattle.qm_core.specs.Counts.{one_more}
 use Rattle.qm_core.specs.Place.{Place, State, Event, Estimate, after}
-use Rattle.qm_core.specs.Encoder.{EncoderIsAt, event_count, EncoderState, has_failed, encoder_state}
+use Rattle.qm_core.specs.Encoder.{EncoderIsAt, event_count, EncoderState, encoder_state}
 use Rattle.qm_core.specs.Sink.{SinkAt, Took, Refused, sink_at}
 use Rattle.qm_core.specs.declared.encoder.CoderFault.{CoderFault}
 use Rattle.qm_core.specs.declared.sink.CodeSink.{Ghosts}
@@ -96,7 +96,7 @@ puts_none {c = c} = record {
     fails = going;
     fault = λ e. absurd (no_err tt e);
     counted = tt;
-    ok = λ p pushed h. record { more = []; taken = refl; codes = subst (λ g. EncoderIsAt c.encoder.now p g) (sym (append-nil pushed)) h; taught = refl };
+    ok = λ p pushed h. record { more = []; taken = refl; codes = rw (append-nil pushed) h; taught = refl };
     err = tt;
   };
 }
@@ -113,7 +113,7 @@ puts_join {S} {sink} {a} {b} {c} {xs} {ys} {result} h k =
       stuck = λ t.
           let was = h.stuck t in
           let none : xs ≡ [] = none_of xs was.0 in
-          let then = k.stuck (subst (λ e. IsTrue (has_failed e)) (sym was.1.encoder_is) t) in (
+          let then = k.stuck (rw (was.1.encoder_is) t) in (
             then.0 ∙ ap (λ zs. failed_answer (zs ++ ys)) (sym none),
             record { learned_is = then.1.learned_is ∙ was.1.learned_is; encoder_is = then.1.encoder_is ∙ was.1.encoder_is; out_is = then.1.out_is ∙ was.1.out_is },
           );
@@ -155,7 +155,7 @@ puts_join {S} {sink} {a} {b} {c} {xs} {ys} {result} h k =
 pub puts_handed : {S : Type 0} {sink : Ghosts S} {a b : Coder S} {xs : List Event} {f : CoderFault} {result : Result (Unit {0}) CoderFault} →
     IsErr result × IsErrAnd result (λ e. e ≡ f) → Puts sink xs a b (Err f) → Puts sink xs a b result
 puts_handed {S} {sink} {a} {b} {xs} {f} {result = Ok x} is h = absurd (no_err x is.0)
-puts_handed {S} {sink} {a} {b} {xs} {f} {result = Err e} is h = subst (λ r. Puts sink xs a b (Err r)) (sym is.1) h
+puts_handed {S} {sink} {a} {b} {xs} {f} {result = Err e} is h = rw (is.1) h
 
 -- it comes before all that was to follow
 pub puts_stop : {S : Type 0} {sink : Ghosts S} {a b : Coder S} {xs : List Event} {f : CoderFault} {result : Result (Unit {0}) CoderFault} (ys : List Event) →
@@ -178,7 +178,7 @@ puts_stop {S} {sink} {a} {b} {xs} {f} {result} ys is h = puts_handed is (record 
 
 -- the same for other lists
 pub puts_as : {S : Type 0} {sink : Ghosts S} {a b : Coder S} {xs ys : List Event} {result : Result (Unit {0}) CoderFault} → xs ≡ ys → Puts sink xs a b result → Puts sink ys a b result
-puts_as {S} {sink} {a} {b} {xs} {ys} {result} e h = subst (λ zs. Puts sink zs a b result) e h
+puts_as {S} {sink} {a} {b} {xs} {ys} {result} e h = rw (← e) h
 
 -- ---- a run in one step
 
@@ -196,7 +196,7 @@ puts_idle {sink = sink} {c = c} {xs} loan same h = puts_as (append-nil xs) (puts
     ok = λ p pushed at. record {
       more = [];
       taken = sym same.out_is;
-      codes = subst (λ g. EncoderIsAt c.encoder.now p g) (sym (append-nil pushed)) (subst (λ e. EncoderIsAt e p pushed) (sym same.encoder_is) at);
+      codes = rw (append-nil pushed) (subst (λ e. EncoderIsAt e p pushed) (sym same.encoder_is) at);
       taught = same.learned_is;
     };
     err = tt;

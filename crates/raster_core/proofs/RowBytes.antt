@@ -5,13 +5,13 @@ use Rattle.std.specs.Int.{div_ceil}
 use Rattle.std.proofs.lemmas.Bool.{cases_lt}
 use Rattle.std.proofs.lemmas.List.{length-append}
 use Rattle.qm_core.specs.declared.source.Pulled.{Pulled}
-use Rattle.qm_core.specs.Source.{SourceAt, source_at}
+use Rattle.qm_core.specs.Source.{SourceAt}
 use Rattle.qm_core.specs.Decoder.{DecoderState}
 use Rattle.raster_core.specs.Packed.{packed_row}
 use Rattle.raster_core.specs.Machine.Registers.{before, past_bits}
 use Rattle.raster_core.specs.declared.place.Pause.{Pause}
 use Rattle.raster_core.specs.declared.place.RowPlace.{RowPlace}
-use Rattle.raster_core.specs.Machine.Decoded.{RowAround, RowPart, BytesAt, PlainRow, PixelsSoFar, PixelsHeld, FromPixels, Along, StopsAlong, BytesAlong, ByteEnds, RowAlong, RowStops, byte_around, next_around, plain_row, bytes_at}
+use Rattle.raster_core.specs.Machine.Decoded.{RowAround, RowPart, BytesAt, PlainRow, PixelsHeld, FromPixels, Along, StopsAlong, BytesAlong, ByteEnds, RowAlong, RowStops, byte_around, next_around, bytes_at}
 use Rattle.raster_core.proofs.Causal.{before_front}
 use Rattle.raster_core.proofs.Packed.{packed_byte, packed_is, byte_in, byte_out}
 
@@ -29,7 +29,7 @@ set_bytes current byte i done h is each k l =
       | inl below ↦ let ne : k ≢ i = omega arith in get_or-set_other current i k byte 0 ne ∙ each k below
       | inr here ↦
           let e : i ≡ k = omega arith in
-          subst (λ j. slice_index (slice_set current i byte) j ≡ before done (8 * j + 8) 8) e (get_or-set_same current i byte 0 h ∙ is)
+          rw (← e) (get_or-set_same current i byte 0 h ∙ is)
     ]
 
 pub bytes_next : {S : Type 0} {pull : S → Pulled → S → Type 0} {a : RowAround} {part : RowPart S} {width n byte past' : ℕ} {b : BytesAt} {mid to : DecoderState S} →
@@ -105,7 +105,7 @@ byte_ended {S} {pull} {a} {part} {second} {above} {n} {byte} {past'} {place} {to
   any = λ from first s answers lines done had so_far a_is s_is.
       let count = had.count in
       let x = part.place.done in
-      let m = along.any from first s answers lines done so_far (subst (λ z. second ≡ before lines.second (z + 16) 24) count (round.second_is lines.second s_is)) (subst (λ z. above ≡ before lines.above (z + 16) 24) count (round.above_is lines.above a_is)) in
+      let m = along.any from first s answers lines done so_far (rw (← count) (round.second_is lines.second s_is)) (rw (← count) (round.above_is lines.above a_is)) in
       let long : length (done ++ m.pixels) ≡ length done + length m.pixels = length-append done m.pixels in
       let many = m.count in
       let i : ℕ = x / 8 in
@@ -118,7 +118,7 @@ byte_ended {S} {pull} {a} {part} {second} {above} {n} {byte} {past'} {place} {to
         bytes = λ k h.
             set_bytes part.current byte i (done ++ m.pixels) inside here
             (λ j l. had.bytes j (omega arith) ∙ sym (before_front done m.pixels (8 * j + 8) 8 (omega arith))) k (omega arith);
-        so_far = subst (λ p. PixelsSoFar (source_at pull from answers) (plain_row a.mode a.offset first s lines) (done ++ m.pixels) p to) (sym past_is) m.so_far;
+        so_far = rw past_is m.so_far;
       };
 }
 
@@ -131,7 +131,7 @@ pub byte_stopped : {S : Type 0} {pull : S → Pulled → S → Type 0} {a : RowA
 byte_stopped {S} {pull} {a} {part} {second} {above} round few within begun_is done_is past_is stops = record {
   any = λ from first s answers lines done had so_far a_is s_is.
       let count = had.count in
-      let m = stops.any from first s answers lines done so_far (subst (λ z. second ≡ before lines.second (z + 16) 24) count (round.second_is lines.second s_is)) (subst (λ z. above ≡ before lines.above (z + 16) 24) count (round.above_is lines.above a_is)) in
+      let m = stops.any from first s answers lines done so_far (rw (← count) (round.second_is lines.second s_is)) (rw (← count) (round.above_is lines.above a_is)) in
       let long : length (done ++ m.pixels) ≡ length done + length m.pixels = length-append done m.pixels in
       let many = m.many in
       let less = m.few in

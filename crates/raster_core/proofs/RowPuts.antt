@@ -1,5 +1,5 @@
 -- A whole row's events: what is put for the bytes of a window is what the standard codes for its lines.
-use Rattle.std.proofs.Common.{◌≡◌, ℕ, zero, suc, ◌+◌, ◌-◌, ◌*◌, ◌/◌, ◌%◌, ◌<◌, ◌≤◌, Bool, true, false, List, [], ◌∷◌, ◌++◌, length, refl, sym, ◌∙◌, ap, arith, subst, Ok, Err}
+use Rattle.std.proofs.Common.{◌≡◌, ℕ, zero, suc, ◌+◌, ◌-◌, ◌*◌, ◌/◌, ◌%◌, ◌<◌, ◌≤◌, Bool, true, false, List, [], ◌∷◌, ◌++◌, length, refl, sym, ◌∙◌, ap, arith, Ok, Err}
 use Rattle.std.specs.Prelude.{Result, IsTrue, OnOk, ◌==◌, if◌then◌else◌}
 use Rattle.std.proofs.lemmas.Bool.Decides.{nat_tests}
 use Rattle.std.proofs.lemmas.List.{append-nil}
@@ -45,7 +45,7 @@ same_pixels {a} {b} p q = record {
       let place : 8 * k + n ≡ x = omega arith in
       let one = pixel_in a (8 * k) n refl few in
       let two = pixel_in b (8 * k) n (p.byte k ∙ sym (q.byte k)) few in
-      subst (λ y. pixel_at a y ≡ pixel_at b y) place (bit_same _ _ (sym one ∙ two));
+      rw (← place) (bit_same _ _ (sym one ∙ two));
 }
 
 same_left : {a b : List Bool} (x k : ℕ) → SamePixels a b → pixel_left a x k ≡ pixel_left b x k

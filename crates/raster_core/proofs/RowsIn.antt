@@ -145,8 +145,7 @@ uniform_more {colour} {rows} {i} at from h row above second =
     let n : (at - i) + 8 ≡ (at + 8) - i = omega arith in
     let here : at ≡ i + (at - i) = omega arith in
     let next : at + 1 ≡ (i + 1) + (at - i) = omega arith in
-    subst (λ k. AreUniform colour rows i k) n
-    (record {
+    rw (← n) (record {
       row_filled = filled_join colour rows.current.now i (at - i) 8 h.row_filled (subst (λ z. AreFilled colour rows.current.now z 8) here row);
       above_filled = filled_join colour rows.above.now (i + 1) (at - i) 8 h.above_filled (subst (λ z. AreFilled colour rows.above.now z 8) next above);
       second_filled = filled_join colour rows.second.now (i + 1) (at - i) 8 h.second_filled (subst (λ z. AreFilled colour rows.second.now z 8) next second);
@@ -173,10 +172,10 @@ run_events {a} {rows} {i} {n} {colour} h only uniform =
 -- ---- other names of the same template
 
 pub stands_as : {a : Around} {t u : Template} {lines : Lines} {i : ℕ} → t ≡ u → StandsAt a t lines i → StandsAt a u lines i
-stands_as {a} {lines = lines} {i} e h = subst (λ v. StandsAt a v lines i) e h
+stands_as {a} {lines = lines} {i} e h = rw (← e) h
 
 pub byte_as : {b : RowByte} {t u : Template} {lines : Lines} {i : ℕ} → t ≡ u → IsByte b t lines i → IsByte b u lines i
-byte_as {b} {lines = lines} {i} e h = subst (λ v. IsByte b v lines i) e h
+byte_as {b} {lines = lines} {i} e h = rw (← e) h
 
 -- a byte's events after those of the bytes before it, of which n are the last
 pub byte_on : {b : RowByte} {t u : Template} {lines : Lines} {i : ℕ} (n k : ℕ) → b.byte < 256 → IsByte b u lines i → u ≡ t → n ≤ 8 → 8 * i + n ≡ k →
@@ -191,7 +190,7 @@ no_run {sink = sink} {a} {rows} {i} {c} inside stands stops =
     let same : i ≡ i + 0 = omega arith in
     record {
       inside = omega arith;
-      stands = subst (λ k. StandsAt a a.template (lines_in rows) k) same stands;
+      stands = rw (← same) stands;
       puts = puts_as (sym (events_none a.template (lines_in rows) (8 * i))) (puts_none);
-      stops = λ colour only. subst (λ k. StopsAt colour rows k c) same (stops colour only);
+      stops = λ colour only. rw (← same) (stops colour only);
     }

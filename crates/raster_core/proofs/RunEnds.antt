@@ -41,7 +41,7 @@ pub ends_full : {S : Type 0} {colour : Bool} {rows : Rows} {i : ℕ} {c c' : Cod
     result ≡ false → IsUnchanged c c' → StopsAt colour rows i c'
 ends_full {colour = colour} exact is same = record {
   no_room = λ more uniform p pushed going at.
-      let e = exact p pushed (subst (λ e. has_failed e ≡ false) same.encoder_is going) (subst (λ e. EncoderIsAt e p pushed) same.encoder_is at) in
+      let e = exact p pushed (rw (← same.encoder_is) going) (subst (λ e. EncoderIsAt e p pushed) same.encoder_is at) in
       rw (same.learned_is, ← e) is;
 }
 
@@ -53,7 +53,7 @@ colour_is {colour = true} only = ap colour_of only.above_is
 colour_is {colour = false} only = ap colour_of only.above_is
 
 pub ends_alike : {S : Type 0} {colour : Bool} {a : Around} {rows : Rows} {i : ℕ} {c : Coder S} → StopsAt (colour_of a.above) rows i c → RemembersOnly colour a → StopsAt colour rows i c
-ends_alike {colour = colour} {a} {rows} {i} {c} h only = subst (λ k. StopsAt k rows i c) (colour_is only) h
+ends_alike {colour = colour} {a} {rows} {i} {c} h only = rw (← colour_is only) h
 
 -- the two rows above are not alike
 pub ends_unlike : {S : Type 0} {colour : Bool} {a : Around} {rows : Rows} {i : ℕ} {c : Coder S} → (a.second ≡ a.above → ⊥) → RemembersOnly colour a → StopsAt colour rows i c
@@ -71,6 +71,6 @@ pub ends_mixed : {S : Type 0} {colour : Bool} {a : Around} {rows : Rows} {i : �
     (a.second ≡ filled (colour_of a.above) 24 → a.above ≡ filled (colour_of a.above) 24 → a.past ≡ filled (colour_of a.above) (past_bits a.template.offset) → result ≡ true) →
     result ≡ false → RemembersOnly colour a → StopsAt colour rows i c
 ends_mixed {colour = colour} {a} {result = result} all is only =
-    let same : RemembersOnly (colour_of a.above) a = subst (λ k. RemembersOnly k a) (sym (colour_is only)) only in
+    let same : RemembersOnly (colour_of a.above) a = rw (colour_is only) only in
     let e : result ≡ true = all same.second_is same.above_is same.past_is in
     absurd (cc)

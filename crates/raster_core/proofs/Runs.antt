@@ -95,17 +95,16 @@ decodes_next {S} {pull} {from} {mid} {to} {s} {answers} {more} {events} {cx} {pi
           stands = rw (last, ← assoc) at.stands;
           taught = rw last at.taught;
           enough = λ going.
-              let going' : heard_of ((answers ++ more) ++ at.more) ≡ More = subst (λ a. heard_of a ≡ More) (sym assoc) going in
+              let going' : heard_of ((answers ++ more) ++ at.more) ≡ More = rw assoc going in
               let size : length (bytes_of ((answers ++ more) ++ at.more)) ≡ wanted_bytes (after s events).place.doublings = length-bytes_of ((answers ++ more) ++ at.more) going' ∙ at.asked.enough going' in
               let bytes : length (bytes_of ((answers ++ more) ++ at.more)) ≡ length (bytes_of (answers ++ more)) + length (bytes_of at.more) =
               rw (bytes_of-append (answers ++ more) at.more) (length-append (bytes_of (answers ++ more)) (bytes_of at.more)) in
               let grown : length (bytes_of (answers ++ more)) ≤ length (bytes_of ((answers ++ more) ++ at.more)) = omega arith in
               let here : wanted_bytes (after s events).place.doublings ≤ length (bytes_of ((answers ++ more) ++ at.more)) = omega arith in
-              subst (λ a. AreEnough (length (bytes_of a)) s (events ++ record { context = cx; pixel = pixel } ∷ [])) assoc
-              (enough_append events (record { context = cx; pixel = pixel } ∷ []) _ s
+              rw (← assoc) (enough_append events (record { context = cx; pixel = pixel } ∷ []) _ s
               (enough_more events _ _ s grown (h.enough (heard_front (answers ++ more) at.more going')))
               (here, tt));
-          going = λ stopped. absurd (no_err pixel (at.stop.1 (subst (λ a. heard_of a ≡ Stopped) (sym assoc) stopped)));
+          going = λ stopped. absurd (no_err pixel (at.stop.1 (rw assoc stopped)));
         }
 
 pub decodes_stop : {S : Type 0} {pull : S → Pulled → S → Type 0} {from : S} {mid to : DecoderState S} {s : State} {answers more : List Pulled} {events : List Event} {cx : ℕ} {fault : Stop} →
@@ -130,5 +129,5 @@ decodes_stop {S} {pull} {from} {mid} {to} {s} {answers} {more} {events} {cx} {fa
           short = rw (← assoc) short;
           stays = rw (← assoc) at.unchanged.1;
           taught = at.unchanged.0;
-          enough = subst (λ a. AreEnough (length (bytes_of a)) s events) assoc (enough_kept events s (answers ++ more) at.more h.enough h.going stopped);
+          enough = rw (← assoc) (enough_kept events s (answers ++ more) at.more h.enough h.going stopped);
         }

@@ -1,5 +1,5 @@
 -- Rows that are equal.
-use Rattle.std.proofs.Common.{◌≡◌, ◌≢◌, ℕ, ◌+◌, ◌-◌, ◌*◌, ◌/◌, ◌%◌, ◌^◌, Bool, true, false, List, [], ◌∷◌, length, refl, sym, ◌∙◌, ap, arith, subst}
+use Rattle.std.proofs.Common.{◌≡◌, ◌≢◌, ℕ, ◌+◌, ◌-◌, ◌*◌, ◌/◌, ◌%◌, ◌^◌, Bool, true, false, List, [], ◌∷◌, length, refl, sym, ◌∙◌, ap, arith}
 use Rattle.std.specs.Prelude.{slice_index, ◌&&◌}
 use Rattle.std.specs.Bool.{Decides}
 use Rattle.std.proofs.lemmas.List.{ext_get_or}
@@ -43,7 +43,7 @@ same_row_only (x ∷ a) [] h = cc
 same_row_only (x ∷ a) (y ∷ b) h = by x y a b (same_row_only a b) (same x y) refl h
 
 pub rows_same : (a b : List Bool) → packed_row a ≡ packed_row b → length a ≡ length b → same_row a b ≡ true
-rows_same a b h l = subst (λ r. same_row a r ≡ true) (packed_same a b l h) (same_row_self a)
+rows_same a b h l = rw (← packed_same a b l h) (same_row_self a)
 
 pub rows_other : (a b : List Bool) → packed_row a ≢ packed_row b → same_row a b ≡ false
 rows_other a b ne = by (same_row a b) refl

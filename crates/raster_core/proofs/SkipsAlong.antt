@@ -73,7 +73,7 @@ enough_run : (n : ℕ) (s : State) (event : Event) (count : ℕ) → ((k : ℕ) 
 enough_run zero s event count quiet h = tt
 enough_run (suc n) s event count quiet h =
     let one : (step s event.context event.pixel).place.doublings ≡ s.place.doublings = quiet 1 (omega arith) in
-    (h, enough_run n (step s event.context event.pixel) event count (λ k few. quiet (suc k) (omega arith) ∙ sym one) (subst (λ z. wanted_bytes z ≤ count) (sym one) h))
+    (h, enough_run n (step s event.context event.pixel) event count (λ k few. quiet (suc k) (omega arith) ∙ sym one) (rw one h))
 
 pub not_stopped : (d : Decoder) (p : Place) (answers : List Pulled) → DecoderIsAt d p answers → has_stopped d ≡ false → heard_of answers ≡ Stopped → ⊥
 not_stopped d p answers h going stopped =
@@ -105,10 +105,9 @@ decoded_run {S} {old} {row} {at} {done} {d' = d'} n c h stays past_is going deco
       more = h.more;
       decodes = record {
         gives = h.decodes.gives;
-        stands = subst (λ t. DecoderIsAt d' t.place given) last k.1;
+        stands = rw (← last) k.1;
         taught = rw (← k.0.taught, last) refl;
-        enough = λ more. subst (λ z. AreEnough (length (bytes_of given)) s z) run
-            (enough_append es (replicate n (uniform_event c)) (length (bytes_of given)) s (h.decodes.enough more)
+        enough = λ more. rw (← run) (enough_append es (replicate n (uniform_event c)) (length (bytes_of given)) s (h.decodes.enough more)
             (subst (λ t. AreEnough (length (bytes_of given)) t (replicate n (uniform_event c))) (sym same)
             (enough_run n (record { place = (after s es).place; learned = at.learned }) (uniform_event c) (length (bytes_of given)) k.0.quiet (k.2 more))));
         going = λ stopped. absurd (not_stopped at.decoder (after s es).place given h.decodes.stands going stopped);

@@ -130,7 +130,7 @@ best_by t width current (r ∷ rows) b k h =
     (λ u from below. subst2 ◌<◌ (k.each u from (omega arith)) at_b (h.first u from below))
   where
     subst2 : (R : ℕ → ℕ → Type 0) {a b x y : ℕ} → a ≡ x → b ≡ y → R a b → R x y
-    subst2 R {a} {b} {x} {y} e f r = subst (λ (z : ℕ). R x z) f (subst (λ (z : ℕ). R z b) e r)
+    subst2 R {a} {b} {x} {y} e f r = rw (← f) (subst (λ (z : ℕ). R z b) e r)
 
 -- the best lag is chosen if it gains enough
 pub chosen_by : (t : Tally) (width current : ℕ) (rows : List Lines) (b : ℕ) → CountsLines t width current rows → least_lag (is_two_line t) ≤ b → b ≤ last_lag (is_two_line t) (most_of t) t.width →

@@ -10,13 +10,11 @@ returns-then-this-ne0 g c = λ second above.
     let yes = set_is c.if-this-ne0.true refl in
     let some = moved_some c.args.offset (sym c.requires.moved ∙ yes) in
     let e : c.args.offset ≡ suc (c.args.offset - 1) = omega arith in
-    subst (λ m. AreBeside (near m second above c.far_pixels.result) c.args.offset second above c.args.byte c.args.past) (sym yes)
-    (subst (λ t. AreBeside (near true second above c.far_pixels.result) t second above c.args.byte c.args.past) (sym e)
+    rw yes (subst (λ t. AreBeside (near true second above c.far_pixels.result) t second above c.args.byte c.args.past) (sym e)
     (beside_moved (c.args.offset - 1) c.far_pixels.result second above c.args.byte c.args.past (subst (λ t. HasFar c.far_pixels.result t c.args.past c.args.byte) e c.far_pixels.ensures)))
 
 pub returns-else-this-ne0 : goal.returns-else-this-ne0
 returns-else-this-ne0 g c = λ second above.
     let no = clear_is c.if-this-ne0.false refl in
     let none = nominal_none c.args.offset (sym c.requires.moved ∙ no) in
-    subst (λ m. AreBeside (near m second above 0) c.args.offset second above c.args.byte c.args.past) (sym no)
-    (subst (λ t. AreBeside (near false second above 0) t second above c.args.byte c.args.past) (sym none) (beside_nominal 0 second above c.args.byte c.args.past))
+    rw no (subst (λ t. AreBeside (near false second above 0) t second above c.args.byte c.args.past) (sym none) (beside_nominal 0 second above c.args.byte c.args.past))

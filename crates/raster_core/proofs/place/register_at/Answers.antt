@@ -1,4 +1,4 @@
-use Rattle.std.proofs.Common.{◌≡◌, ◌+◌, ◌*◌, ◌-◌, arith, sym, subst}
+use Rattle.std.proofs.Common.{◌≡◌, ◌+◌, ◌*◌, ◌-◌, arith}
 use Rattle.raster_core.specs.Machine.Registers.{before}
 use Rattle.raster_core.proofs.Packed.{packed_byte, first_byte, second_byte, three_bytes}
 use Rattle.raster_core.proofs.place.register_at.Goals as goal
@@ -6,7 +6,7 @@ use Rattle.raster_core.proofs.place.register_at.Goals as goal
 pub returns-then-i-eq0-clause-is : goal.returns-then-i-eq0-clause-is
 returns-then-i-eq0-clause-is c = λ row is.
     let first : 8 * c.args.i + 8 ≡ 8 = omega (arith, c.if-i-eq0.true) in
-    rw (c.byte_at-near.ensures.byte, is, packed_byte row c.args.i) (subst (λ z. before row z 8 ≡ before row z 24) (sym first) (first_byte row))
+    rw (c.byte_at-near.ensures.byte, is, packed_byte row c.args.i) (rw first (first_byte row))
 
 pub returns-then-i-eq1-clause-is : goal.returns-then-i-eq1-clause-is
 returns-then-i-eq1-clause-is c = λ row is.
@@ -14,9 +14,9 @@ returns-then-i-eq1-clause-is c = λ row is.
     let middle : c.byte_at-middle.result ≡ before row (8 * (c.args.i - 1) + 8) 8 = rw (c.byte_at-middle.ensures.byte, is) (packed_byte row (c.args.i - 1)) in
     let here : 8 * c.args.i + 8 ≡ 16 = omega (arith, c.if-i-eq1.true) in
     let there : 8 * (c.args.i - 1) + 8 ≡ 8 = omega (arith, c.if-i-eq1.true) in
-    let near' = subst (λ z. c.byte_at-near.result ≡ before row z 8) here near in
-    let middle' = subst (λ z. c.byte_at-middle.result ≡ before row z 8) there middle in
-    subst (λ z. c.byte_at-middle.result * 256 + c.byte_at-near.result ≡ before row z 24) (sym here) (omega (arith, near', middle', second_byte row))
+    let near' = rw here at near in
+    let middle' = rw there at middle in
+    rw here (omega (arith, near', middle', second_byte row))
 
 pub returns-clause-is : goal.returns-clause-is
 returns-clause-is c = λ row is.
@@ -25,7 +25,6 @@ returns-clause-is c = λ row is.
     let far : c.byte_at-far.result ≡ before row (8 * (c.args.i - 2) + 8) 8 = rw (c.byte_at-far.ensures.byte, is) (packed_byte row (c.args.i - 2)) in
     let here : 8 * c.args.i + 8 ≡ 8 * (c.args.i - 2) + 24 = omega (arith, c.if-i-eq0.false, c.if-i-eq1.false) in
     let there : 8 * (c.args.i - 1) + 8 ≡ 8 * (c.args.i - 2) + 16 = omega (arith, c.if-i-eq0.false, c.if-i-eq1.false) in
-    let near' = subst (λ z. c.byte_at-near.result ≡ before row z 8) here near in
-    let middle' = subst (λ z. c.byte_at-middle.result ≡ before row z 8) there middle in
-    subst (λ z. (c.byte_at-far.result * 65536 + c.byte_at-middle.result * 256) + c.byte_at-near.result ≡ before row z 24) (sym here)
-    (omega (arith, near', middle', far, three_bytes row (c.args.i - 2)))
+    let near' = rw here at near in
+    let middle' = rw there at middle in
+    rw here (omega (arith, near', middle', far, three_bytes row (c.args.i - 2)))

@@ -1,7 +1,6 @@
-use Rattle.std.proofs.Common.{◌≡◌, ◌+◌, ◌-◌, ◌*◌, arith, refl, sym, ◌∙◌, ap, subst, replicate, Ok}
+use Rattle.std.proofs.Common.{◌≡◌, ◌+◌, ◌-◌, ◌*◌, arith, refl, sym, ◌∙◌, ap, subst, replicate}
 use Rattle.std.proofs.lemmas.List.{replicate-append-replicate}
-use Rattle.qm_core.specs.Puts.{Puts}
-use Rattle.raster_core.specs.Machine.Uniform.{run_of, uniform_event}
+use Rattle.raster_core.specs.Machine.Uniform.{uniform_event}
 use Rattle.raster_core.proofs.Putting.{puts_as, puts_idle, puts_join, puts_none}
 use Rattle.raster_core.proofs.RowsIn.{uniform_none, uniform_more}
 use Rattle.raster_core.proofs.RunEnds.{ends_above, ends_below, ends_full}
@@ -48,16 +47,14 @@ returns g c =
       puts = elim c.words-test.branch [
         | then-words-test+then-is_all+else-skip_pixels w ↦
             let h = w.skip_pixels.ensures in
-            subst (λ d. Puts g.W.CodeSink (run_of c.args.colour (8 * (c.words.at - c.args.i))) c.args.coder.now d (Ok tt)) (sym w.coder-is)
-            (puts_idle h.lends (h.left w.if-skip_pixels.false) c.words.invariant.puts)
-        | then-words-test+else-is_all w ↦ subst (λ d. Puts g.W.CodeSink (run_of c.args.colour (8 * (c.words.at - c.args.i))) c.args.coder.now d (Ok tt)) (sym w.coder-is) c.words.invariant.puts
-        | else-words-test w ↦ subst (λ d. Puts g.W.CodeSink (run_of c.args.colour (8 * (c.words.at - c.args.i))) c.args.coder.now d (Ok tt)) (sym w.coder-is) c.words.invariant.puts
+            rw (w.coder-is) (puts_idle h.lends (h.left w.if-skip_pixels.false) c.words.invariant.puts)
+        | then-words-test+else-is_all w ↦ rw (w.coder-is) c.words.invariant.puts
+        | else-words-test w ↦ rw (w.coder-is) c.words.invariant.puts
       ];
       stops = subst (λ k. StopsAt c.args.colour c.args.rows k c.words-test.coder) (sym last) (elim c.words-test.branch [
         | then-words-test+then-is_all+else-skip_pixels w ↦
             let h = w.skip_pixels.ensures in
-            subst (λ d. StopsAt c.args.colour c.args.rows c.words.at d) (sym w.coder-is)
-            (ends_full h.exact w.if-skip_pixels.false (h.left w.if-skip_pixels.false))
+            rw (w.coder-is) (ends_full h.exact w.if-skip_pixels.false (h.left w.if-skip_pixels.false))
         | then-words-test+else-is_all w ↦ ends_below w.is_all.ensures.all w.if-is_all.false
         | else-words-test w ↦ ends_above c.words.left c.words.invariant.left c.is_all_above.ensures.all w.words-test.false
       ]);

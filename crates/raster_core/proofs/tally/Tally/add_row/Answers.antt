@@ -21,9 +21,9 @@ returns-clause-counts c rows lines few k w =
       wide = all_push (λ l. length l.row ≡ c.args.width) rows lines k.wide long;
       none = λ empty. absurd (omega arith);
       each = λ lag from' to'.
-          let from : least_lag (c.args.self.now.two_line == 1) ≤ lag = subst (λ t. least_lag (t == 1) ≤ lag) c.take.ensures.same.two_line from' in
+          let from : least_lag (c.args.self.now.two_line == 1) ≤ lag = rw (← c.take.ensures.same.two_line) from' in
           let to : lag ≤ last_lag (c.args.self.now.two_line == 1) (min c.args.self.now.most 127) c.args.width =
-          subst (λ n. lag ≤ last_lag (c.args.self.now.two_line == 1) (min n 127) c.args.width) c.take.ensures.same.most (subst (λ t. lag ≤ last_lag (t == 1) (min c.take.new.self.most 127) c.args.width) c.take.ensures.same.two_line to') in
+          rw (← c.take.ensures.same.most) (subst (λ t. lag ≤ last_lag (t == 1) (min c.take.new.self.most 127) c.args.width) c.take.ensures.same.two_line to') in
           let low : c.least_lag-least.result ≤ lag = omega (arith, c.least_lag-least.ensures.lag, from) in
           let high : lag ≤ c.last_lag-most.result = omega (arith, to, c.last_lag-most.ensures) in
           rw (c.held-held.ensures.same, once_more (get_or c.take.new.self.counts lag 0) c.take.new.self.times (get_or c.take.new.self.last.agreed lag 0), c.take.ensures.same.counted lag low high, k.each lag from to, c.take.ensures.counts k.kept lines e lag (omega (arith, low, c.take.ensures.last.1)) (omega (arith, high, c.take.ensures.last.2)), wide_row lag) (row_more rows lines c.args.width lag k.wide long (omega arith) (omega arith));
