@@ -1,5 +1,5 @@
 -- The pixels of a byte, decoded one after another.
-use Rattle.std.proofs.Common.{◌≡◌, ℕ, ◌+◌, ◌-◌, ◌*◌, ◌/◌, ◌%◌, ◌^◌, ◌<◌, Bool, List, [], ◌∷◌, ◌++◌, length, refl, sym, ◌∙◌, ap, arith, subst, append_assoc, Ok, Err}
+use Rattle.std.proofs.Common.{◌≡◌, ℕ, ◌+◌, ◌-◌, ◌*◌, ◌/◌, ◌%◌, ◌^◌, ◌<◌, Bool, List, [], ◌∷◌, ◌++◌, length, refl, sym, ◌∙◌, arith, subst, append_assoc, Ok, Err}
 use Rattle.std.specs.Prelude.{Result, OnErr, IfErr, IfOk, IsErr, IsErrAnd}
 use Rattle.std.proofs.lemmas.List.{length-append, append-nil}
 use Rattle.qm_core.specs.Place.{Place, after}
@@ -9,10 +9,8 @@ use Rattle.qm_core.specs.declared.decoder.Stop.{Stop}
 use Rattle.qm_core.specs.Source.{source_at}
 use Rattle.raster_core.specs.Lines.{Lines, context_at, pixel_events}
 use Rattle.raster_core.specs.Machine.Registers.{bit, before, past_bits, AreAt}
-use Rattle.raster_core.specs.Events.{Decodes}
 use Rattle.raster_core.specs.declared.place.Pause.{Pause}
 use Rattle.raster_core.specs.Machine.Decoded.{ByteAround, with_row, PixelsSoFar, Along, StopsAlong, plain_row}
-use Rattle.raster_core.proofs.Before.{some_past}
 use Rattle.raster_core.proofs.Runs.{decodes_next, decodes_stop}
 use Rattle.raster_core.proofs.Causal.{pixel_events_more, past_next}
 use Rattle.raster_core.proofs.BytePixels.{at_registers}
@@ -23,7 +21,7 @@ along_none {S} {pull} {b} {old} = record {
   any = λ from first s answers lines done so_far s2 a2. record {
     pixels = [];
     count = refl;
-    so_far = rw (append-nil done) so_far;
+    so_far = rw append-nil so_far;
   };
 }
 
@@ -48,18 +46,16 @@ along_next {S} {pull} {b} {old} {mid} {to} {n} {past} {past'} {cx} {pixel} few p
       let at = registers_at lines b.offset n done m.pixels few m.count s2 a2 m.so_far.past_is in
       let t = decodes_next m.so_far.decodes (next (after s events).place (answers ++ m.so_far.more) m.so_far.decodes.stands) in
       let more : pixel_events b.mode (with_row lines (row ++ pixel ∷ [])) b.offset ≡ pixel_events b.mode (with_row lines row) b.offset ++ record { context = cx; pixel = pixel } ∷ [] =
-      rw (pixel_events_more b.mode lines b.offset row pixel, ← event_is cx _ pixel _ (context (with_row lines row) (length row) at) refl) refl in
-      let p = past_is ∙ subst (λ w. past % 2 ^ (past_bits b.offset - 1) * 2 + bit pixel ≡ before (row ++ pixel ∷ []) (length (row ++ pixel ∷ [])) w) (some_past b.offset)
-      (past_next row pixel past (past_bits b.offset - 1) (m.so_far.past_is ∙ ap (λ w. before row (length row) w) (sym (some_past b.offset)))) in
+      rw (pixel_events_more, ← event_is cx _ pixel _ (context (with_row lines row) (length row) at) refl) refl in
       let whole : PixelsSoFar (source_at pull from answers) (plain_row b.mode b.offset first s lines) (row ++ pixel ∷ []) past' to = record {
-        past_is = p;
+        past_is = past_is ∙ past_next row pixel b.offset m.so_far.past_is;
         more = t.0;
-        decodes = subst (λ es. Decodes (source_at pull from answers) s t.0 es to) (append_assoc first _ _ ∙ ap (λ es. first ++ es) (sym more)) t.1;
+        decodes = rw (more, ← append_assoc) t.1;
       } in
       record {
         pixels = m.pixels ++ pixel ∷ [];
-        count = rw (length-append m.pixels (pixel ∷ []), m.count) refl;
-        so_far = rw (← append_assoc done m.pixels (pixel ∷ [])) whole;
+        count = rw (length-append, m.count) refl;
+        so_far = rw (← append_assoc) whole;
       };
 }
 

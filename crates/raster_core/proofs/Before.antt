@@ -8,10 +8,6 @@ use Rattle.raster_core.specs.Raster.{pixel_at, pixel_left}
 use Rattle.raster_core.specs.Machine.Registers.{bit, before, past_bits}
 
 -- a register has some pixels
-pub some_past : (offset : ℕ) → suc (past_bits offset - 1) ≡ past_bits offset
-some_past zero = refl
-some_past (suc t) = refl
-
 pub bit_same : (a b : Bool) → bit a ≡ bit b → a ≡ b
 bit_same true true h = refl
 bit_same true false h = cc
@@ -39,7 +35,7 @@ pub before_lt : (row : List Bool) (x k : ℕ) → before row x k < 2 ^ k
 before_lt row x zero = rw before_zero (omega arith)
 before_lt row zero (suc k) = rw before_none (pow_pos (suc k))
 before_lt row (suc x) (suc k) =
-    rw (before_suc row x k, pow-suc 2 k) (omega (arith, before_lt row x k, bit_lt (pixel_at row x)))
+    rw (before_suc, pow-suc) (omega (arith, before_lt row x k, bit_lt (pixel_at row x)))
 
 -- the last m pixels come off
 pub before_split : (row : List Bool) (x k m : ℕ) → before row (x + m) (k + m) ≡ before row x k * 2 ^ m + before row (x + m) m
@@ -50,21 +46,21 @@ before_split row x k zero =
 before_split row x k (suc m) =
     let a : x + suc m ≡ suc (x + m) = omega arith in
     let b : k + suc m ≡ suc (k + m) = omega arith in
-    rw (a, b, before_suc row (x + m) (k + m), before_suc row (x + m) m, pow-suc 2 m)
+    rw (a, b, before_suc, before_suc, pow-suc)
     (omega (arith, before_split row x k m))
 
 pub before_div : (row : List Bool) (x k m : ℕ) → before row (x + m) (k + m) / 2 ^ m ≡ before row x k
 before_div row x k m =
-    rw (before_split row x k m) (div-mul-add (before row x k) (2 ^ m) (before row (x + m) m) (before_lt row (x + m) m))
+    rw before_split (div-mul-add (before row x k) (2 ^ m) (before row (x + m) m) (before_lt row (x + m) m))
 
 -- the nearest l pixels
 pub above_low : (row : List Bool) (x d l : ℕ) → (t : ℕ) × (before row x (d + l) ≡ t * 2 ^ l + before row x l)
 above_low row x d zero = (before row x (d + 0), rw before_zero (omega arith))
-above_low row zero d (suc l) = (0, rw (before_none row (suc l), before_none row (d + suc l)) (omega arith))
+above_low row zero d (suc l) = (0, rw (before_none, before_none) (omega arith))
 above_low row (suc x) d (suc l) =
     let b : d + suc l ≡ suc (d + l) = omega arith in
     let r = above_low row x d l in
-    (r.0, rw (b, before_suc row x (d + l), before_suc row x l, pow-suc 2 l) (omega (arith, r.1)))
+    (r.0, rw (b, before_suc, before_suc, pow-suc) (omega (arith, r.1)))
 
 pub before_mod : (row : List Bool) (x d l : ℕ) → before row x (d + l) % 2 ^ l ≡ before row x l
 before_mod row x d l =
@@ -84,7 +80,7 @@ low_part row x offset l h few =
 
 -- a part of a register
 pub before_part : (row : List Bool) (x d l m : ℕ) → before row (x + m) ((d + l) + m) / 2 ^ m % 2 ^ l ≡ before row x l
-before_part row x d l m = rw (before_div row x (d + l) m) (before_mod row x d l)
+before_part row x d l m = rw before_div (before_mod row x d l)
 
 -- the pixels of a byte's register that its contexts need
 pub second_in : {register : ℕ} (row : List Bool) (x : ℕ) → register ≡ before row (x + 16) 24 → register / 2 ^ 7 ≡ before row (x + 9) 17
@@ -110,12 +106,12 @@ begins b = omega arith
 pub goes_on : (a b j : ℕ) → a ≡ b * 2 ^ j → a * 2 ≡ b * 2 ^ (j + 1)
 goes_on a b j h =
     let e : j + 1 ≡ suc j = omega arith in
-    rw (e, pow-suc 2 j) (omega arith)
+    rw (e, pow-suc) (omega arith)
 
 pub grows : (a k j : ℕ) → a < 2 ^ (k + j) → a * 2 < 2 ^ (k + (j + 1))
 grows a k j h =
     let e : k + (j + 1) ≡ suc (k + j) = omega arith in
-    rw (e, pow-suc 2 (k + j)) (omega arith)
+    rw (e, pow-suc) (omega arith)
 
 -- ---- pixels to the left
 
@@ -148,11 +144,11 @@ left_none row k =
 
 -- the farthest of the pixels before x
 pub before_far : (row : List Bool) (x k : ℕ) → before row x (suc k) ≡ bit (pixel_left row x (suc k)) * 2 ^ k + before row x k
-before_far row zero k = rw (before_none row (suc k), before_none row k, left_none row k) (omega arith)
+before_far row zero k = rw (before_none, before_none, left_none) (omega arith)
 before_far row (suc x) zero =
     let up : suc x ≡ x + 1 = omega arith in
     let e : pixel_left row (suc x) 1 ≡ pixel_at row x = rw up (left_at row x 1) in
-    rw (before_suc row x 0, before_zero row x, before_zero row (suc x), e) (omega arith)
+    rw (before_suc, before_zero, before_zero, e) (omega arith)
 before_far row (suc x) (suc k) =
     let e : pixel_left row (suc x) (suc (suc k)) ≡ pixel_left row x (suc k) = left_up row x (suc k) in
-    rw (before_suc row x (suc k), before_suc row x k, e, pow-suc 2 k) (omega (arith, before_far row x k))
+    rw (before_suc, before_suc, e, pow-suc) (omega (arith, before_far row x k))

@@ -9,8 +9,9 @@ use Rattle.qm_core.specs.Place.{Event}
 use Rattle.raster_core.specs.Raster.{pixel_at, pixel_left}
 use Rattle.raster_core.specs.Lines.{Lines, Mode, numbers_from, binary, context_at, three_line, two_line, adaptive, pixel_events}
 use Rattle.raster_core.specs.Machine.Decoded.{with_row}
-use Rattle.raster_core.specs.Machine.Registers.{bit, before}
-use Rattle.raster_core.proofs.Before.{before_suc, before_none, before_zero, before_mod}
+use Rattle.raster_core.specs.Machine.Registers.{bit, before, past_bits}
+use Rattle.raster_core.proofs.Before.{before_suc, before_none, before_zero}
+use Rattle.raster_core.proofs.BytePixels.{past_on}
 use Rattle.raster_core.proofs.EventLists.{event_is}
 
 pub numbers_from_last : (k n : ℕ) → numbers_from k (suc n) ≡ numbers_from k n ++ (k + n) ∷ []
@@ -46,7 +47,8 @@ adaptive_front lines xs ys (suc t) x h =
     let test : (suc t == 0) ≡ false = grind (arith, nat_tests) in
     rw test (left_front xs ys x t h)
 
-pub context_front : (mode : Mode) (lines : Lines) (xs ys : List Bool) (offset x : ℕ) → x ≤ length xs → context_at mode (with_row lines (xs ++ ys)) offset x ≡ context_at mode (with_row lines xs) offset x
+pub context_front : (mode : Mode) (lines : Lines) (xs ys : List Bool) (offset x : ℕ) → x ≤ length xs →
+    context_at mode (with_row lines (xs ++ ys)) offset x ≡ context_at mode (with_row lines xs) offset x
 context_front mode lines xs ys offset x h =
     let a = adaptive_front lines xs ys offset x h in
     let l1 = left_front xs ys x 0 h in
@@ -55,7 +57,9 @@ context_front mode lines xs ys offset x h =
     let l4 = left_front xs ys x 3 h in
     let three : three_line (with_row lines (xs ++ ys)) offset x ≡ three_line (with_row lines xs) offset x = cc in
     let two : two_line (with_row lines (xs ++ ys)) offset x ≡ two_line (with_row lines xs) offset x = cc in
-    elim mode.two_line as (λ b. binary (if b then two_line (with_row lines (xs ++ ys)) offset x else three_line (with_row lines (xs ++ ys)) offset x) ≡ binary (if b then two_line (with_row lines xs) offset x else three_line (with_row lines xs) offset x))
+    elim mode.two_line
+    as (λ b. binary (if b then two_line (with_row lines (xs ++ ys)) offset x else three_line (with_row lines (xs ++ ys)) offset x)
+    ≡ binary (if b then two_line (with_row lines xs) offset x else three_line (with_row lines xs) offset x))
     [ true ↦ ap binary two | false ↦ ap binary three ]
 
 -- ---- the events of a row that grows
@@ -95,13 +99,11 @@ before_front xs ys x zero h = before_zero (xs ++ ys) x ∙ sym (before_zero xs x
 before_front xs ys zero (suc k) h = before_none (xs ++ ys) (suc k) ∙ sym (before_none xs (suc k))
 before_front xs ys (suc x) (suc k) h =
     let inside : x < length xs = omega arith in
-    before_suc (xs ++ ys) x k ∙ (rw (before_front xs ys x k (omega arith), at_front xs ys x inside) (sym (before_suc xs x k)))
+    before_suc (xs ++ ys) x k ∙ (rw (before_front xs ys x k (omega arith), at_front) (sym (before_suc xs x k)))
 
-pub past_next : (xs : List Bool) (b : Bool) (past v : ℕ) → past ≡ before xs (length xs) (suc v) → past % 2 ^ v * 2 + bit b ≡ before (xs ++ b ∷ []) (length (xs ++ b ∷ [])) (suc v)
-past_next xs b past v h =
-    let long : length (xs ++ b ∷ []) ≡ suc (length xs) = length-append xs (b ∷ []) ∙ (let e : length xs + 1 ≡ suc (length xs) = omega arith in e) in
-    let one : suc v ≡ 1 + v = omega arith in
-    let low : past % 2 ^ v ≡ before xs (length xs) v = rw (h, one) (before_mod xs (length xs) 1 v) in
-    let f = before_front xs (b ∷ []) (length xs) v (omega arith) in
-    let seam = get_or-append_seam xs b [] false in
-    rw (long, before_suc (xs ++ b ∷ []) (length xs) v, f, seam, low) (omega arith)
+pub past_next : {past : ℕ} (xs : List Bool) (b : Bool) (offset : ℕ) → past ≡ before xs (length xs) (past_bits offset) →
+    past % 2 ^ (past_bits offset - 1) * 2 + bit b ≡ before (xs ++ b ∷ []) (length (xs ++ b ∷ [])) (past_bits offset)
+past_next {past} xs b offset h =
+    let here : past ≡ before (xs ++ b ∷ []) (length xs) (past_bits offset) = rw (before_front xs (b ∷ []) (length xs) (past_bits offset) (omega arith)) h in
+    let seam : pixel_at (xs ++ b ∷ []) (length xs) ≡ b = get_or-append_seam xs b [] false in
+    rw length-append (rw seam at (past_on (xs ++ b ∷ []) offset (length xs) here))

@@ -46,7 +46,7 @@ part_left {row} {r} {x} {m} {l} {c} w is within h = record {
       let b : r / 2 ^ m / 2 ^ k % 2 ≡ bit c = bit_of c (r / 2 ^ m) l k h few in
       let size : w ≡ (w - suc (m + k)) + suc (m + k) = omega arith in
       let one : r / 2 ^ (m + k) % 2 ≡ bit (pixel_left row x (suc (m + k))) = rw (is, size) (past_bit row x (w - suc (m + k)) (m + k)) in
-      let two : r / 2 ^ m / 2 ^ k ≡ r / 2 ^ (m + k) = rw (div-div-eq-div-mul r (2 ^ m) (2 ^ k), ← pow-add 2 m k) refl in
+      let two : r / 2 ^ m / 2 ^ k ≡ r / 2 ^ (m + k) = rw (div-div-eq-div-mul, ← pow-add) refl in
       bit_same (pixel_left row x (suc (m + k))) c (sym one ∙ (ap (λ z. z % 2) (sym two) ∙ b));
 }
 
@@ -66,16 +66,17 @@ seen_at {row} {top} {m} h y from few =
     sym (left_at row y (suc d)) ∙ (ap (λ z. pixel_left row z (suc d)) at ∙ (ap (λ z. pixel_left row top z) e ∙ h.any (d - m) (omega arith)))
 
 -- a pixel of the row itself, where those from x on are of the colour, too
-row_left : {row : List Bool} {x m l : ℕ} {c : Bool} (j : ℕ) → AreLeft row x m l c → ((k : ℕ) → k < j → pixel_at row (x + k) ≡ c) → (k : ℕ) → (j ≤ k → m + j ≤ k) → k < (m + l) + j → pixel_left row (x + j) (suc k) ≡ c
+row_left : {row : List Bool} {x m l : ℕ} {c : Bool} (j : ℕ) → AreLeft row x m l c → ((k : ℕ) → k < j → pixel_at row (x + k) ≡ c) → (k : ℕ) → (j ≤ k → m + j ≤ k) → k < (m + l) + j →
+    pixel_left row (x + j) (suc k) ≡ c
 row_left {row} {x} {m} j h own k from few =
     elim (cases_lt k j) [
       | inl near ↦
           let e : (x + (j - suc k)) + suc k ≡ x + j = omega arith in
-          rw (← e, left_at row (x + (j - suc k)) (suc k)) (own (j - suc k) (omega arith))
+          rw (← e, left_at) (own (j - suc k) (omega arith))
       | inr far ↦
           let after : m + j ≤ k = from far in
           let e : suc k ≡ suc (m + ((k - j) - m)) + j = omega arith in
-          rw (e, left_along row x (suc (m + ((k - j) - m))) j) (h.any ((k - j) - m) (omega arith))
+          rw (e, left_along) (h.any ((k - j) - m) (omega arith))
     ]
 
 -- ---- the ten pixels

@@ -16,18 +16,7 @@ binary_bit false bits = omega arith
 pub binary_ten : (b9 b8 b7 b6 b5 b4 b3 b2 b1 b0 : Bool) →
     binary (b9 ∷ b8 ∷ b7 ∷ b6 ∷ b5 ∷ b4 ∷ b3 ∷ b2 ∷ b1 ∷ b0 ∷ [])
     ≡ bit b9 * 512 + bit b8 * 256 + bit b7 * 128 + bit b6 * 64 + bit b5 * 32 + bit b4 * 16 + bit b3 * 8 + bit b2 * 4 + bit b1 * 2 + bit b0
-binary_ten b9 b8 b7 b6 b5 b4 b3 b2 b1 b0 =
-    let e9 = binary_bit b9 (b8 ∷ b7 ∷ b6 ∷ b5 ∷ b4 ∷ b3 ∷ b2 ∷ b1 ∷ b0 ∷ []) in
-    let e8 = binary_bit b8 (b7 ∷ b6 ∷ b5 ∷ b4 ∷ b3 ∷ b2 ∷ b1 ∷ b0 ∷ []) in
-    let e7 = binary_bit b7 (b6 ∷ b5 ∷ b4 ∷ b3 ∷ b2 ∷ b1 ∷ b0 ∷ []) in
-    let e6 = binary_bit b6 (b5 ∷ b4 ∷ b3 ∷ b2 ∷ b1 ∷ b0 ∷ []) in
-    let e5 = binary_bit b5 (b4 ∷ b3 ∷ b2 ∷ b1 ∷ b0 ∷ []) in
-    let e4 = binary_bit b4 (b3 ∷ b2 ∷ b1 ∷ b0 ∷ []) in
-    let e3 = binary_bit b3 (b2 ∷ b1 ∷ b0 ∷ []) in
-    let e2 = binary_bit b2 (b1 ∷ b0 ∷ []) in
-    let e1 = binary_bit b1 (b0 ∷ []) in
-    let e0 = binary_bit b0 [] in
-    e9 ∙ rw (e8, e7, e6, e5, e4, e3, e2, e1, e0) (omega arith)
+binary_ten b9 b8 b7 b6 b5 b4 b3 b2 b1 b0 = simp binary_bit (omega arith)
 
 -- one pixel of a register
 pub past_bit : (row : List Bool) (x d m : ℕ) → before row x (d + suc m) / 2 ^ m % 2 ≡ bit (pixel_left row x (suc m))
@@ -49,7 +38,8 @@ second_part {lines} {x = x} r =
     let few = r.few in
     let place : x + (r.left + 2) ≡ (x + 2) + r.left = omega arith in
     let size : 17 ≡ ((14 - r.left) + 3) + r.left = omega arith in
-    rw (r.second_is, shifted_div (before lines.second (x + (r.left + 2)) 17) r.left 0 r.few, add-zero r.left) (part_of lines.second (x + 2) (14 - r.left) 3 r.left (ap (λ z. before lines.second z 17) place ∙ ap (λ k. before lines.second ((x + 2) + r.left) k) size))
+    rw (r.second_is, shifted_div (before lines.second (x + (r.left + 2)) 17) r.left 0 r.few, add-zero r.left)
+    (part_of lines.second (x + 2) (14 - r.left) 3 r.left (ap (λ z. before lines.second z 17) place ∙ ap (λ k. before lines.second ((x + 2) + r.left) k) size))
 
 -- the pixels up to the second one to the right, in the row above
 above_part : {lines : Lines} {offset second above past x : ℕ} (l : ℕ) → AreAt lines offset second above past x → l ≤ 6 → above / 2 ^ 7 % 2 ^ l ≡ before lines.above (x + 3) l
@@ -57,7 +47,8 @@ above_part {lines} {x = x} l r h =
     let few = r.few in
     let place : x + (r.left + 3) ≡ (x + 3) + r.left = omega arith in
     let size : 18 ≡ (((18 - l) - r.left) + l) + r.left = omega arith in
-    rw (r.above_is, shifted_div (before lines.above (x + (r.left + 3)) 18) r.left 0 r.few, add-zero r.left) (part_of lines.above (x + 3) ((18 - l) - r.left) l r.left (ap (λ z. before lines.above z 18) place ∙ ap (λ k. before lines.above ((x + 3) + r.left) k) size))
+    rw (r.above_is, shifted_div (before lines.above (x + (r.left + 3)) 18) r.left 0 r.few, add-zero r.left)
+    (part_of lines.above (x + 3) ((18 - l) - r.left) l r.left (ap (λ z. before lines.above z 18) place ∙ ap (λ k. before lines.above ((x + 3) + r.left) k) size))
 
 -- those up to the next one
 above_next : {lines : Lines} {offset second above past x : ℕ} (l : ℕ) → AreAt lines offset second above past x → l ≤ 5 → above / 2 ^ 8 % 2 ^ l ≡ before lines.above (x + 2) l
@@ -65,7 +56,8 @@ above_next {lines} {x = x} l r h =
     let few = r.few in
     let place : x + (r.left + 3) ≡ (x + 2) + (r.left + 1) = omega arith in
     let size : 18 ≡ (((17 - l) - r.left) + l) + (r.left + 1) = omega arith in
-    rw (r.above_is, shifted_div (before lines.above (x + (r.left + 3)) 18) r.left 1 r.few) (part_of lines.above (x + 2) ((17 - l) - r.left) l (r.left + 1) (ap (λ z. before lines.above z 18) place ∙ ap (λ k. before lines.above ((x + 2) + (r.left + 1)) k) size))
+    rw (r.above_is, shifted_div (before lines.above (x + (r.left + 3)) 18) r.left 1 r.few)
+    (part_of lines.above (x + 2) ((17 - l) - r.left) l (r.left + 1) (ap (λ z. before lines.above z 18) place ∙ ap (λ k. before lines.above ((x + 2) + (r.left + 1)) k) size))
 
 -- ---- the adaptive pixel
 
@@ -84,7 +76,7 @@ three_of row x =
     let l1 : pixel_left row (x + 2) 1 ≡ pixel_at row (x + 1) = rw e (left_at row (x + 1) 1) in
     let l2 = left_at row x 2 in
     let l3 = left_along row x 1 2 in
-    before_far row (x + 2) 2 ∙ rw (before_far row (x + 2) 1, before_far row (x + 2) 0, before_zero row (x + 2), l1, l2, l3) (omega arith)
+    before_far row (x + 2) 2 ∙ rw (before_far, before_far, before_zero, l1, l2, l3) (omega arith)
 
 four_of : (row : List Bool) (x : ℕ) → before row (x + 2) 4 ≡ bit (pixel_left row x 2) * 8 + before row (x + 2) 3
 four_of row x = before_far row (x + 2) 3 ∙ rw (left_along row x 2 2) refl
@@ -93,10 +85,10 @@ five_of : (row : List Bool) (x : ℕ) → before row (x + 2) 5 ≡ bit (pixel_le
 five_of row x = before_far row (x + 2) 4 ∙ rw (left_along row x 3 2) refl
 
 two_before : (row : List Bool) (x : ℕ) → before row x 2 ≡ bit (pixel_left row x 2) * 2 + bit (pixel_left row x 1)
-two_before row x = before_far row x 1 ∙ rw (before_far row x 0, before_zero row x) (omega arith)
+two_before row x = before_far row x 1 ∙ rw (before_far, before_zero) (omega arith)
 
 four_before : (row : List Bool) (x : ℕ) → before row x 4 ≡ bit (pixel_left row x 4) * 8 + bit (pixel_left row x 3) * 4 + before row x 2
-four_before row x = before_far row x 3 ∙ rw (before_far row x 2) (omega arith)
+four_before row x = before_far row x 3 ∙ rw before_far (omega arith)
 
 row_two : {lines : Lines} {offset second above past x : ℕ} → AreAt lines offset second above past x → past % 4 ≡ bit (pixel_left lines.row x 2) * 2 + bit (pixel_left lines.row x 1)
 row_two {lines} {offset} {past = past} {x} r = low_part lines.row x offset 2 r.past_is (omega arith) ∙ two_before lines.row x
@@ -104,13 +96,14 @@ row_two {lines} {offset} {past = past} {x} r = low_part lines.row x offset 2 r.p
 row_four : {lines : Lines} {offset second above past x : ℕ} → AreAt lines offset second above past x →
     past % 16 ≡ bit (pixel_left lines.row x 4) * 8 + bit (pixel_left lines.row x 3) * 4 + (bit (pixel_left lines.row x 2) * 2 + bit (pixel_left lines.row x 1))
 row_four {lines} {offset} {past = past} {x} r =
-    rw (low_part lines.row x offset 4 r.past_is (omega arith), four_before lines.row x, two_before lines.row x) refl
+    rw (low_part lines.row x offset 4 r.past_is (omega arith), four_before, two_before) refl
 
 above_four_of : (row : List Bool) (x : ℕ) → before row (x + 2) 4 ≡ bit (pixel_left row x 2) * 8 + (bit (pixel_left row x 1) * 4 + bit (pixel_at row x) * 2 + bit (pixel_at row (x + 1)))
-above_four_of row x = rw (four_of row x, three_of row x) refl
+above_four_of row x = rw (four_of, three_of) refl
 
-above_five_of : (row : List Bool) (x : ℕ) → before row (x + 2) 5 ≡ bit (pixel_left row x 3) * 16 + (bit (pixel_left row x 2) * 8 + (bit (pixel_left row x 1) * 4 + bit (pixel_at row x) * 2 + bit (pixel_at row (x + 1))))
-above_five_of row x = rw (five_of row x, above_four_of row x) refl
+above_five_of : (row : List Bool) (x : ℕ) →
+    before row (x + 2) 5 ≡ bit (pixel_left row x 3) * 16 + (bit (pixel_left row x 2) * 8 + (bit (pixel_left row x 1) * 4 + bit (pixel_at row x) * 2 + bit (pixel_at row (x + 1))))
+above_five_of row x = rw (five_of, above_four_of) refl
 
 -- one pixel more to the right
 one_right : (row : List Bool) (x k : ℕ) → before row (x + 3) (suc k) ≡ 2 * before row (x + 2) k + bit (pixel_at row (x + 2))
@@ -124,19 +117,14 @@ three_line_moved {lines} {offset} {x = x} r =
     let s = second_part r ∙ three_of lines.second x in
     let a = above_next 4 r (omega arith) ∙ above_four_of lines.above x in
     let p = row_two r in
-    let b = binary_ten (pixel_left lines.second x 1) (pixel_at lines.second x) (pixel_at lines.second (x + 1))
-    (pixel_left lines.above x 2) (pixel_left lines.above x 1) (pixel_at lines.above x) (pixel_at lines.above (x + 1))
-    (adaptive lines offset x) (pixel_left lines.row x 2) (pixel_left lines.row x 1) in
-    sym (b ∙ rw (s, a, p) (omega arith))
+    rw (binary_ten, s, a, p) (omega arith)
 
 pub two_line_moved : {lines : Lines} {offset second above past x : ℕ} → AreAt lines offset second above past x →
     above / 2 ^ 8 % 32 * 32 + bit (adaptive lines offset x) * 16 + past % 16 ≡ binary (two_line lines offset x)
 two_line_moved {lines} {offset} {x = x} r =
     let a = above_next 5 r (omega arith) ∙ above_five_of lines.above x in
     let p = row_four r in
-    let b = binary_ten (pixel_left lines.above x 3) (pixel_left lines.above x 2) (pixel_left lines.above x 1) (pixel_at lines.above x) (pixel_at lines.above (x + 1))
-    (adaptive lines offset x) (pixel_left lines.row x 4) (pixel_left lines.row x 3) (pixel_left lines.row x 2) (pixel_left lines.row x 1) in
-    sym (b ∙ rw (a, p) (omega arith))
+    rw (binary_ten, a, p) (omega arith)
 
 pub three_line_nominal : {lines : Lines} {second above past x : ℕ} → AreAt lines 0 second above past x →
     second / 2 ^ 7 % 8 * 128 + above / 2 ^ 7 % 32 * 4 + past % 4 ≡ binary (three_line lines 0 x)
@@ -144,16 +132,11 @@ three_line_nominal {lines} {x = x} r =
     let s = second_part r ∙ three_of lines.second x in
     let a = above_part 5 r (omega arith) ∙ (one_right lines.above x 4 ∙ ap (λ z. 2 * z + bit (pixel_at lines.above (x + 2))) (above_four_of lines.above x)) in
     let p = row_two r in
-    let b = binary_ten (pixel_left lines.second x 1) (pixel_at lines.second x) (pixel_at lines.second (x + 1))
-    (pixel_left lines.above x 2) (pixel_left lines.above x 1) (pixel_at lines.above x) (pixel_at lines.above (x + 1))
-    (adaptive lines 0 x) (pixel_left lines.row x 2) (pixel_left lines.row x 1) in
-    sym (b ∙ rw (s, a, p) (omega arith))
+    rw (binary_ten, s, a, p) (omega arith)
 
 pub two_line_nominal : {lines : Lines} {second above past x : ℕ} → AreAt lines 0 second above past x →
     above / 2 ^ 7 % 64 * 16 + past % 16 ≡ binary (two_line lines 0 x)
 two_line_nominal {lines} {x = x} r =
     let a = above_part 6 r (omega arith) ∙ (one_right lines.above x 5 ∙ ap (λ z. 2 * z + bit (pixel_at lines.above (x + 2))) (above_five_of lines.above x)) in
     let p = row_four r in
-    let b = binary_ten (pixel_left lines.above x 3) (pixel_left lines.above x 2) (pixel_left lines.above x 1) (pixel_at lines.above x) (pixel_at lines.above (x + 1))
-    (adaptive lines 0 x) (pixel_left lines.row x 4) (pixel_left lines.row x 3) (pixel_left lines.row x 2) (pixel_left lines.row x 1) in
-    sym (b ∙ rw (a, p) (omega arith))
+    rw (binary_ten, a, p) (omega arith)

@@ -31,7 +31,7 @@ events_first template lines x n = refl
 
 pub events_append : (template : Template) (lines : Lines) (x m n : ℕ) → events_from template lines x (m + n) ≡ events_from template lines x m ++ events_from template lines (x + m) n
 unfolding events_from
-events_append template lines x m n = rw (numbers_cat x m n) (map-append _ (numbers_from x m) (numbers_from (x + m) n))
+events_append template lines x m n = rw numbers_cat (map-append _ (numbers_from x m) (numbers_from (x + m) n))
 
 pub length-events : (template : Template) (lines : Lines) (x n : ℕ) → length (events_from template lines x n) ≡ n
 unfolding events_from
@@ -46,7 +46,7 @@ events_last template lines x n cx pixel c p =
 pub events_rest : (template : Template) (lines : Lines) (x n all : ℕ) → n ≤ all → events_from template lines x n ++ events_from template lines (x + n) (all - n) ≡ events_from template lines x all
 events_rest template lines x n all h =
     let e : n + (all - n) ≡ all = omega arith in
-    rw (← events_append template lines x n (all - n), e) refl
+    rw (← events_append, e) refl
 
 -- ---- lanes
 
@@ -57,4 +57,4 @@ two_and_two lanes = rw (← div-div-eq-div-mul lanes 65536 65536) refl
 pub events_on : (t u : Template) (lines : Lines) (x m n k : ℕ) → u ≡ t → x ≡ m → m + n ≡ k → events_from t lines 0 m ++ events_from u lines x n ≡ events_from t lines 0 k
 events_on t u lines x m n k template place size =
     let e : x ≡ 0 + m = omega arith in
-    rw (template, e, ← events_append t lines 0 m n, size) refl
+    rw (template, e, ← events_append, size) refl

@@ -20,7 +20,7 @@ low_bit f (suc (suc (suc (suc (suc (suc (suc zero))))))) h = omega arith
 low_bit f (suc (suc (suc (suc (suc (suc (suc (suc i)))))))) h = absurd (omega arith)
 
 shifted_twice : (a m n : ℕ) → a / 2 ^ m / 2 ^ n ≡ a / 2 ^ (m + n)
-shifted_twice a m n = rw (div-div-eq-div-mul a (2 ^ m) (2 ^ n), ← pow-add 2 m n) refl
+shifted_twice a m n = rw (div-div-eq-div-mul, ← pow-add) refl
 
 -- all that they read lies before the byte
 pub far_before : (row : List Bool) (offset past x j : ℕ) → 8 ≤ offset → offset ≤ 127 → past ≡ before row x 128 → j < 8 →
@@ -30,7 +30,8 @@ far_before row offset past x j least most is few =
     let size : 128 ≡ (127 - m) + suc m = omega arith in
     let back : suc m ≡ offset - j = omega arith in
     let whole : (offset - j) + j ≡ offset = omega arith in
-    rw (byte_shifted (past / 2 ^ (offset - 8) % 256) j few, low_bit (past / 2 ^ (offset - 8)) (7 - j) (omega arith), shifted_twice past (offset - 8) (7 - j), is, size, past_bit row x (127 - m) m, back, ← left_along row x (offset - j) j, whole) refl
+    rw (byte_shifted (past / 2 ^ (offset - 8) % 256) j few, low_bit (past / 2 ^ (offset - 8)) (7 - j) (omega arith), shifted_twice, is, size, past_bit, back)
+    (rw (← left_along row x (offset - j) j, whole) refl)
 
 -- some of them lie in the byte
 pub far_within : (row : List Bool) (offset past byte x j : ℕ) → offset < 8 → past ≡ before row x 128 → byte ≡ before row (x + 8) 8 → j < 8 →
@@ -42,4 +43,4 @@ far_within row offset past byte x j small is own few =
     let size : 16 ≡ (15 - m) + suc m = omega arith in
     let back : suc m ≡ offset + (8 - j) = omega arith in
     let place : x + 8 ≡ (x + j) + (8 - j) = omega arith in
-    rw (byte_shifted ((past % 256 * 256 + byte) / 2 ^ offset) j few, shifted_twice (past % 256 * 256 + byte) offset (7 - j), register, size, past_bit row (x + 8) (15 - m) m, back, place, left_along row (x + j) offset (8 - j)) refl
+    rw (byte_shifted, shifted_twice, register, size, past_bit, back, place, left_along) refl

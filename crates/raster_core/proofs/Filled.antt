@@ -27,7 +27,7 @@ filled_join colour bytes i n m a b j few =
     ]
 
 pub after_more : (s : State) (event : Event) (n m : ℕ) → after s (replicate (n + m) event) ≡ after (after s (replicate n event)) (replicate m event)
-after_more s event n m = rw (← replicate-append-replicate n m event) (after_append s (replicate n event) (replicate m event))
+after_more s event n m = rw (← replicate-append-replicate) (after_append s (replicate n event) (replicate m event))
 
 pub run_join : (s : State) (event : Event) (n m : ℕ) → IsRun s event n → IsRun (after s (replicate n event)) event m → IsRun s event (n + m)
 run_join s event n m a b = record {
@@ -35,9 +35,9 @@ run_join s event n m a b = record {
     | inl near ↦ a.quiet k (omega arith)
     | inr far ↦
         let e : k ≡ n + (k - n) = omega arith in
-        rw (e, after_more s event n (k - n), b.quiet (k - n) (omega arith)) (a.quiet n (omega arith))
+        rw (e, after_more, b.quiet (k - n) (omega arith)) (a.quiet n (omega arith))
   ];
-  taught = rw (after_more s event n m, b.taught) a.taught;
+  taught = rw (after_more, b.taught) a.taught;
 }
 
 -- ---- pixels of a colour as a number
@@ -67,7 +67,7 @@ filled_mod false d l =
     let q = pow_pos l in
     let none : 0 * (2 ^ (d + l) - 1) ≡ 0 = omega arith in
     let rest : 0 ≡ 0 * (2 ^ l - 1) = omega arith in
-    rw (none, mod-eq_of_lt q) rest
+    rw (none, mod-eq_of_lt) rest
 
 -- ---- the pixels of bytes of a colour
 
@@ -92,7 +92,7 @@ filled_on {colour} {row} {b} k (suc n) fill h =
     let e : 8 * (b + suc n) ≡ 8 * (b + n) + 8 = omega arith in
     let f : k + 8 * suc n ≡ (k + 8 * n) + 8 = omega arith in
     let shorter = filled_on k n (record { byte = λ j few. fill.byte j (omega arith) }) h in
-    rw (e, f, before_split row (8 * (b + n)) (k + 8 * n) 8, shorter, fill.byte n (omega arith)) (filled_more colour (k + 8 * n))
+    rw (e, f, before_split, shorter, fill.byte n (omega arith)) (filled_more colour (k + 8 * n))
 
 left_filled : {colour : Bool} {row : List Bool} {y m l : ℕ} (k : ℕ) → before row y k ≡ filled colour k → m + l ≤ k → AreLeft row y m l colour
 left_filled {colour} {row} {y} {m} k h within = record {
@@ -109,7 +109,8 @@ pub record AreBehind (colour : Bool) (lines : Lines) (offset i : ℕ) : Type 0 w
   pub above_is : before lines.above (8 * i + 8) 24 ≡ filled colour 24
   pub second_is : before lines.second (8 * i + 8) 24 ≡ filled colour 24
 
-adapts_filled : {colour : Bool} (lines : Lines) (offset i n : ℕ) → offset ≤ 127 → before lines.row (8 * i) (past_bits offset) ≡ filled colour (past_bits offset) → AreLeft lines.above (8 * i + 8 * n + 8) 6 (8 * n + 5) colour →
+adapts_filled : {colour : Bool} (lines : Lines) (offset i n : ℕ) → offset ≤ 127 → before lines.row (8 * i) (past_bits offset) ≡ filled colour (past_bits offset) →
+    AreLeft lines.above (8 * i + 8 * n + 8) 6 (8 * n + 5) colour →
     Adapts lines offset (8 * i) (8 * n) colour
 adapts_filled lines zero i n high past above = nominal_adapts lines (8 * i) (8 * n) above
 adapts_filled {colour} lines (suc t) i n high past above =
@@ -117,7 +118,8 @@ adapts_filled {colour} lines (suc t) i n high past above =
     moved_adapts lines t (8 * n) columns (λ j within under. omega arith) (omega arith)
 
 -- below bytes of a colour and after pixels of it all contexts are that of the colour, as long as the row stays in it
-pub filled_uniform : {colour : Bool} {lines : Lines} {offset i n : ℕ} (mode : Mode) → offset ≤ 127 → AreBehind colour lines offset i → IsFilled colour lines.above (i + 1) n → IsFilled colour lines.second (i + 1) n →
+pub filled_uniform : {colour : Bool} {lines : Lines} {offset i n : ℕ} (mode : Mode) → offset ≤ 127 → AreBehind colour lines offset i → IsFilled colour lines.above (i + 1) n →
+    IsFilled colour lines.second (i + 1) n →
     StaysUniform mode lines offset colour (8 * i) (8 * n)
 filled_uniform {colour} {lines} {offset} {i} {n} mode high behind above second =
     let from : 8 * i + 8 ≡ 8 * (i + 1) = omega arith in
@@ -140,7 +142,8 @@ past_filled {colour} {row} {i} {n} w fill h =
     sym (before_mod row (8 * i + 8 * n) (8 * n) w) ∙ (ap (λ z. z % 2 ^ w) (rw (e, f) at (filled_on w n fill h)) ∙ filled_mod colour (8 * n) w)
 
 -- a register of a row above, after bytes of its colour
-pub register_filled : {colour : Bool} {row : List Bool} {register n : ℕ} (i : ℕ) → IsFilled colour row (i + 1) n → register ≡ before row (8 * i + 8) 24 → register ≡ filled colour 24 → register ≡ before row (8 * (i + n) + 8) 24
+pub register_filled : {colour : Bool} {row : List Bool} {register n : ℕ} (i : ℕ) → IsFilled colour row (i + 1) n → register ≡ before row (8 * i + 8) 24 → register ≡ filled colour 24 →
+    register ≡ before row (8 * (i + n) + 8) 24
 register_filled {row = row} {n = n} i fill is all =
     let from : 8 * i + 8 ≡ 8 * (i + 1) = omega arith in
     let to : 8 * (i + 1) + 8 * n ≡ 8 * (i + n) + 8 = omega arith in

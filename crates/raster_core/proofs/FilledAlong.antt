@@ -17,7 +17,8 @@ use Rattle.raster_core.proofs.SkipsAlong.{run_pixels, run_before, decoded_run}
 use Rattle.raster_core.proofs.Filled.{filled_join, is_filled, run_join, after_more, filled_uniform, past_filled, register_filled}
 
 pub along_join : {colour : Bool} {above second : List ℕ} {i at count : ℕ} {d d' d'' : Decoder} {learned : List Estimate} (n : ℕ) → at ≡ i + n → count ≡ n + 8 →
-    SkipsFilledAlong (filled_run colour i n) above second d learned d' → SkipsFilledAlong (filled_run colour at 8) above second d' learned d'' → SkipsFilledAlong (filled_run colour i count) above second d learned d''
+    SkipsFilledAlong (filled_run colour i n) above second d learned d' → SkipsFilledAlong (filled_run colour at 8) above second d' learned d'' →
+    SkipsFilledAlong (filled_run colour i count) above second d learned d''
 along_join {colour} {above} {second} {i} {at} {count} {d} {d'} {d''} {learned} n at_is count_is a b =
     let behind : at + 1 ≡ (i + 1) + n = omega arith in
     subst (λ z. SkipsFilledAlong (filled_run colour i z) above second d learned d'') (sym count_is)
@@ -34,7 +35,7 @@ along_join {colour} {above} {second} {i} {at} {count} {d} {d'} {d''} {learned} n
           let same : record { place = t.place; learned = learned } ≡ t = ap (λ l. record { place = t.place; learned = l }) (sym one.0.taught) in
           let size : 8 * n + 64 ≡ 8 * (n + 8) = omega arith in
           let last : after t (replicate 64 event) ≡ after s (replicate (8 * (n + 8)) event) =
-          rw (← after_more s event (8 * n) 64, size) refl in
+          rw (← after_more, size) refl in
           let still : t.place.doublings ≡ p.doublings = one.0.quiet (8 * n) (omega arith) in (
             rw (← size) (run_join s event (8 * n) 64 one.0 (subst (λ u. IsRun u event 64) same two.0)),
             rw (← ap (λ u. after u (replicate 64 event)) same ∙ last) two.1,
@@ -60,7 +61,8 @@ pub record ArePainted (colour : Bool) (i n : ℕ) (old new : List ℕ) : Type 0 
   pub filled : (k : ℕ) → i ≤ k → k < i + n → slice_index new k ≡ bit colour * 255
   pub kept : (k : ℕ) → k < i → slice_index new k ≡ slice_index old k
 
-pub bytes_skipped : {S : Type 0} {pull : S → Pulled → S → Type 0} {a : RowAround} {part : RowPart S} {width left : ℕ} {b : BytesAt} {current : List ℕ} {mid : DecoderState S} {d' : Decoder} {colour : Bool} (n : ℕ) →
+pub bytes_skipped : {S : Type 0} {pull : S → Pulled → S → Type 0} {a : RowAround} {part : RowPart S} {width left : ℕ} {b : BytesAt} {current : List ℕ} {mid : DecoderState S}
+    {d' : Decoder} {colour : Bool} (n : ℕ) →
     a.offset ≤ 127 → b.left ≡ width - 8 * b.i → left + 8 * n ≡ b.left → 1 ≤ n → AreOfColour colour a.offset b → ArePainted colour b.i n b.current current → has_stopped mid.decoder ≡ false →
     SkipsFilledAlong (filled_run colour b.i n) a.above a.second mid.decoder mid.learned d' → BytesAlong pull a part width b mid →
     BytesAlong pull a part width (bytes_at left (b.i + n) b.second b.above b.past current) (decoder_state mid.source d' mid.learned)
@@ -71,8 +73,9 @@ bytes_skipped {a = a} {b = b} {colour = colour} n high left_is left_to some regi
       let rest = f.rest in
       let wide : length f.done ≡ 8 * i = omega arith in
       let row = f.done ++ replicate (8 * n) colour in
-      let long : length row ≡ 8 * i + 8 * n = rw (length-append f.done (replicate (8 * n) colour), wide, length-replicate (8 * n) colour) refl in
-      let near : before row (8 * i) (past_bits a.offset) ≡ filled colour (past_bits a.offset) = rw (before_front f.done (replicate (8 * n) colour) (8 * i) (past_bits a.offset) (omega arith), ← wide, ← f.so_far.past_is) registers.past_is in
+      let long : length row ≡ 8 * i + 8 * n = rw (length-append, wide, length-replicate) refl in
+      let near : before row (8 * i) (past_bits a.offset) ≡ filled colour (past_bits a.offset) =
+      rw (before_front f.done (replicate (8 * n) colour) (8 * i) (past_bits a.offset) (omega arith), ← wide, ← f.so_far.past_is) registers.past_is in
       let above_filled = is_filled (packed_in a_is) skips.above_filled in
       let second_filled = is_filled (packed_in s_is) skips.second_filled in
       let stays : StaysUniform a.mode (with_row lines row) a.offset colour (8 * i) (8 * n) =

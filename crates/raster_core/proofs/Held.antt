@@ -12,9 +12,9 @@ use Rattle.raster_core.specs.Machine.Registers.{ByteAt}
 use Rattle.raster_core.specs.Machine.Lanes.{AreBeside}
 use Rattle.raster_core.specs.Machine.Bytes.{bits, byte_lines, events_from, lane_events, IsMadeFor}
 use Rattle.raster_core.specs.declared.row_byte.RowByte.{RowByte}
-use Rattle.raster_core.proofs.Before.{before_suc, before_zero, some_past}
+use Rattle.raster_core.proofs.Before.{before_suc, before_zero}
 use Rattle.raster_core.proofs.Causal.{before_front}
-use Rattle.raster_core.proofs.BytePixels.{at_registers, pixel_in, byte_shifted, bit_test, past_at}
+use Rattle.raster_core.proofs.BytePixels.{at_registers, pixel_in, byte_shifted, bit_test, past_on}
 use Rattle.raster_core.proofs.EventLists.{context_by, event_is, events_none, events_first, events_append, events_last}
 use Rattle.raster_core.proofs.LaneTables.{later_lane}
 use Rattle.raster_core.proofs.LanePixels.{lane_pixel, pixels_context}
@@ -159,18 +159,17 @@ at_pixel b j small few is = at_registers j few (holds b small) is
 pub past_more : {past past' : ℕ} {pixel : Bool} (b : RowByte) (j : ℕ) → past ≡ before (byte_lines b).row (128 + j) (past_bits b.around.template.offset) →
     past' ≡ past % 2 ^ (past_bits b.around.template.offset - 1) * 2 + bit pixel → pixel ≡ pixel_at (byte_lines b).row (128 + j) →
     past' ≡ before (byte_lines b).row (128 + (j + 1)) (past_bits b.around.template.offset)
-past_more {past} b j is next own =
-    let w : ℕ = past_bits b.around.template.offset in
-    let row : List Bool = (byte_lines b).row in
+past_more b j is next own =
     let place : (128 + j) + 1 ≡ 128 + (j + 1) = omega arith in
-    rw (next, own, subst (λ v. past % 2 ^ (w - 1) * 2 + bit (pixel_at row (128 + j)) ≡ before row ((128 + j) + 1) v) (some_past b.around.template.offset) (past_at row past (128 + j) (w - 1) (is ∙ ap (λ v. before row (128 + j) v) (sym (some_past b.around.template.offset)))), place) refl
+    rw (next, own, past_on (byte_lines b).row b.around.template.offset (128 + j) is, place) refl
 
 -- pixel j in its context, after those before it
 pub pixel_next : {cx second above row past : ℕ} {two_line : Bool} (b : RowByte) (j : ℕ) → b.byte < 256 → j < 8 →
     two_line ≡ b.around.template.two_line →
     second ≡ b.around.second / 2 ^ 7 * 2 ^ j → above ≡ b.around.above / 2 ^ 6 * 2 ^ j → row ≡ b.byte * 2 ^ j →
     past ≡ before (byte_lines b).row (128 + j) (past_bits b.around.template.offset) →
-    ((typical : Bool) (lines : Lines) (x : ℕ) → AreAt lines b.around.template.offset second above past x → cx ≡ context_at (record { two_line = two_line; typical = typical }) lines b.around.template.offset x) →
+    ((typical : Bool) (lines : Lines) (x : ℕ) → AreAt lines b.around.template.offset second above past x →
+    cx ≡ context_at (record { two_line = two_line; typical = typical }) lines b.around.template.offset x) →
     events_from b.around.template (byte_lines b) 128 j ++ record { context = cx; pixel = nat_eq (row / 2 ^ 7 % 2) 1 } ∷ [] ≡ events_from b.around.template (byte_lines b) 128 (j + 1)
 pixel_next {cx} {second} {above} {row} {past} {two_line} b j small few template s a r p context =
     let at : AreAt (byte_lines b) b.around.template.offset second above past (128 + j) = rw (s, a) (at_pixel b j small few p) in

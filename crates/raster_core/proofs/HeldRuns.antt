@@ -19,10 +19,11 @@ uniform_events template lines x (suc n) c stays own =
     let e : n + 1 ≡ suc n = omega arith in
     let shorter = uniform_events template lines x n c (λ j few before. stays j (omega arith) before) (λ k few. own k (omega arith)) in
     let last = events_last template lines x n (uniform_context c) c (sym (stays n (omega arith) (λ k few. own k (omega arith)))) (sym (own n (omega arith))) in
-    rw (← one_more n (uniform_event c), shorter, last, e) refl
+    rw (← one_more, shorter, last, e) refl
 
 pub byte_run : (b : RowByte) (c : Bool) → b.byte < 256 → b.byte ≡ bit c * 255 →
-    ((mode : Mode) (lines : Lines) (x : ℕ) → b.around.second ≡ before lines.second (x + 16) 24 → b.around.above ≡ before lines.above (x + 16) 24 → b.around.past ≡ before lines.row x (past_bits b.around.template.offset) →
+    ((mode : Mode) (lines : Lines) (x : ℕ) → b.around.second ≡ before lines.second (x + 16) 24 → b.around.above ≡ before lines.above (x + 16) 24 →
+    b.around.past ≡ before lines.row x (past_bits b.around.template.offset) →
     StaysUniform mode lines b.around.template.offset c x 8) →
     replicate 8 (uniform_event c) ≡ events_from b.around.template (byte_lines b) 128 8
 byte_run b c small colour uniform =

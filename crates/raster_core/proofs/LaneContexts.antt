@@ -41,7 +41,7 @@ later_lanes {lanes} {b} {n} i k h = record {
   within = let w = h.within in omega arith;
   around_is = λ j few.
       let e : n + (i + j) ≡ (n + i) + j = omega arith in
-      rw (later_lane lanes i j, h.around_is (i + j) (omega arith), e) refl;
+      rw (later_lane, h.around_is (i + j) (omega arith), e) refl;
 }
 
 pub more_then : {S : Type 0} {pull : S → Pulled → S → Type 0} {lanes p i p' k p'' : ℕ} {old mid to : DecoderState S} →
@@ -52,7 +52,8 @@ more_then {S} {pull} {lanes} {p} {i} {p'} {k} {p''} {old} {mid} {to} first then 
       rw (← e) (then.any b from (n + i) (later_lanes i k has) (first.any b from n (first_lanes i (omega arith) has) so_far));
 }
 
-pub stops_first : {S : Type 0} {pull : S → Pulled → S → Type 0} {a : LanesAround} {old to : DecoderState S} {i k : ℕ} {pause : Pause} → i ≤ k → StopsMore pull a old i pause to → StopsMore pull a old k pause to
+pub stops_first : {S : Type 0} {pull : S → Pulled → S → Type 0} {a : LanesAround} {old to : DecoderState S} {i k : ℕ} {pause : Pause} → i ≤ k → StopsMore pull a old i pause to →
+    StopsMore pull a old k pause to
 stops_first {i = i} less stops = record { any = λ b from n has so_far. stops.any b from n (first_lanes i less has) so_far }
 
 pub stops_then : {S : Type 0} {pull : S → Pulled → S → Type 0} {lanes p i p' k : ℕ} {old mid to : DecoderState S} {pause pause' : Pause} →

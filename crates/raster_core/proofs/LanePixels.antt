@@ -40,17 +40,19 @@ pub lane_pixel : (lanes : ℕ) (beside : ℕ → ℕ) (past₀ byte n : ℕ) →
 lane_pixel lanes beside past₀ byte n few small has = (lane_parts lanes beside (past₀ % 256 * 256 + byte) n small has).1 ∙ bit_of_byte (past₀ % 256) byte n few
 
 -- the two pixels before, in a register of two bytes
-own_before : {past₀ byte past : ℕ} (row : List Bool) (offset x n : ℕ) → n < 8 → past₀ ≡ before row x (past_bits offset) → byte ≡ before row (x + 8) 8 → past ≡ before row (x + n) (past_bits offset) → own (past₀ % 256 * 256 + byte) n / 2 ≡ past % 4
+own_before : {past₀ byte past : ℕ} (row : List Bool) (offset x n : ℕ) → n < 8 → past₀ ≡ before row x (past_bits offset) → byte ≡ before row (x + 8) 8 →
+    past ≡ before row (x + n) (past_bits offset) → own (past₀ % 256 * 256 + byte) n / 2 ≡ past % 4
 own_before {past₀} {byte} row offset x n few p₀ b p =
     let register : past₀ % 256 * 256 + byte ≡ before row (x + 8) 16 =
     rw (low_part row x offset 8 p₀ (omega arith), b) (sym (before_split row x 8 8)) in
     let place : x + 8 ≡ ((x + n) + 1) + (7 - n) = omega arith in
     let size : 16 ≡ ((6 + n) + 3) + (7 - n) = omega arith in
     let three : own (past₀ % 256 * 256 + byte) n ≡ before row ((x + n) + 1) 3 =
-    rw (byte_shifted (past₀ % 256 * 256 + byte) n few, register, place, size) (before_part row ((x + n) + 1) (6 + n) 3 (7 - n)) in
+    rw (byte_shifted, register, place, size) (before_part row ((x + n) + 1) (6 + n) 3 (7 - n)) in
     rw (three, before_div row (x + n) 2 1) (sym (low_part row (x + n) offset 2 p (omega arith)))
 
-pub pixels_context : {beside : ℕ → ℕ} {offset second above past₀ byte cx x : ℕ} {lines : Lines} (typical : Bool) (lanes n : ℕ) → n < 8 → AreBeside beside offset second above byte past₀ → HasPixels lanes beside (past₀ % 256 * 256 + byte) n 1 → cx ≡ lanes % 0x800 / 2 →
+pub pixels_context : {beside : ℕ → ℕ} {offset second above past₀ byte cx x : ℕ} {lines : Lines} (typical : Bool) (lanes n : ℕ) → n < 8 → AreBeside beside offset second above byte past₀ →
+    HasPixels lanes beside (past₀ % 256 * 256 + byte) n 1 → cx ≡ lanes % 0x800 / 2 →
     ByteAt lines second above byte x → past₀ ≡ before lines.row x (past_bits offset) →
     cx ≡ context_at (record { two_line = false; typical = typical }) lines offset (x + n)
 pixels_context {beside} {past₀ = past₀} {byte} {x = x} {lines} typical lanes n few are has cx_is b p₀ =

@@ -1,5 +1,5 @@
 -- Lanes of 16 bits, and the tables that fill them.
-use Rattle.std.proofs.Common.{◌≡◌, ℕ, zero, suc, ◌+◌, ◌*◌, ◌/◌, ◌%◌, ◌^◌, ◌<◌, ◌≤◌, Bool, true, ◌&&◌, List, [], ◌∷◌, length, get_or, eqb, leb, arith, refl, ◌∙◌, ap, add-zero, zero-add, Ok, Err}
+use Rattle.std.proofs.Common.{◌≡◌, ℕ, zero, suc, ◌+◌, ◌*◌, ◌/◌, ◌%◌, ◌^◌, ◌<◌, ◌≤◌, Bool, true, ◌&&◌, List, [], ◌∷◌, length, get_or, eqb, leb, arith, refl, add-zero, zero-add, Ok, Err}
 use Rattle.std.specs.Prelude.{Result, IfOk, OnOk, OnErr, IfErr}
 use Rattle.std.proofs.lemmas.Bool.{eqb-true, leb-true, and_parts}
 use Rattle.std.proofs.Math.Nat.{div-div-eq-div-mul}
@@ -31,24 +31,25 @@ next_lane : (c j : ℕ) → lane c (suc j) ≡ lane (c / 2 ^ 16) j
 next_lane c j =
     let e : 16 * suc j ≡ 16 + 16 * j = omega arith in
     let p : 2 ^ (16 * suc j) ≡ 2 ^ 16 * 2 ^ (16 * j) = rw e (pow-add 2 16 (16 * j)) in
-    rw (p, ← div-div-eq-div-mul c (2 ^ 16) (2 ^ (16 * j))) refl
+    rw (p, ← div-div-eq-div-mul) refl
 
 pub later_lane : (lanes i j : ℕ) → lane (lanes / 2 ^ (16 * i)) j ≡ lane lanes (i + j)
 later_lane lanes i j =
     let e : 16 * (i + j) ≡ 16 * i + 16 * j = omega arith in
     let p : 2 ^ (16 * (i + j)) ≡ 2 ^ (16 * i) * 2 ^ (16 * j) = rw e (pow-add 2 (16 * i) (16 * j)) in
-    rw (div-div-eq-div-mul lanes (2 ^ (16 * i)) (2 ^ (16 * j)), ← p) refl
+    rw (div-div-eq-div-mul, ← p) refl
 
 pub sum_lane : (a b j : ℕ) → ((i : ℕ) → i ≤ j → lane a i + lane b i < 2 ^ 16) → lane (a + b) j ≡ lane a j + lane b j
-sum_lane a b zero small = let s : a / 1 % 2 ^ 16 + b / 1 % 2 ^ 16 < 2 ^ 16 = small 0 (omega arith) in let e : (a + b) / 1 % 2 ^ 16 ≡ a / 1 % 2 ^ 16 + b / 1 % 2 ^ 16 = omega arith in e
+sum_lane a b zero small = let s = small 0 (omega arith) in omega arith
 sum_lane a b (suc j) small =
-    let s : a / 1 % 2 ^ 16 + b / 1 % 2 ^ 16 < 2 ^ 16 = small 0 (omega arith) in
+    let s = small 0 (omega arith) in
     let e : (a + b) / 2 ^ 16 ≡ a / 2 ^ 16 + b / 2 ^ 16 = omega arith in
-    rw (next_lane (a + b) j, e, sum_lane (a / 2 ^ 16) (b / 2 ^ 16) j (λ i l. let t : lane a (suc i) + lane b (suc i) < 2 ^ 16 = small (suc i) (omega arith) in omega (arith, t, next_lane a i, next_lane b i)), ← next_lane a j, ← next_lane b j) refl
+    let rest = sum_lane (a / 2 ^ 16) (b / 2 ^ 16) j (λ i l. let t = small (suc i) (omega arith) in omega (arith, next_lane a i, next_lane b i)) in
+    rw (next_lane, e, rest, ← next_lane, ← next_lane) refl
 
 pub sum_is : (a b : ℕ) (f g : ℕ → ℕ) (j : ℕ) → j < 4 → ((i : ℕ) → i < 4 → lane a i ≡ f i) → ((i : ℕ) → i < 4 → lane b i ≡ g i) → ((i : ℕ) → i < 4 → f i + g i < 2 ^ 16) → lane (a + b) j ≡ f j + g j
 sum_is a b f g j few fa gb small =
-    rw (sum_lane a b j (λ i l. let k : i < 4 = omega arith in let s = small i k in let p : lane a i ≡ f i = fa i k in let q : lane b i ≡ g i = gb i k in rw (p, q) s), fa j few, gb j few) refl
+    rw (sum_lane a b j (λ i l. let k : i < 4 = omega arith in rw (fa i k, gb i k) (small i k)), fa j few, gb j few) refl
 
 -- ---- the tables
 
@@ -147,23 +148,25 @@ first_far a = at_each _ (omega arith) (omega arith) (omega arith) (omega arith)
 pub last_far : (a j : ℕ) → j < 4 → a % 16 * 2 ^ j / 8 % 2 ≡ a * 2 ^ (4 + j) / 2 ^ 7 % 2
 last_far a = at_each _ (omega arith) (omega arith) (omega arith) (omega arith)
 
-pub first_moved_are : (s a f r j : ℕ) → j < 4 → 2 * (second_lane (s / 2 ^ 11 % 64) j + moved_above_lane (a / 2 ^ 11 % 128) j + far_lane (f / 2 ^ 4 % 16) j) + row_lane (r / 2 ^ 4 % 64) j ≡ 2 * moved_around s a f (0 + j) + own r (0 + j)
+pub first_moved_are : (s a f r j : ℕ) → j < 4 →
+    2 * (second_lane (s / 2 ^ 11 % 64) j + moved_above_lane (a / 2 ^ 11 % 128) j + far_lane (f / 2 ^ 4 % 16) j) + row_lane (r / 2 ^ 4 % 64) j ≡ 2 * moved_around s a f (0 + j) + own r (0 + j)
 first_moved_are s a f r j h =
     let z : 0 + j ≡ j = omega arith in
-    rw (z, first_second s j h, first_moved a j h, first_far f j h, first_row r j h) refl
+    rw (z, first_second, first_moved, first_far, first_row) refl
 
-pub last_moved_are : (s a f r j : ℕ) → j < 4 → 2 * (second_lane (s / 2 ^ 7 % 64) j + moved_above_lane (a / 2 ^ 7 % 128) j + far_lane (f % 16) j) + row_lane (r % 64) j ≡ 2 * moved_around s a f (4 + j) + own r (4 + j)
+pub last_moved_are : (s a f r j : ℕ) → j < 4 →
+    2 * (second_lane (s / 2 ^ 7 % 64) j + moved_above_lane (a / 2 ^ 7 % 128) j + far_lane (f % 16) j) + row_lane (r % 64) j ≡ 2 * moved_around s a f (4 + j) + own r (4 + j)
 last_moved_are s a f r j h =
-    rw (last_second s j h, last_moved a j h, last_far f j h, last_row r j h) refl
+    rw (last_second, last_moved, last_far, last_row) refl
 
 pub first_around_is : (s a j : ℕ) → j < 4 → second_lane (s / 2 ^ 11 % 64) j + above_lane (a / 2 ^ 10 % 256) j ≡ around s a (0 + j)
-first_around_is s a j h = let z : 0 + j ≡ j = omega arith in rw z (ap (λ z. z * 128 + above_lane (a / 2 ^ 10 % 256) j) (first_second s j h) ∙ ap (λ z. s / 2 ^ 7 * 2 ^ j / 2 ^ 7 % 8 * 128 + z * 4) (first_above a j h))
+first_around_is s a j h = let z : 0 + j ≡ j = omega arith in rw (z, first_second s j h, first_above a j h) refl
 
 pub first_pixels_are : (s a r j : ℕ) → j < 4 → 2 * (second_lane (s / 2 ^ 11 % 64) j + above_lane (a / 2 ^ 10 % 256) j) + row_lane (r / 2 ^ 4 % 64) j ≡ 2 * around s a (0 + j) + own r (0 + j)
-first_pixels_are s a r j h = let z : 0 + j ≡ j = omega arith in rw (z, first_second s j h, first_above a j h, first_row r j h) refl
+first_pixels_are s a r j h = let z : 0 + j ≡ j = omega arith in rw (z, first_second, first_above, first_row) refl
 
 pub last_around_is : (s a j : ℕ) → j < 4 → second_lane (s / 2 ^ 7 % 64) j + above_lane (a / 2 ^ 6 % 256) j ≡ around s a (4 + j)
-last_around_is s a j h = rw (last_second s j h, last_above a j h) refl
+last_around_is s a j h = rw (last_second, last_above) refl
 
 pub last_pixels_are : (s a r j : ℕ) → j < 4 → 2 * (second_lane (s / 2 ^ 7 % 64) j + above_lane (a / 2 ^ 6 % 256) j) + row_lane (r % 64) j ≡ 2 * around s a (4 + j) + own r (4 + j)
-last_pixels_are s a r j h = rw (last_second s j h, last_above a j h, last_row r j h) refl
+last_pixels_are s a r j h = rw (last_second, last_above, last_row) refl

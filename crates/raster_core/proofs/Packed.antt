@@ -68,7 +68,7 @@ packed_in {row} is = record { byte = λ k. sym (mod-eq_of_lt (before_lt row (8 *
 -- ---- registers
 
 pub first_byte : (row : List Bool) → before row 8 8 ≡ before row 8 24
-first_byte row = sym (before_split row 0 16 8 ∙ rw (before_none row 16) (omega arith))
+first_byte row = sym (before_split row 0 16 8 ∙ rw before_none (omega arith))
 
 pub byte_in : {register : ℕ} (row : List Bool) (i : ℕ) → register ≡ before row (8 * i + 8) 24 → register % 65536 * 256 + before row (8 * (i + 1) + 8) 8 ≡ before row (8 * (i + 1) + 8) 24
 byte_in {register} row i h =
@@ -79,14 +79,16 @@ byte_in {register} row i h =
     rw low (sym s)
 
 -- the byte of a row whose last n pixels are in it
-pub byte_out : {past : ℕ} (done : List Bool) (offset i n : ℕ) → past ≡ before done (length done) (past_bits offset) → length done ≡ 8 * i + n → n ≤ 8 → past % 256 * 2 ^ (8 - n) % 256 ≡ before done (8 * i + 8) 8
+pub byte_out : {past : ℕ} (done : List Bool) (offset i n : ℕ) → past ≡ before done (length done) (past_bits offset) → length done ≡ 8 * i + n → n ≤ 8 →
+    past % 256 * 2 ^ (8 - n) % 256 ≡ before done (8 * i + 8) 8
 byte_out {past} done offset i n h long few =
     let low : past % 256 ≡ before done (length done) 8 = low_part done (length done) offset 8 h (omega arith) in
     let s = before_split done (length done) 8 (8 - n) in
     let white = before_white done (length done) (8 - n) (omega arith) in
     let e : length done + (8 - n) ≡ 8 * i + 8 = omega arith in
     let c : 8 + (8 - n) ≡ (8 - n) + 8 = omega arith in
-    let m : before done (length done) 8 * 2 ^ (8 - n) ≡ before done (8 * i + 8) ((8 - n) + 8) = sym (rw (← e) (ap (λ k. before done (length done + (8 - n)) k) (sym c) ∙ (s ∙ rw white (omega arith)))) in
+    let m : before done (length done) 8 * 2 ^ (8 - n) ≡ before done (8 * i + 8) ((8 - n) + 8) =
+    sym (rw (← e) (ap (λ k. before done (length done + (8 - n)) k) (sym c) ∙ (s ∙ rw white (omega arith)))) in
     rw (low, m) (before_mod done (8 * i + 8) (8 - n) 8)
 
 -- a register from its three bytes

@@ -41,7 +41,7 @@ white p a (suc n) h =
 pub byte_is : (line : List Bool) (j : ℕ) → get_or (packed_row line) j 0 ≡ word (pixel_at line) (8 * j) 8
 byte_is line j =
     elim (cases_lt j (row_bytes (length line))) [
-      | inl lt ↦ rw (get_or-numbers (λ k. binary (map (pixel_at line) (numbers_from (8 * k) 8))) 0 (row_bytes (length line)) j 0 lt, zero-add j) (binary_is (pixel_at line) (8 * j) 8)
+      | inl lt ↦ rw (get_or-numbers (λ k. binary (map (pixel_at line) (numbers_from (8 * k) 8))) 0 (row_bytes (length line)) j 0 lt, zero-add) (binary_is (pixel_at line) (8 * j) 8)
       | inr past ↦
           get_or-eq_default (packed_row line) 0 (omega (arith, packed-length line, past))
           ∙ sym (white (pixel_at line) (8 * j) 8 (λ i lt. get_or-eq_default line false (omega arith)))
@@ -75,7 +75,7 @@ pub led_white : (line : List Bool) (place : ℕ) → place < 2 → 0 ≡ word (l
 led_white line place h = sym (white (led line) (64 * place) 64 (λ i lt. before (64 * place + i) (omega arith)))
   where
     before : (x : ℕ) → x < 128 → led line x ≡ false
-    before x lt = rw (is_lt x 128 lt) refl
+    before x lt = rw is_lt refl
 
 pub nothing : (p : ℕ → Bool) (a : ℕ) → 0 ≡ word p a 0
 unfolding word
@@ -111,7 +111,7 @@ mask_part w a h k =
     let ones : word (is_within w) a (w - a) + 1 ≡ 2 ^ (w - a) = black (is_within w) a (w - a) (λ i lt. inside w (a + i) (omega arith)) in
     let none : word (is_within w) (a + (w - a)) (64 - (w - a)) ≡ 0 = white (is_within w) (a + (w - a)) (64 - (w - a)) (λ i lt. outside w (a + (w - a) + i) (omega arith)) in
     let n : (w - a) + (64 - (w - a)) ≡ 64 = omega arith in
-    let all : 2 ^ (w - a) * 2 ^ (64 - (w - a)) ≡ 2 ^ 64 = rw (← pow-add 2 (w - a) (64 - (w - a)), n) refl in
+    let all : 2 ^ (w - a) * 2 ^ (64 - (w - a)) ≡ 2 ^ 64 = rw (← pow-add, n) refl in
     let shl : (2 ^ 64 - 1) * 2 ^ (64 - (w - a)) % 2 ^ 64 ≡ 2 ^ 64 - 2 ^ (64 - (w - a)) = ones_shl 64 (64 - (w - a)) (omega arith) in
     rw (shl, collected (2 ^ (w - a)) (2 ^ (64 - (w - a))) (word (is_within w) a (w - a)) (2 ^ 64) all ones, ← none, ← cat, n) refl
   where

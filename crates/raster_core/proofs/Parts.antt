@@ -59,7 +59,8 @@ row_part lines width lag k n low high =
     ∙ sym (adaptive_left lines lag (64 * k + i) low)))
 
 pub nominal_part : (lines : Lines) (width k n : ℕ) →
-    agreed_from (pixels_from (led lines.row) (64 * k + 128)) (pixels_from (led lines.above) (64 * (k + 2) + 64 - 62)) (pixels_from (is_within width) (64 * k)) n ≡ part_agreement lines width 0 (64 * k) n
+    agreed_from (pixels_from (led lines.row) (64 * k + 128)) (pixels_from (led lines.above) (64 * (k + 2) + 64 - 62)) (pixels_from (is_within width) (64 * k)) n ≡ part_agreement lines width 0
+    (64 * k) n
 unfolding agreed_from part_agreement
 nominal_part lines width k n =
     count_same
@@ -88,7 +89,7 @@ pub part_more : (lines : Lines) (width offset n k : ℕ) →
     part_agreement lines width offset 0 (n + k) ≡ part_agreement lines width offset 0 n + part_agreement lines width offset n k
 unfolding part_agreement
 part_more lines width offset n k =
-    rw (count_cat (λ x. is_within width x && same (pixel_at lines.row x) (adaptive lines offset x)) 0 n k, zero-add n) refl
+    rw (count_cat (λ x. is_within width x && same (pixel_at lines.row x) (adaptive lines offset x)) 0 n k, zero-add) refl
 
 count_none : (f : ℕ → Bool) (a n : ℕ) → ((i : ℕ) → i < n → f (a + i) ≡ false) → count_by f (numbers_from a n) ≡ 0
 count_none f a zero h = refl
@@ -110,7 +111,9 @@ pub part_all : (lines : Lines) (width offset n : ℕ) → length lines.row ≡ w
     part_agreement lines width offset 0 n ≡ agreements offset lines
 unfolding part_agreement
 part_all lines width offset n e h =
-    rw (whole n h, count_cat f 0 width (n - width), count_same f g 0 0 width (λ i lt. ap (λ b. b && g (0 + i)) (is_lt (0 + i) width (omega arith))), count_none f (0 + width) (n - width) (λ i lt. ap (λ b. b && g (0 + width + i)) (is_not_lt (0 + width + i) width (omega arith))), add-zero (count_by g (numbers_from 0 width)), ← e) refl
+    let front = count_same f g 0 0 width (λ i lt. ap (λ b. b && g (0 + i)) (is_lt (0 + i) width (omega arith))) in
+    let back = count_none f (0 + width) (n - width) (λ i lt. ap (λ b. b && g (0 + width + i)) (is_not_lt (0 + width + i) width (omega arith))) in
+    rw (whole n h, count_cat f 0 width (n - width), front, back, add-zero (count_by g (numbers_from 0 width)), ← e) refl
   where
     g : ℕ → Bool
     g = λ x. same (pixel_at lines.row x) (adaptive lines offset x)
@@ -139,4 +142,4 @@ one_pixel : (lines : Lines) (width offset x : ℕ) → x < width →
     part_agreement lines width offset x 1 ≡ cond (same (pixel_at lines.row x) (adaptive lines offset x)) 1 0
 unfolding part_agreement
 one_pixel lines width offset x h =
-    rw (is_lt x width h) (zero-add (cond (same (pixel_at lines.row x) (adaptive lines offset x)) 1 0))
+    rw is_lt (zero-add (cond (same (pixel_at lines.row x) (adaptive lines offset x)) 1 0))

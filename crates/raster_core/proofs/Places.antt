@@ -28,7 +28,7 @@ put_here n p bytes row inside long =
 -- a row before it stays
 put_before : (n p q : ℕ) (bytes row : List ℕ) → p * n + n ≤ length bytes → q * n + n ≤ p * n → row_placed n (with_row n p bytes row) q ≡ row_placed n bytes q
 put_before n p q bytes row inside before =
-    rw (← drop-take (q * n) n (with_row n p bytes row), take-put_mid_below (p * n) n bytes row (q * n + n) before (omega arith)) (drop-take (q * n) n bytes)
+    rw (← drop-take, take-put_mid_below (p * n) n bytes row (q * n + n) before (omega arith)) (drop-take (q * n) n bytes)
 
 -- a row behind it stays
 put_behind : (n p q : ℕ) (bytes row : List ℕ) → p * n + n ≤ length bytes → length row ≡ n → p * n + n ≤ q * n → row_placed n (with_row n p bytes row) q ≡ row_placed n bytes q
@@ -77,7 +77,8 @@ zeros_at n q bytes e small =
 pub zeros_held : (p width : ℕ) (bytes : List ℕ) → p < 3 → bytes ≡ replicate (3 * row_bytes width) 0 → HasLines (rows_at p width bytes) (white_lines width)
 zeros_held p width bytes small e =
     let n = row_bytes width in
-    white_held width _ _ _ (zeros_at n p bytes e small) (zeros_at n (next_place p) bytes e (next_small p small)) (zeros_at n (next_place (next_place p)) bytes e (next_small (next_place p) (next_small p small)))
+    white_held width _ _ _ (zeros_at n p bytes e small) (zeros_at n (next_place p) bytes e (next_small p small))
+    (zeros_at n (next_place (next_place p)) bytes e (next_small (next_place p) (next_small p small)))
 
 le_at : {a b c : ℕ} → b ≡ c → a ≤ c → a ≤ b
 le_at e h = omega arith
@@ -118,7 +119,7 @@ rows_cut {n} p width front row back long lf lr is_above is_second =
 pub row_next : (n q : ℕ) (a b : List ℕ) → length a ≡ n → row_placed n (a ++ b) (q + 1) ≡ row_placed n b q
 row_next n q a b la =
     let more : (q + 1) * n ≡ n + q * n = omega arith in
-    rw (more, ← drop-drop (q * n) n (a ++ b), drop_at a b n la) refl
+    rw (more, ← drop-drop, drop_at) refl
 
 -- a row of nothing in front
 none_of : (l : List ℕ) → length l ≡ 0 → l ≡ []

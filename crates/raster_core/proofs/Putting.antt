@@ -38,7 +38,8 @@ same_loan h k = record { learned_is = k.learned_is ∙ h.learned_is; encoder_is 
 
 -- ---- codes after codes
 
-refused_later : {S : Type 0} (took : S → ℕ → S → Type 0) (refused : S → S → Type 0) (from mid to : S) (xs ys : List ℕ) → Took took from xs mid → Refused took refused mid ys to → Refused took refused from (xs ++ ys) to
+refused_later : {S : Type 0} (took : S → ℕ → S → Type 0) (refused : S → S → Type 0) (from mid to : S) (xs ys : List ℕ) → Took took from xs mid → Refused took refused mid ys to →
+    Refused took refused from (xs ++ ys) to
 refused_later took refused from mid to xs ys t r =
     record {
       done = xs ++ r.done;
@@ -61,7 +62,7 @@ encodes_join {S} {old} {mid} {new} {s} {xs} ys h next =
     record {
       more = h.more ++ k.more;
       taken = Took-append old.sink.took old.from mid.out new.out h.more k.more h.taken k.taken;
-      codes = rw (← last, ← append_assoc old.pushed h.more k.more) k.codes;
+      codes = rw (← last, ← append_assoc) k.codes;
       taught = rw (k.taught, last) refl;
     }
 
@@ -77,7 +78,7 @@ fails_later {S} {old} {mid} {new} {s} {xs} ys h next =
       fails = record {
         more = h.more ++ k.fails.more;
         cut = refused_later old.sink.took old.sink.refused old.from mid.out new h.more k.fails.more h.taken k.fails.cut;
-        begins = rw (← last, ← append_assoc old.pushed h.more k.fails.more) k.fails.begins;
+        begins = rw (← last, ← append_assoc) k.fails.begins;
       };
     }
 
@@ -96,7 +97,7 @@ puts_none {c = c} = record {
     fails = going;
     fault = λ e. absurd (no_err tt e);
     counted = tt;
-    ok = λ p pushed h. record { more = []; taken = refl; codes = rw (append-nil pushed) h; taught = refl };
+    ok = λ p pushed h. record { more = []; taken = refl; codes = rw append-nil h; taught = refl };
     err = tt;
   };
 }
@@ -129,7 +130,8 @@ puts_join {S} {sink} {a} {b} {c} {xs} {ys} {result} h k =
           };
     }
   where
-    counted : (r : Result (Unit {0}) CoderFault) → OnOk r (event_count c.encoder.now ≡ event_count b.encoder.now + length ys) → OnOk r (event_count c.encoder.now ≡ event_count a.encoder.now + length (xs ++ ys))
+    counted : (r : Result (Unit {0}) CoderFault) → OnOk r (event_count c.encoder.now ≡ event_count b.encoder.now + length ys) →
+        OnOk r (event_count c.encoder.now ≡ event_count a.encoder.now + length (xs ++ ys))
     counted (Ok x) e = let l = length-append xs ys in let f = h.count in omega arith
     counted (Err f) e = tt
 
@@ -196,7 +198,7 @@ puts_idle {sink = sink} {c = c} {xs} loan same h = puts_as (append-nil xs) (puts
     ok = λ p pushed at. record {
       more = [];
       taken = sym same.out_is;
-      codes = rw (append-nil pushed) (subst (λ e. EncoderIsAt e p pushed) (sym same.encoder_is) at);
+      codes = rw append-nil (subst (λ e. EncoderIsAt e p pushed) (sym same.encoder_is) at);
       taught = same.learned_is;
     };
     err = tt;

@@ -11,7 +11,8 @@ use Rattle.raster_core.specs.Packed.{packed_row}
 use Rattle.raster_core.specs.Machine.Registers.{before, past_bits}
 use Rattle.raster_core.specs.declared.place.Pause.{Pause}
 use Rattle.raster_core.specs.declared.place.RowPlace.{RowPlace}
-use Rattle.raster_core.specs.Machine.Decoded.{RowAround, RowPart, BytesAt, PlainRow, PixelsHeld, FromPixels, Along, StopsAlong, BytesAlong, ByteEnds, RowAlong, RowStops, byte_around, next_around, bytes_at}
+use Rattle.raster_core.specs.Machine.Decoded.{RowAround, RowPart, BytesAt, PlainRow, PixelsHeld, FromPixels, Along}
+use Rattle.raster_core.specs.Machine.Decoded.{StopsAlong, BytesAlong, ByteEnds, RowAlong, RowStops, byte_around, next_around, bytes_at}
 use Rattle.raster_core.proofs.Causal.{before_front}
 use Rattle.raster_core.proofs.Packed.{packed_byte, packed_is, byte_in, byte_out}
 

@@ -94,7 +94,8 @@ plain_are {lines} typical template rows w =
     ∙ map_same _ _ 0 (length lines.row) (λ x few. event_is _ _ _ _ (same_context mode template.offset x same) (same.row.at x))
 
 pub coded_are : (typical : Bool) (template : Template) (rows : Rows) (lines : Lines) (previous flag : Bool) → HasLines (held_in rows) lines →
-    coded_events (record { two_line = template.two_line; typical = typical }) template rows previous flag ≡ row_events (record { two_line = template.two_line; typical = typical }) lines template.offset previous flag
+    coded_events (record { two_line = template.two_line; typical = typical }) template rows previous flag ≡ row_events
+    (record { two_line = template.two_line; typical = typical }) lines template.offset previous flag
 unfolding coded_events
 coded_are typical template rows lines previous flag w =
     rw (plain_are typical template rows w) refl
@@ -115,9 +116,10 @@ coded_some mode template rows previous flag h some = by mode.typical flag h
   where
     at_least : (n : ℕ) → 1 ≤ n → failed_answer (events_from template (lines_in rows) 0 n) ≡ Err Failed
     at_least zero h = absurd (omega arith)
-    at_least (suc n) h = rw (events_first template (lines_in rows) 0 n) refl
+    at_least (suc n) h = rw events_first refl
 
-    by : (t f : Bool) → (IsTrue f → IsTrue t) → failed_answer (first_events (record { two_line = mode.two_line; typical = t }) previous flag ++ (if f then [] else plain_events template rows)) ≡ Err Failed
+    by : (t f : Bool) → (IsTrue f → IsTrue t) →
+        failed_answer (first_events (record { two_line = mode.two_line; typical = t }) previous flag ++ (if f then [] else plain_events template rows)) ≡ Err Failed
     by true f h = refl
     by false true h = let e = h refl in cc
     by false false h = at_least rows.width some
@@ -159,7 +161,8 @@ going_on {c = c} {c'} some h = by (has_failed c.encoder.now) refl
     by false e = (h.goes e).fails
 
 -- one that put something has done so, or had failed before
-pub put_or_failed : {S : Type 0} {sink : Ghosts S} {events : List Event} {c c' : Coder S} {e' : Encoder} {to : S} → e' ≡ c'.encoder.now → to ≡ c'.out.now → failed_answer events ≡ Err Failed → Puts sink events c c' (Ok tt) →
+pub put_or_failed : {S : Type 0} {sink : Ghosts S} {events : List Event} {c c' : Coder S} {e' : Encoder} {to : S} → e' ≡ c'.encoder.now → to ≡ c'.out.now → failed_answer events ≡ Err Failed →
+    Puts sink events c c' (Ok tt) →
     FailsOnce {T = Unit {0}} sink.failed c.encoder.now e' c.out.now to (Ok tt)
 put_or_failed {S} {sink} {e' = e'} e_is to_is some h =
     let failed = failed_same e_is to_is some h in
@@ -169,7 +172,8 @@ put_or_failed {S} {sink} {e' = e'} e_is to_is some h =
       ((λ t. absurd (not_both t now)), (λ e. absurd (let bot : ⊥ = cc in bot))),
     )
 
-pub counts_to : {S : Type 0} {sink : Ghosts S} {c c' : Coder S} (mode : Mode) (template : Template) (rows : Rows) (previous flag : Bool) → Puts sink (coded_events mode template rows previous flag) c c' (Ok tt) →
+pub counts_to : {S : Type 0} {sink : Ghosts S} {c c' : Coder S} (mode : Mode) (template : Template) (rows : Rows) (previous flag : Bool) →
+    Puts sink (coded_events mode template rows previous flag) c c' (Ok tt) →
     event_count c'.encoder.now ≤ event_count c.encoder.now + (rows.width + 1)
 counts_to mode template rows previous flag h = let k = h.count in let few = few_events mode template rows previous flag in omega arith
 

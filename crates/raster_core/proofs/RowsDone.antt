@@ -14,7 +14,8 @@ use Rattle.raster_core.specs.Window.{shape_mode}
 use Rattle.raster_core.specs.Packed.{packed_row, Held, HasLines, with_current}
 use Rattle.raster_core.specs.Events.{Decodes}
 use Rattle.raster_core.specs.Machine.Decoded.{with_row, RowPaused, RowPixels}
-use Rattle.raster_core.specs.Row.{RowTask, RowLeft, row_left, task_events, plain_row_of, FirstDecoded, FirstStopped, RowIs, IsRowStart, HasAbove, StandsInPixels, StandsInRow, RowBegins, RowGoesOn, RowPasses}
+use Rattle.raster_core.specs.Row.{RowTask, RowLeft, row_left, task_events, plain_row_of, FirstDecoded, FirstStopped}
+use Rattle.raster_core.specs.Row.{RowIs, IsRowStart, HasAbove, StandsInPixels, StandsInRow, RowBegins, RowGoesOn, RowPasses}
 use Rattle.raster_core.specs.declared.place.RowPlace.{RowPlace}
 use Rattle.raster_core.specs.declared.shape.Kept.{Kept}
 use Rattle.raster_core.specs.Machine.Registers.{past_bits}
@@ -54,7 +55,8 @@ above_too h = record { above_is = h.above_is; second_is = h.second_is; above_wid
 pub above_lines : {w : Held} {lines : Lines} → HasLines w lines → HasAbove w lines
 above_lines h = record { above_is = h.above_is; second_is = h.second_is; above_wide = h.above_wide; second_wide = h.second_wide }
 
-lines_below : {w : Held} {current : List ℕ} {lines : Lines} (row : List Bool) → HasAbove (with_current w current) lines → w.current ≡ packed_row row → length row ≡ w.width → HasLines w (with_row lines row)
+lines_below : {w : Held} {current : List ℕ} {lines : Lines} (row : List Bool) → HasAbove (with_current w current) lines → w.current ≡ packed_row row → length row ≡ w.width →
+    HasLines w (with_row lines row)
 lines_below row h packed wide = record { row_is = packed; above_is = h.above_is; second_is = h.second_is; row_wide = wide; above_wide = h.above_wide; second_wide = h.second_wide }
 
 -- ---- before a row's pixels
@@ -188,7 +190,8 @@ done_plain lie {task = task} some offset_is flag_is width_is above r =
     append_none (x ∷ xs) ys e = cc
 
 pub done_typical : AnswersLie → {S : Type 0} {old : SourceAt S} {task : RowTask} {left : RowLeft} {place : RowPlace} {new : DecoderState S} {current : List ℕ} →
-    left.kept.offset ≡ task.kept.offset → left.kept.previous_typical ≡ true → left.window.width ≡ task.shape.width → left.window.current ≡ left.window.above → HasAbove (with_current left.window current) task.lines →
+    left.kept.offset ≡ task.kept.offset → left.kept.previous_typical ≡ true → left.window.width ≡ task.shape.width → left.window.current ≡ left.window.above →
+    HasAbove (with_current left.window current) task.lines →
     (task.shape.typical ≡ true) × FirstDecoded old (shape_mode task.shape) task.kept.previous_typical true task.state new → RowGoesOn old task left place new (Ok tt)
 done_typical lie {old = old} {task} {new = new} offset_is flag_is width_is copied above t =
     let typical = t.0 in
@@ -197,7 +200,8 @@ done_typical lie {old = old} {task} {new = new} offset_is flag_is width_is copie
       decoded = record {
         more = f.more;
         gives = f.decodes.gives;
-        ok = row_is lie task.lines.above true (above.above_wide ∙ width_is) (λ _. rw (typical, same_row_self task.lines.above) refl) (lines_below task.lines.above above (copied ∙ above.above_is) above.above_wide) offset_is flag_is
+        ok = row_is lie task.lines.above true (above.above_wide ∙ width_is) (λ _. rw (typical, same_row_self) refl)
+            (lines_below task.lines.above above (copied ∙ above.above_is) above.above_wide) offset_is flag_is
             (subst (λ es. Decodes old task.state f.more es new) (sym (append-nil _)) f.decodes);
         stop = ((λ e. absurd (not_err tt e)), (λ e. let none = rw typical at (f.decodes.going e) in cc));
         undecided = tt;
@@ -211,7 +215,8 @@ done_typical lie {old = old} {task} {new = new} offset_is flag_is width_is copie
 -- the same rows before, and the same after
 pub same_goes : {S : Type 0} {old : SourceAt S} {task : RowTask} {kept : Kept} {place place' : RowPlace} {answers : List Pulled} {learned : List Estimate} {d : Decoder} {new : DecoderState S}
     {result : Result (Unit {0}) Stop} {v v' w w' : Held} → v ≡ w → v' ≡ w' →
-    (StandsInRow task place answers w learned d → RowGoesOn old task (row_left kept w') place' new result) → StandsInRow task place answers v learned d → RowGoesOn old task (row_left kept v') place' new result
+    (StandsInRow task place answers w learned d → RowGoesOn old task (row_left kept w') place' new result) → StandsInRow task place answers v learned d →
+    RowGoesOn old task (row_left kept v') place' new result
 same_goes e f goes h = rw f (goes (rw e at h))
 
 waits_again : {task : RowTask} {place : RowPlace} {answers : List Pulled} {w : Held} {learned : List Estimate} {d d' : Decoder} →

@@ -16,10 +16,10 @@ use Rattle.raster_core.specs.declared.rows.Rows.{Rows}
 use Rattle.raster_core.specs.declared.row_byte.Template.{Template}
 use Rattle.raster_core.specs.declared.row_byte.Around.{Around}
 use Rattle.raster_core.specs.declared.row_byte.RowByte.{RowByte}
-use Rattle.raster_core.proofs.Before.{before_suc, before_zero, some_past}
+use Rattle.raster_core.proofs.Before.{before_suc, before_zero}
 use Rattle.raster_core.proofs.Causal.{before_front}
 use Rattle.raster_core.proofs.Contexts.{two_line_nominal, two_line_moved, three_line_nominal, three_line_moved, adaptive_moved}
-use Rattle.raster_core.proofs.BytePixels.{at_registers, pixel_in, byte_shifted, bit_test, past_at}
+use Rattle.raster_core.proofs.BytePixels.{at_registers, pixel_in, byte_shifted, bit_test, past_on}
 use Rattle.raster_core.proofs.EventLists.{context_by, events_none, events_last, events_on}
 use Rattle.raster_core.proofs.Filled.{AreBehind, filled_join, is_filled, filled_uniform, own_filled, past_filled, register_filled}
 use Rattle.raster_core.proofs.Held.{bits_before, length-bits, holds, holds_past, pixel_of_byte}
@@ -35,7 +35,7 @@ before_after xs ys zero (suc n) h = absurd (omega arith)
 before_after xs ys (suc x) (suc n) h =
     let e : length xs + suc x ≡ suc (length xs + x) = omega arith in
     let at : pixel_at (xs ++ ys) (length xs + x) ≡ pixel_at ys x = get_or-append-add xs ys x false in
-    rw (e, before_suc (xs ++ ys) (length xs + x) n, before_suc ys x n, before_after xs ys x n (omega arith), at) refl
+    rw (e, before_suc, before_suc, before_after xs ys x n (omega arith), at) refl
 
 row_in_is : (bytes : List ℕ) (k : ℕ) → before (row_in bytes) (8 * k + 8) 8 ≡ slice_index bytes k % 256
 unfolding row_in
@@ -95,7 +95,8 @@ record Same (b : RowByte) (lines : Lines) (i n : ℕ) : Type 0 where
   past : before (byte_lines b).row (128 + n) (past_bits b.around.template.offset) ≡ before lines.row (8 * i + n) (past_bits b.around.template.offset)
   events : events_from b.around.template (byte_lines b) 128 n ≡ events_from b.around.template lines (8 * i) n
 
-same_to : (b : RowByte) (lines : Lines) (i n : ℕ) → b.byte < 256 → ByteAt lines b.around.second b.around.above b.byte (8 * i) → b.around.past ≡ before lines.row (8 * i) (past_bits b.around.template.offset) → n ≤ 8 →
+same_to : (b : RowByte) (lines : Lines) (i n : ℕ) → b.byte < 256 → ByteAt lines b.around.second b.around.above b.byte (8 * i) →
+    b.around.past ≡ before lines.row (8 * i) (past_bits b.around.template.offset) → n ≤ 8 →
     Same b lines i n
 same_to b lines i zero small at past few =
     let here : 8 * i ≡ 8 * i + 0 = omega arith in
@@ -107,22 +108,22 @@ same_to b lines i (suc n) small at past few =
     let m = same_to b lines i n small at past (omega arith) in
     let w : ℕ = past_bits b.around.template.offset in
     let own : List Bool = (byte_lines b).row in
-    let p : ℕ = before own (128 + n) w in
     let one : n + 1 ≡ suc n = omega arith in
     let near : (128 + n) + 1 ≡ 128 + suc n = omega arith in
     let far : (8 * i + n) + 1 ≡ 8 * i + suc n = omega arith in
     let there : nat_eq (b.byte * 2 ^ n / 2 ^ 7 % 2) 1 ≡ pixel_at lines.row (8 * i + n) =
     bit_test _ _ (ap (λ z. z % 2) (byte_shifted b.byte n (omega arith)) ∙ pixel_in lines.row (8 * i) n at.byte_is (omega arith)) in
     let pixel : pixel_at own (128 + n) ≡ pixel_at lines.row (8 * i + n) = sym (pixel_of_byte b n small (omega arith)) ∙ there in
-    let one_more : before own ((128 + n) + 1) (suc (w - 1)) ≡ before lines.row ((8 * i + n) + 1) (suc (w - 1)) =
-    rw (← past_at own p (128 + n) (w - 1) (ap (λ v. before own (128 + n) v) (sym (some_past b.around.template.offset))), pixel) (past_at lines.row p (8 * i + n) (w - 1) (m.past ∙ ap (λ v. before lines.row (8 * i + n) v) (sym (some_past b.around.template.offset)))) in
+    let one_more : before own ((128 + n) + 1) w ≡ before lines.row ((8 * i + n) + 1) w =
+    rw (← past_on own b.around.template.offset (128 + n) refl, pixel) (past_on lines.row b.around.template.offset (8 * i + n) m.past) in
     let context : context_by b.around.template (byte_lines b) (128 + n) ≡ context_by b.around.template lines (8 * i + n) =
     context_same b.around.template
     (at_registers n (omega arith) (holds b small) refl)
     (at_registers n (omega arith) at m.past) in
     record {
-      past = rw (← near, ← some_past b.around.template.offset, one_more, some_past b.around.template.offset, far) refl;
-      events = rw (← one, ← events_last b.around.template (byte_lines b) 128 n (context_by b.around.template lines (8 * i + n)) (pixel_at lines.row (8 * i + n)) (sym context) (sym pixel), m.events, events_last b.around.template lines (8 * i) n _ _ refl refl, one) refl;
+      past = rw (← near, one_more, far) refl;
+      events =
+          rw (← one, ← events_last b.around.template (byte_lines b) 128 n _ _ (sym context) (sym pixel), m.events, events_last b.around.template lines (8 * i) n _ _ refl refl) refl;
     }
 
 pub same_events : {b : RowByte} {template : Template} {lines : Lines} {i : ℕ} (n : ℕ) → b.byte < 256 → IsByte b template lines i → n ≤ 8 → byte_events b n ≡ events_from template lines (8 * i) n
@@ -151,7 +152,8 @@ uniform_more {colour} {rows} {i} at from h row above second =
       second_filled = filled_join colour rows.second.now (i + 1) (at - i) 8 h.second_filled (subst (λ z. AreFilled colour rows.second.now z 8) next second);
     })
 
-pub stands_on : {a : Around} {rows : Rows} {i n : ℕ} {colour : Bool} → StandsAt a a.template (lines_in rows) i → RemembersOnly colour a → AreUniform colour rows i n → StandsAt a a.template (lines_in rows) (i + n)
+pub stands_on : {a : Around} {rows : Rows} {i n : ℕ} {colour : Bool} → StandsAt a a.template (lines_in rows) i → RemembersOnly colour a → AreUniform colour rows i n →
+    StandsAt a a.template (lines_in rows) (i + n)
 stands_on {a} {rows} {i} {n} h only uniform =
     let to : 8 * i + 8 * n ≡ 8 * (i + n) = omega arith in
     record {
@@ -164,9 +166,11 @@ stands_on {a} {rows} {i} {n} h only uniform =
 pub run_events : {a : Around} {rows : Rows} {i n : ℕ} {colour : Bool} → StandsAt a a.template (lines_in rows) i → RemembersOnly colour a → AreUniform colour rows i n →
     replicate (8 * n) (uniform_event colour) ≡ events_from a.template (lines_in rows) (8 * i) (8 * n)
 run_events {a} {rows} {i} {n} {colour} h only uniform =
-    let behind : AreBehind colour (lines_in rows) a.template.offset i = record { row_is = sym h.past_is ∙ only.past_is; above_is = sym h.above_is ∙ only.above_is; second_is = sym h.second_is ∙ only.second_is } in
+    let behind : AreBehind colour (lines_in rows) a.template.offset i =
+    record { row_is = sym h.past_is ∙ only.past_is; above_is = sym h.above_is ∙ only.above_is; second_is = sym h.second_is ∙ only.second_is } in
     uniform_events a.template (lines_in rows) (8 * i) (8 * n) colour
-    (filled_uniform (record { two_line = a.template.two_line; typical = false }) a.template.in_reach behind (is_filled (above_in rows) uniform.above_filled) (is_filled (second_in rows) uniform.second_filled))
+    (filled_uniform (record { two_line = a.template.two_line; typical = false })
+    a.template.in_reach behind (is_filled (above_in rows) uniform.above_filled) (is_filled (second_in rows) uniform.second_filled))
     (own_filled (is_filled (current_in rows) uniform.row_filled))
 
 -- ---- other names of the same template

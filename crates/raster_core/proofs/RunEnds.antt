@@ -60,7 +60,8 @@ pub ends_unlike : {S : Type 0} {colour : Bool} {a : Around} {rows : Rows} {i : �
 ends_unlike unlike only = absurd (unlike (only.second_is ∙ sym only.above_is))
 
 -- the next byte is of another colour
-pub ends_other : {S : Type 0} {colour : Bool} {a : Around} {rows : Rows} {i : ℕ} {c : Coder S} → (slice_index rows.current.now i ≡ bit (colour_of a.above) * 255 → ⊥) → RemembersOnly colour a → StopsAt colour rows i c
+pub ends_other : {S : Type 0} {colour : Bool} {a : Around} {rows : Rows} {i : ℕ} {c : Coder S} → (slice_index rows.current.now i ≡ bit (colour_of a.above) * 255 → ⊥) → RemembersOnly colour a →
+    StopsAt colour rows i c
 ends_other {colour = colour} {a} {rows} {i} {c} other only =
     let here : i + 0 ≡ i = omega arith in
     no_word (λ more uniform.

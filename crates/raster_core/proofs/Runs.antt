@@ -62,7 +62,7 @@ enough_kept events s xs ys enough going stopped = by (heard_of xs) refl
   where
     by : (h : Heard) → heard_of xs ≡ h → AreEnough (length (bytes_of (xs ++ ys))) s events
     by More is =
-        let bytes : length (bytes_of (xs ++ ys)) ≡ length (bytes_of xs) + length (bytes_of ys) = rw (bytes_of-append xs ys) (length-append (bytes_of xs) (bytes_of ys)) in
+        let bytes : length (bytes_of (xs ++ ys)) ≡ length (bytes_of xs) + length (bytes_of ys) = rw bytes_of-append (length-append (bytes_of xs) (bytes_of ys)) in
         enough_more events (length (bytes_of xs)) (length (bytes_of (xs ++ ys))) s (omega arith) (enough is)
     by Ended is = let e = end_stays xs ys is in cc
     by Stopped is = subst (AreEnough (length (bytes_of (xs ++ ys))) s) (sym (going is)) tt
@@ -96,9 +96,10 @@ decodes_next {S} {pull} {from} {mid} {to} {s} {answers} {more} {events} {cx} {pi
           taught = rw last at.taught;
           enough = λ going.
               let going' : heard_of ((answers ++ more) ++ at.more) ≡ More = rw assoc going in
-              let size : length (bytes_of ((answers ++ more) ++ at.more)) ≡ wanted_bytes (after s events).place.doublings = length-bytes_of ((answers ++ more) ++ at.more) going' ∙ at.asked.enough going' in
+              let size : length (bytes_of ((answers ++ more) ++ at.more)) ≡ wanted_bytes (after s events).place.doublings =
+              length-bytes_of ((answers ++ more) ++ at.more) going' ∙ at.asked.enough going' in
               let bytes : length (bytes_of ((answers ++ more) ++ at.more)) ≡ length (bytes_of (answers ++ more)) + length (bytes_of at.more) =
-              rw (bytes_of-append (answers ++ more) at.more) (length-append (bytes_of (answers ++ more)) (bytes_of at.more)) in
+              rw bytes_of-append (length-append (bytes_of (answers ++ more)) (bytes_of at.more)) in
               let grown : length (bytes_of (answers ++ more)) ≤ length (bytes_of ((answers ++ more) ++ at.more)) = omega arith in
               let here : wanted_bytes (after s events).place.doublings ≤ length (bytes_of ((answers ++ more) ++ at.more)) = omega arith in
               rw (← assoc) (enough_append events (record { context = cx; pixel = pixel } ∷ []) _ s

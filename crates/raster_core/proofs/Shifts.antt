@@ -40,7 +40,7 @@ word_cat p f m (suc n) =
     let e : word p f (m + n) ≡ word p f m * 2 ^ n + word p (f + m) n = word_cat p f m n in
     let s : m + suc n ≡ suc (m + n) = omega arith in
     let q : f + (m + n) ≡ (f + m) + n = omega arith in
-    rw (s, e, q, regroup (word p f m) (2 ^ n) (word p (f + m) n) (bit (p ((f + m) + n))), ← pow_two n) refl
+    rw (s, e, q, regroup, ← pow_two) refl
 
 -- the same pixels, the same word
 pub word_same : (p q : ℕ → Bool) (f g n : ℕ) → ((i : ℕ) → i < n → p (f + i) ≡ q (g + i)) → word p f n ≡ word q g n
@@ -128,7 +128,7 @@ modded : (a b s p m : ℕ) → s * p ≡ m → b < s → 0 < p → ((a * s + b) 
 modded a b s p m e lt pos =
     let parts : (a * s + b) * p ≡ a * (s * p) + b * p = omega arith in
     let small : b * p < m = below (omega (arith, mul-le-mul_right p (up lt))) in
-    rw (parts, e, mul-add-mod_self_right a m (b * p)) (mod-eq_of_lt small)
+    rw (parts, e, mul-add-mod_self_right) (mod-eq_of_lt small)
   where
     up : b < s → b + 1 ≤ s
     up h = omega arith
@@ -139,7 +139,7 @@ modded a b s p m e lt pos =
 twice : (w p m : ℕ) → w * 2 % m * p % m ≡ w * (2 * p) % m
 twice w p m =
     let e : w * 2 * p ≡ w * (2 * p) = omega arith in
-    rw (mul-mod_first (w * 2) p m, e) refl
+    rw (mul-mod_first, e) refl
 
 first_part : (q : ℕ → Bool) (g s : ℕ) → s < 64 → word q g 64 * 2 ^ 1 % 2 ^ 64 * 2 ^ (63 - s) % 2 ^ 64 ≡ word q (g + (64 - s)) s * 2 ^ (64 - s)
 first_part q g s h =
@@ -150,7 +150,7 @@ first_part q g s h =
     let n : (64 - s) + s ≡ 64 = omega arith in
     let lt : word q (g + (64 - s)) s < 2 ^ s = word_lt q (g + (64 - s)) s in
     let up : 2 * 2 ^ (63 - s) ≡ 2 ^ (64 - s) = rw (doubled, one_more) refl in
-    let all : 2 ^ s * 2 ^ (64 - s) ≡ 2 ^ 64 = rw (← pow-add 2 s (64 - s), whole) refl in
+    let all : 2 ^ s * 2 ^ (64 - s) ≡ 2 ^ 64 = rw (← pow-add, whole) refl in
     twice (word q g 64) (2 ^ (63 - s)) (2 ^ 64)
     ∙ ap (λ x. word q g 64 * x % 2 ^ 64) up
     ∙ ap (λ k. word q g k * 2 ^ (64 - s) % 2 ^ 64) (sym n)
@@ -186,7 +186,8 @@ pub count_same : (f g : ℕ → Bool) (a b n : ℕ) → ((i : ℕ) → i < n →
 count_same f g a b zero h = refl
 count_same f g a b (suc n) h =
     let first : f a ≡ g b = rw (← add-zero a, h 0 (omega arith), add-zero b) refl in
-    rw (sum_by-cons (λ x. cond (f x) 1 0) a (numbers_from (a + 1) n), first, count_same f g (a + 1) (b + 1) n (λ i lt. ap f (shifted a i) ∙ h (i + 1) (omega arith) ∙ ap g (sym (shifted b i)))) (sym (sum_by-cons (λ x. cond (g x) 1 0) b (numbers_from (b + 1) n)))
+    rw (sum_by-cons (λ x. cond (f x) 1 0) a (numbers_from (a + 1) n), first, count_same f g (a + 1) (b + 1) n (λ i lt. ap f (shifted a i) ∙ h (i + 1) (omega arith) ∙ ap g (sym (shifted b i))))
+    (sym (sum_by-cons (λ x. cond (g x) 1 0) b (numbers_from (b + 1) n)))
 
 pub numbers_cat : (a n k : ℕ) → numbers_from a (n + k) ≡ numbers_from a n ++ numbers_from (a + n) k
 numbers_cat a zero k = ap (numbers_from a) (zero-add k) ∙ ap (λ x. numbers_from x k) (sym (add-zero a))
@@ -196,17 +197,18 @@ numbers_cat a (suc n) k =
     rw (later, numbers_cat (a + 1) n k, moved) refl
 
 pub count_cat : (f : ℕ → Bool) (a n k : ℕ) → count_by f (numbers_from a (n + k)) ≡ count_by f (numbers_from a n) + count_by f (numbers_from (a + n) k)
-count_cat f a n k = rw (numbers_cat a n k) (sum_by-append (λ x. cond (f x) 1 0) (numbers_from a n) (numbers_from (a + n) k))
+count_cat f a n k = rw numbers_cat (sum_by-append (λ x. cond (f x) 1 0) (numbers_from a n) (numbers_from (a + n) k))
 
 pub agreed_word_is : (p q m : ℕ → Bool) (a b c n : ℕ) →
     count_ones (bit_and (word m c n) (2 ^ n - 1 - bit_xor (word p a n) (word q b n))) ≡ agreed_from (pixels_from p a) (pixels_from q b) (pixels_from m c) n
 unfolding agreed_from
 agreed_word_is p q m a b c n =
-    rw (word_xor p q a b n, word_not (λ i. not (same (p (a + i)) (q (b + i)))) 0 n, word_and m (λ i. not (not (same (p (a + i)) (q (b + i))))) c 0 n, word_same (λ i. m (c + i) && not (not (same (p (a + (0 + i))) (q (b + (0 + i)))))) (λ i. m (c + i) && same (p (a + i)) (q (b + i))) 0 0 n (λ i lt. here (0 + i))) (word_ones (λ i. m (c + i) && same (p (a + i)) (q (b + i))) 0 n)
+    let same_words = word_same (λ i. m (c + i) && not (not (same (p (a + (0 + i))) (q (b + (0 + i)))))) (λ i. m (c + i) && same (p (a + i)) (q (b + i))) 0 0 n (λ i lt. here (0 + i)) in
+    rw (word_xor, word_not, word_and, same_words) (word_ones _ 0 n)
   where
     here : (i : ℕ) → m (c + i) && not (not (same (p (a + (0 + i))) (q (b + (0 + i))))) ≡ (m (c + i) && same (p (a + i)) (q (b + i)))
     here i =
-        rw (kept_same (m (c + i)) (same (p (a + (0 + i))) (q (b + (0 + i)))), zero-add i) refl
+        rw (kept_same, zero-add) refl
 
 -- ---- a word's left neighbour moves in, a pixel at a time
 
@@ -225,7 +227,8 @@ near_next q g d h =
     let e : word q g ((63 - d) + 1) ≡ word q g (63 - d) * 2 ^ 1 + word q (g + (63 - d)) 1 = word_cat q g (63 - d) 1 in
     let n : 64 - d ≡ (63 - d) + 1 = omega arith in
     let last : word q (g + (63 - d)) 1 < 2 ^ 1 = word_lt q (g + (63 - d)) 1 in
-    rw (n, e, modded (word q g (63 - d)) (word q (g + (63 - d)) 1) 2 (2 ^ 63) (2 ^ 64) refl last (lit< tt), second_part q (g + 64 - d) 1 (lit≤ tt), or_shifted (word q (g + (63 - d)) 1) 63 (word q (g + 64 - d) 63) (word_lt q (g + 64 - d) 63), beside, ← word_cat q (g + (63 - d)) 1 63, one_left) refl
+    let first = modded (word q g (63 - d)) (word q (g + (63 - d)) 1) 2 (2 ^ 63) (2 ^ 64) refl last (lit< tt) in
+    rw (n, e, first, second_part q (g + 64 - d) 1 (lit≤ tt), or_shifted (word q (g + (63 - d)) 1) 63 (word q (g + 64 - d) 63) (word_lt q _ 63), beside, ← word_cat, one_left) refl
 
 -- ---- words of one colour
 
@@ -257,7 +260,7 @@ lit p f n e i lt =
 pub in_all : (p : ℕ → Bool) (place : ℕ) (b : Bool) → ((i : ℕ) → i < 64 → p (place + i) ≡ b) → ((i : ℕ) → i < 64 → p (place + 64 + i) ≡ b) → ((i : ℕ) → i < 64 → p (place + 128 + i) ≡ b) →
     (i : ℕ) → i < 192 → p (place + i) ≡ p place
 in_all p place b one two three i lt =
-    rw (there i lt, ← one 0 (omega arith), add-zero place) refl
+    rw (there i lt, ← one 0 (omega arith), add-zero) refl
   where
     at : (i k : ℕ) → k ≤ i → place + i ≡ place + k + (i - k)
     at i k h = omega arith
@@ -289,4 +292,4 @@ even_agreed p m place c lag n h high le =
         let other_at : (place + 128 - lag) + (0 + i) ≡ place + (128 - lag + i) = omega arith in
         let one : p (place + 128 + (0 + i)) ≡ p place = ap p one_at ∙ h (128 + i) (omega arith) in
         let other : p ((place + 128 - lag) + (0 + i)) ≡ p place = ap p other_at ∙ h (128 - lag + i) (omega arith) in
-        rw (one, other, same_self (p place), and-true (m (c + (0 + i))), zero-add i) refl
+        rw (one, other, same_self, and-true, zero-add) refl

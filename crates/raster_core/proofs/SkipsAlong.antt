@@ -36,7 +36,7 @@ run_before row x zero c own = before_zero row (x + 0) ∙ none c
 run_before row x (suc n) c own =
     let e : x + suc n ≡ suc (x + n) = omega arith in
     let shorter = run_before row x n c (λ k few. own k (omega arith)) in
-    rw (e, before_suc row (x + n) n, own n (omega arith), shorter) (twice c n)
+    rw (e, before_suc, own n (omega arith), shorter) (twice c n)
   where
     twice : (c : Bool) (n : ℕ) → 2 * (bit c * (2 ^ n - 1)) + bit c ≡ bit c * (2 ^ suc n - 1)
     twice true n = let p = pow-suc 2 n in let q = pow_pos n in omega arith
@@ -51,20 +51,21 @@ run_front done n j c few =
 run_contexts : (mode : Mode) (lines : Lines) (offset : ℕ) (done : List Bool) (n : ℕ) (c : Bool) → StaysUniform mode (with_row lines (done ++ replicate n c)) offset c (length done) n →
     (j : ℕ) → j < n → context_at mode (with_row lines (done ++ replicate j c)) offset (length done + j) ≡ uniform_context c
 run_contexts mode lines offset done n c stays j few =
-    let long : length (done ++ replicate j c) ≡ length done + j = rw (length-append done (replicate j c), length-replicate j c) refl in
-    rw (← context_front mode lines (done ++ replicate j c) (replicate (n - j) c) offset (length done + j) (omega arith), ← run_front done n j c (omega arith)) (stays j few (λ k less. run_pixels done n c k (omega arith)))
+    let long : length (done ++ replicate j c) ≡ length done + j = rw (length-append, length-replicate) refl in
+    rw (← context_front mode lines (done ++ replicate j c) (replicate (n - j) c) offset (length done + j) (omega arith), ← run_front done n j c (omega arith))
+    (stays j few (λ k less. run_pixels done n c k (omega arith)))
 
 events_run : (mode : Mode) (lines : Lines) (offset : ℕ) (done : List Bool) (n : ℕ) (c : Bool) →
     ((j : ℕ) → j < n → context_at mode (with_row lines (done ++ replicate j c)) offset (length done + j) ≡ uniform_context c) →
     pixel_events mode (with_row lines (done ++ replicate n c)) offset ≡ pixel_events mode (with_row lines done) offset ++ replicate n (uniform_event c)
-events_run mode lines offset done zero c contexts = rw (append-nil done) (sym (append-nil (pixel_events mode (with_row lines done) offset)))
+events_run mode lines offset done zero c contexts = rw append-nil (sym (append-nil (pixel_events mode (with_row lines done) offset)))
 events_run mode lines offset done (suc n) c contexts =
     let shorter = events_run mode lines offset done n c (λ j few. contexts j (omega arith)) in
-    let long : length (done ++ replicate n c) ≡ length done + n = rw (length-append done (replicate n c), length-replicate n c) refl in
-    let row : done ++ replicate (suc n) c ≡ (done ++ replicate n c) ++ c ∷ [] = rw (← one_more n c) (sym (append_assoc done (replicate n c) (c ∷ []))) in
+    let long : length (done ++ replicate n c) ≡ length done + n = rw (length-append, length-replicate) refl in
+    let row : done ++ replicate (suc n) c ≡ (done ++ replicate n c) ++ c ∷ [] = rw (← one_more) (sym (append_assoc done (replicate n c) (c ∷ []))) in
     let here : context_at mode (with_row lines (done ++ replicate n c)) offset (length (done ++ replicate n c)) ≡ uniform_context c =
     rw long (contexts n (omega arith)) in
-    rw (row, pixel_events_more mode lines offset (done ++ replicate n c) c, here, shorter, append_assoc (pixel_events mode (with_row lines done) offset) (replicate n (uniform_event c)) (uniform_event c ∷ []), one_more n (uniform_event c)) refl
+    rw (row, pixel_events_more mode lines offset (done ++ replicate n c) c, here, shorter, append_assoc, one_more n (uniform_event c)) refl
 
 -- ---- a run needs no byte
 
@@ -99,7 +100,7 @@ decoded_run {S} {old} {row} {at} {done} {d' = d'} n c h stays past_is going deco
     let run : es ++ replicate n (uniform_event c) ≡ events_up_to row (done ++ replicate n c) =
     rw (append_assoc row.first _ (replicate n (uniform_event c)), ← events_run row.mode row.lines row.offset done n c (run_contexts row.mode row.lines row.offset done n c stays)) refl in
     let last : after (record { place = (after s es).place; learned = at.learned }) (replicate n (uniform_event c)) ≡ after s (events_up_to row (done ++ replicate n c)) =
-    rw (← same, ← after_append s es (replicate n (uniform_event c)), run) refl in
+    rw (← same, ← after_append, run) refl in
     record {
       past_is = past_is;
       more = h.more;

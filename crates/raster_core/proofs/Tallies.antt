@@ -1,5 +1,6 @@
 -- The counts of a tally, modulo 2^64 and for rows whose counts stay below it, and the lag that it chooses.
 use Rattle.std.proofs.Common.{◌≡◌, ℕ, ◌+◌, ◌-◌, ◌*◌, ◌%◌, ◌^◌, ◌<◌, ◌≤◌, Bool, true, false, List, [], ◌∷◌, ◌++◌, length, refl, sym, ◌∙◌, ap, subst, arith, get_or, replicate, inl, inr, Some, None}
+use Rattle.std.proofs.Math.Nat.{add-mul, mul-le-mul_right}
 use Rattle.std.specs.Prelude.{◌/◌, nat_lt, if◌then◌else◌}
 use Rattle.std.specs.List.{AllByRecursion}
 use Rattle.std.proofs.lemmas.Bool.{cases_lt}
@@ -31,7 +32,7 @@ none_counted t width current no_rows none_held no_times no_counts kept =
 -- the last row once more
 pub once_more : (c t g : ℕ) → (c + (t + 1) % 2 ^ 64 * g) % 2 ^ 64 ≡ ((c + t * g) % 2 ^ 64 + g) % 2 ^ 64
 once_more c t g =
-    let sum : (t + 1) * g ≡ t * g + 1 * g = Rattle.std.proofs.Math.Nat.add-mul t 1 g in
+    let sum : (t + 1) * g ≡ t * g + 1 * g = add-mul t 1 g in
     folded ((t + 1) % 2 ^ 64 * g) (t * g) (mul-mod_first (t + 1) g (2 ^ 64) ∙ ap (λ x. x % 2 ^ 64) sum)
   where
     folded : (x y : ℕ) → x % 2 ^ 64 ≡ (y + 1 * g) % 2 ^ 64 → (c + x) % 2 ^ 64 ≡ ((c + y) % 2 ^ 64 + g) % 2 ^ 64
@@ -42,20 +43,21 @@ rows_small : (rows : List Lines) (width lag : ℕ) → AllByRecursion (λ lines.
 rows_small [] width lag wide = omega arith
 rows_small (r ∷ rows) width lag wide =
     let most = count_by-le-length (λ x. same (pixel_at r.row x) (adaptive r lag x)) (numbers_from 0 (length r.row)) in
-    let product : length (r ∷ rows) * width ≡ length rows * width + 1 * width = (let one : length (r ∷ rows) ≡ length rows + 1 = omega arith in rw one refl) ∙ Rattle.std.proofs.Math.Nat.add-mul (length rows) 1 width in
+    let one : length (r ∷ rows) ≡ length rows + 1 = omega arith in
+    let product : length (r ∷ rows) * width ≡ length rows * width + 1 * width = rw one (add-mul (length rows) 1 width) in
     omega (arith, sum_by-cons (agreements lag) r rows, product, most, length-numbers 0 (length r.row), wide.0, rows_small rows width lag wide.1)
 
 pub row_more : (rows : List Lines) (lines : Lines) (width lag : ℕ) → AllByRecursion (λ l. length l.row ≡ width) rows → length lines.row ≡ width → length rows + 1 < 2 ^ 32 → width < 2 ^ 32 →
     (agreement rows lag + agreements lag lines) % 2 ^ 64 ≡ agreement (rows ++ lines ∷ []) lag
 row_more rows lines width lag wide long few narrow =
     let most = rows_small (rows ++ lines ∷ []) width lag (all_push (λ l. length l.row ≡ width) rows lines wide long) in
-    let up : length (rows ++ lines ∷ []) * width ≤ (2 ^ 32 - 1) * width = Rattle.std.proofs.Math.Nat.mul-le-mul_right width (omega (arith, few, length_push rows lines)) in
+    let up : length (rows ++ lines ∷ []) * width ≤ (2 ^ 32 - 1) * width = mul-le-mul_right width (omega (arith, few, length_push rows lines)) in
     omega (arith, agreement_push rows lines lag, most, up, narrow)
 
 -- ---- lags beyond the width, at which no pixel has one to its left
 
 white_beyond : (lines : Lines) (lag x : ℕ) → 1 ≤ lag → x < lag → adaptive lines lag x ≡ false
-white_beyond lines lag x some h = rw (adaptive_left lines lag x some, is_lt x lag h) refl
+white_beyond lines lag x some h = rw (adaptive_left, is_lt) refl
 
 beyond_row : (lines : Lines) (width a b : ℕ) → length lines.row ≡ width → width ≤ a → width ≤ b → 1 ≤ a → 1 ≤ b → agreements a lines ≡ agreements b lines
 beyond_row lines width a b long from-a from-b some-a some-b =
@@ -65,7 +67,8 @@ beyond_row lines width a b long from-a from-b some-a some-b =
 pub beyond : (rows : List Lines) (width a b : ℕ) → AllByRecursion (λ lines. length lines.row ≡ width) rows → width ≤ a → width ≤ b → 1 ≤ a → 1 ≤ b → agreement rows a ≡ agreement rows b
 beyond [] width a b wide from-a from-b some-a some-b = refl
 beyond (r ∷ rows) width a b wide from-a from-b some-a some-b =
-    rw (sum_by-cons (agreements a) r rows, beyond_row r width a b wide.0 from-a from-b some-a some-b, beyond rows width a b wide.1 from-a from-b some-a some-b) (sym (sum_by-cons (agreements b) r rows))
+    rw (sum_by-cons (agreements a) r rows, beyond_row r width a b wide.0 from-a from-b some-a some-b, beyond rows width a b wide.1 from-a from-b some-a some-b)
+    (sym (sum_by-cons (agreements b) r rows))
 
 -- ---- the lag that is chosen
 
@@ -91,7 +94,8 @@ some_lag true = omega arith
 some_lag false = omega arith
 
 -- beyond the last lag each agrees as that one
-beyond_last : (two_line : Bool) (most width u : ℕ) (rows : List Lines) → AllByRecursion (λ lines. length lines.row ≡ width) rows → u ≤ most → last_lag two_line most width < u → agreement rows u ≡ agreement rows (last_lag two_line most width)
+beyond_last : (two_line : Bool) (most width u : ℕ) (rows : List Lines) → AllByRecursion (λ lines. length lines.row ≡ width) rows → u ≤ most → last_lag two_line most width < u →
+    agreement rows u ≡ agreement rows (last_lag two_line most width)
 beyond_last two_line most width u rows wide to above =
     let some = some_lag two_line in
     beyond rows width u (last_lag two_line most width) wide (omega arith) (omega arith) (omega arith) (omega arith)

@@ -100,7 +100,8 @@ first_true true b h = refl
 first_true false b h = cc
 
 -- at a pixel of a plain row
-pub undecided_row : AnswersLie → PartForever → {S : Type 0} {old : SourceAt S} {part : RowPart S} (task : RowTask) (f : RowPaused old (plain_row_of task) task.shape.width part) → IsPlace task.state.place →
+pub undecided_row : AnswersLie → PartForever → {S : Type 0} {old : SourceAt S} {part : RowPart S} (task : RowTask) (f : RowPaused old (plain_row_of task) task.shape.width part) →
+    IsPlace task.state.place →
     IsRowUndecided task.shape task.kept task.state (old.answers ++ f.more) task.lines
 undecided_row lie apart {S} {old} {part} task f place = by_flag
   where
@@ -111,6 +112,7 @@ undecided_row lie apart {S} {old} {part} task f place = by_flag
         Lies (bytes_of (old.answers ++ f.more)) (after task.state (task_events task row flag)).place → AreEnough (length (bytes_of (old.answers ++ f.more))) task.state (task_events task row flag) → ⊥
     by_flag row true wide legal lies enough =
         let typical = first_true task.shape.typical _ (legal refl) in
-        apart [] (pixel_events (shape_mode task.shape) (with_row task.lines f.done) task.kept.offset) [] task.state (pseudo_event (shape_mode task.shape) task.kept.previous_typical true).context _ _ _ place
+        apart [] (pixel_events (shape_mode task.shape) (with_row task.lines f.done) task.kept.offset) [] task.state
+        (pseudo_event (shape_mode task.shape) task.kept.previous_typical true).context _ _ _ place
         (flags_apart task.kept.previous_typical) (rw typical at inside) (rw typical at lies)
     by_flag row false wide legal lies enough = short_row apart f place inside row wide lies enough

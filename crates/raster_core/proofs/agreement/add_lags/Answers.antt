@@ -54,7 +54,8 @@ loop-lag-preserved c =
           elim (le_cases j k (omega arith)) [
             | inr lt ↦ same_else xs k v j (λ eq. omega arith) ∙ c.loop-lag.invariant.done p m place a q e f g h j from lt
             | inl eq ↦
-                rw (eq, same_here xs k v there, c.loop-lag.invariant.above k (omega arith), c.agreed_word.ensures.agreed p p m a (place + 64 - d) q g (c.loop-lag.invariant.near p place e f) h, at_place place c.args.shift c.args.from k begin, ← eq) refl
+                let more = c.agreed_word.ensures.agreed p p m a (place + 64 - d) q g (c.loop-lag.invariant.near p place e f) h in
+                rw (eq, same_here xs k v there, c.loop-lag.invariant.above k (omega arith), more, at_place place c.args.shift c.args.from k begin) refl
           ];
       below = λ j lt. same_else xs k v j (λ eq. omega arith) ∙ c.loop-lag.invariant.below j lt;
       above = λ j le. same_else xs k v j (λ eq. omega arith) ∙ c.loop-lag.invariant.above j (omega arith);

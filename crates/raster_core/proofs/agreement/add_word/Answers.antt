@@ -26,9 +26,10 @@ pub returns-else-end-le64-clause-counts : goal.returns-else-end-le64-clause-coun
 returns-else-end-le64-clause-counts d p m place c second before one mask lag from to =
     none_more _ _ (elim (cases_lt lag 64) [
       | inl lt ↦
-          rw (d.add_lags-else-end-le64-2.ensures.below lag lt, d.add_lags-else-end-le64.ensures.counts p m (place + 64) (place + 128) c before (one ∙ ap (λ x. word p x 64) (beside place)) one mask lag from lt, near place d.args.least lag) refl
+          let more = d.add_lags-else-end-le64.ensures.counts p m (place + 64) (place + 128) c before (rw (beside place) at one) one mask lag from lt in
+          rw (d.add_lags-else-end-le64-2.ensures.below lag lt, more, near place d.args.least lag) refl
       | inr le ↦
-          rw (d.add_lags-else-end-le64-2.ensures.counts p m place (place + 128) c second before one mask lag le (omega arith), d.add_lags-else-end-le64.ensures.above lag le, far place lag) refl
+          rw (d.add_lags-else-end-le64-2.ensures.counts p m place (place + 128) c second before one mask lag le (omega arith), d.add_lags-else-end-le64.ensures.above lag le, far) refl
     ])
 
 pub returns-then-is_even-clause-counts : goal.returns-then-is_even-clause-counts

@@ -1,5 +1,5 @@
-use Rattle.std.proofs.Common.{◌≡◌, ℕ, ◌+◌, ◌-◌, ◌*◌, ◌∙◌, ap, arith, refl}
-use Rattle.raster_core.specs.Machine.Words.{word, led, is_within}
+use Rattle.std.proofs.Common.{◌≡◌, ℕ, ◌+◌, ◌-◌, ◌*◌, ◌∙◌, arith, refl}
+use Rattle.raster_core.specs.Machine.Words.{led, is_within}
 use Rattle.raster_core.proofs.Parts.{row_part, nominal_part}
 use Rattle.raster_core.proofs.agreement.held_in.Goals as goal
 
@@ -7,7 +7,8 @@ pub returns-then-offset-eq0-clause-agreed : goal.returns-then-offset-eq0-clause-
 returns-then-offset-eq0-clause-agreed c lines width e second before one mask =
     let k : ℕ = c.args.k in
     let next : 64 * (k + 3) ≡ 64 * (k + 2) + 64 = omega arith in
-    rw (c.agreed_word.ensures.agreed (led lines.row) (led lines.above) (is_within width) (64 * k + 128) (64 * (k + 2) + 64 - 62) (64 * k) one (c.joined.ensures (led lines.above) (64 * (k + 2)) (c.word_at.ensures lines.above e) (c.word_at-then-offset-eq0.ensures lines.above e ∙ ap (λ x. word (led lines.above) x 64) next)) mask, nominal_part lines width k 64, ← c.if-offset-eq0.true) refl
+    let above = c.joined.ensures (led lines.above) (64 * (k + 2)) (c.word_at.ensures lines.above e) (rw next at (c.word_at-then-offset-eq0.ensures lines.above e)) in
+    rw (c.agreed_word.ensures.agreed (led lines.row) (led lines.above) (is_within width) (64 * k + 128) (64 * (k + 2) + 64 - 62) (64 * k) one above mask, nominal_part, ← c.if-offset-eq0.true) refl
 
 pub returns-else-offset-eq0-clause-agreed : goal.returns-else-offset-eq0-clause-agreed
 returns-else-offset-eq0-clause-agreed c lines width e second before one mask =

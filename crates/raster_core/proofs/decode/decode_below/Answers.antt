@@ -20,6 +20,6 @@ returns-clause-row g c = λ s answers lines h.
       | then-flag v ↦ rw (v.reader-is, v.current-is) (done_typical c.answers.ensures.answers_lie refl v.if-flag.true refl v.copy_from_slice.ensures.after h.above (begins.typical v.if-flag.true))
       | else-flag+in-Ok v ↦
           let b = begins.plain v.if-flag.false in
-          rw (v.reader-is, v.current-is)
-          (done_plain c.answers.ensures.answers_lie (omega (arith, c.requires.goes_on.1)) refl v.if-flag.false refl h.above (v.in-Ok.ensures.leaves.0.any _ _ s answers lines b.0 b.1 b.2 h.above.above_is h.above.second_is))
+          let pixels = v.in-Ok.ensures.leaves.0.any _ _ s answers lines b.0 b.1 b.2 h.above.above_is h.above.second_is in
+          rw (v.reader-is, v.current-is) (done_plain c.answers.ensures.answers_lie (omega (arith, c.requires.goes_on.1)) refl v.if-flag.false refl h.above pixels)
     ]

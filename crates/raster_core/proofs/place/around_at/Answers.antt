@@ -1,4 +1,4 @@
-use Rattle.std.proofs.Common.{ℕ, ◌≡◌, ◌+◌, ◌*◌, ◌-◌, ◌/◌, ◌%◌, ◌^◌, arith, refl}
+use Rattle.std.proofs.Common.{ℕ, ◌≡◌, ◌+◌, ◌*◌, ◌/◌, ◌%◌, arith, refl}
 use Rattle.raster_core.specs.Machine.Registers.{before}
 use Rattle.raster_core.proofs.Packed.{packed_byte, moves_on}
 use Rattle.raster_core.proofs.place.around_at.Goals as goal
@@ -14,5 +14,5 @@ returns-clause-is c = λ row is.
     let there : 8 * (i + 1) + 8 ≡ 8 * i + 16 = omega arith in
     let far : 8 * (i + 2) + 8 ≡ 8 * i + 24 = omega arith in
     let register : c.register_at-register.result ≡ before row (8 * i + 16) 24 = rw (c.register_at-register.ensures.is row is, there) refl in
-    let next : c.byte_at-next.result ≡ before row (8 * i + 24) 8 = rw (c.byte_at-next.ensures.byte, is, packed_byte row (i + 2), far) refl in
-    rw (wrapped (c.register_at-register.result * 2 ^ k) (c.byte_at-next.result / 2 ^ (8 - k)), moves_on row i k c.register_at-register.result c.byte_at-next.result (omega arith) register next, x) refl
+    let next : c.byte_at-next.result ≡ before row (8 * i + 24) 8 = rw (c.byte_at-next.ensures.byte, is, packed_byte, far) refl in
+    rw (wrapped, moves_on row i k c.register_at-register.result c.byte_at-next.result (omega arith) register next, x) refl

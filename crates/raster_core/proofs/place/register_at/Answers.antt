@@ -6,7 +6,7 @@ use Rattle.raster_core.proofs.place.register_at.Goals as goal
 pub returns-then-i-eq0-clause-is : goal.returns-then-i-eq0-clause-is
 returns-then-i-eq0-clause-is c = λ row is.
     let first : 8 * c.args.i + 8 ≡ 8 = omega (arith, c.if-i-eq0.true) in
-    rw (c.byte_at-near.ensures.byte, is, packed_byte row c.args.i) (rw first (first_byte row))
+    rw (c.byte_at-near.ensures.byte, is, packed_byte) (rw first (first_byte row))
 
 pub returns-then-i-eq1-clause-is : goal.returns-then-i-eq1-clause-is
 returns-then-i-eq1-clause-is c = λ row is.

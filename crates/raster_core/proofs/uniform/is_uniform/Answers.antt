@@ -8,7 +8,8 @@ returns-then-surrounds-clause-uniform g c = λ far mode lines x s a p.
     let some : 1 ≤ c.args.offset = moved_some c.args.offset (set_is c.if-this-ne0.true c.requires.moved) in
     let near = c.surrounds.ensures in
     let on = c.if-surrounds.true in
-    moved_eight mode some c.requires.offset (record { second_is = s; above_is = a; past_is = p }) (record { second_is = near.second on; above_is = near.above on; past_is = near.past on }) (c.surrounds_far.ensures.far far)
+    moved_eight mode some c.requires.offset (record { second_is = s; above_is = a; past_is = p }) (record { second_is = near.second on; above_is = near.above on; past_is = near.past on })
+    (c.surrounds_far.ensures.far far)
 
 pub returns-else-this-ne0-clause-uniform : goal.returns-else-this-ne0-clause-uniform
 returns-else-this-ne0-clause-uniform g c = λ on mode lines x s a p.

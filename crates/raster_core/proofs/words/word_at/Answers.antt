@@ -21,11 +21,13 @@ inside-preserved c line e =
     let i : ℕ = c.inside.i in
     let byte : c.from.result ≡ get_or (packed_row line) (8 * (c.args.place - 2) + i) 0 =
     rw (c.from.ensures, e) refl in
-    rw (one_byte (led line) (64 * c.args.place) (8 * i) (omega (arith, c.inside-test.true)) (c.inside.invariant line e) (byte_led line c.args.place i c.from.result c.if-place-lt2.false c.inside-test.true byte), next i) refl
+    let read = byte_led line c.args.place i c.from.result c.if-place-lt2.false c.inside-test.true byte in
+    rw (one_byte (led line) (64 * c.args.place) (8 * i) (omega (arith, c.inside-test.true)) (c.inside.invariant line e) read, next) refl
 
 pub across-preserved : goal.across-preserved
 across-preserved c line e =
     let i : ℕ = c.across.i in
     let byte : c.from-in-across.result ≡ get_or (packed_row line) (8 * (c.args.place - 2) + i) 0 =
     rw (c.from-in-across.ensures, c.byte_at.ensures.byte, e) refl in
-    rw (one_byte (led line) (64 * c.args.place) (8 * i) (omega (arith, c.across-test.true)) (c.across.invariant line e) (byte_led line c.args.place i c.from-in-across.result c.if-place-lt2.false c.across-test.true byte), next i) refl
+    let read = byte_led line c.args.place i c.from-in-across.result c.if-place-lt2.false c.across-test.true byte in
+    rw (one_byte (led line) (64 * c.args.place) (8 * i) (omega (arith, c.across-test.true)) (c.across.invariant line e) read, next) refl

@@ -1,6 +1,5 @@
-use Rattle.std.proofs.Common.{◌≡◌, arith, refl, sym, ◌∙◌, subst, false, ◌*◌, ◌/◌, ◌^◌}
+use Rattle.std.proofs.Common.{◌≡◌, arith, refl, sym, ◌∙◌, false}
 use Rattle.qm_core.specs.Decoder.{has_stopped}
-use Rattle.raster_core.specs.Machine.Registers.{AreAt}
 use Rattle.raster_core.proofs.Before.{begins, goes_on, grows}
 use Rattle.raster_core.proofs.Alongs.{along_none, along_next, along_stop}
 use Rattle.raster_core.proofs.Joins.{had_not_stopped, not_both}
@@ -39,7 +38,8 @@ loop-j-preserved g c =
       second_small = grows _ _ _ c.loop-j.invariant.second_small;
       above_small = grows _ _ _ c.loop-j.invariant.above_small;
       along = along_next (omega arith) (c.past_and-past.ensures c.args.registers.offset c.requires.template.2)
-          (λ lines x r. rw (← c.requires.template.1) (c.context_of-cx.ensures c.args.registers.shape.typical lines x (subst (λ z. AreAt lines c.args.registers.offset c.loop-j.second z c.loop-j.past x) (sym c.loop-j.invariant.above) (subst (λ z. AreAt lines c.args.registers.offset z (c.args.registers.above / 2 ^ 6 * 2 ^ c.loop-j.j) c.loop-j.past x) (sym c.loop-j.invariant.second) r)))) c.in-Ok.ensures.next c.loop-j.invariant.along;
+          (λ lines x r. rw (← c.requires.template.1) (c.context_of-cx.ensures c.args.registers.shape.typical lines x (rw (c.loop-j.invariant.above, c.loop-j.invariant.second) r)))
+          c.in-Ok.ensures.next c.loop-j.invariant.along;
     }
 
 pub returns-clause-pixels : goal.returns-clause-pixels

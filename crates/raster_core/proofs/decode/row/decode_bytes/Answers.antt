@@ -64,7 +64,8 @@ pub returns-in-Err-decode_byte-clause-leaves : goal.returns-in-Err-decode_byte-c
 returns-in-Err-decode_byte-clause-leaves g c =
     let inside : 8 * c.bytes.i < c.args.shape.width = omega (arith, c.bytes.invariant.left, c.if-left-eq0.false) in (
       tt,
-      bytes_stop c.bytes.left c.bytes.invariant.left inside (omega arith) c.within-in-Err-decode_byte.ensures.begun c.within-in-Err-decode_byte.ensures.done c.within-in-Err-decode_byte.ensures.past c.bytes.invariant.along
+      bytes_stop c.bytes.left c.bytes.invariant.left inside
+          (omega arith) c.within-in-Err-decode_byte.ensures.begun c.within-in-Err-decode_byte.ensures.done c.within-in-Err-decode_byte.ensures.past c.bytes.invariant.along
           (rw (← c.byte_at-3.ensures.byte, ← c.byte_at-2.ensures.byte) c.in-Err-decode_byte.ensures.pixels.1.1),
     )
 

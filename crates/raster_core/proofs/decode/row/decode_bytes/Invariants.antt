@@ -14,7 +14,8 @@ invariant-bytes g l = record {
   going : has_stopped l.reader.decoder.now ≡ has_stopped l.fn.reader.decoder.now;
   stuck : IsTrue (has_stopped l.fn.reader.decoder.now) → (8 * l.i ≡ l.fn.place.done) × (l.reader.decoder.now ≡ l.fn.reader.decoder.now) × (l.reader.source.now ≡ l.fn.reader.source.now);
   left : l.left ≡ l.shape.width - 8 * l.i;
-  along : BytesAlong (Pulls g.S.CodeBytes.gives g.S.CodeBytes.failed) (row_around (shape_mode l.shape) l.offset l.above l.second) (row_part l.fn.place l.fn.current l.fn.reader) l.shape.width (bytes_at l.left l.i l.second_bytes l.above_bytes l.past l.current) (reader_state l.reader);
+  along : BytesAlong (Pulls g.S.CodeBytes.gives g.S.CodeBytes.failed) (row_around (shape_mode l.shape) l.offset l.above l.second) (row_part l.fn.place l.fn.current l.fn.reader) l.shape.width
+      (bytes_at l.left l.i l.second_bytes l.above_bytes l.past l.current) (reader_state l.reader);
 }
 
 abbrev pub decreases-bytes : goal.decreases-bytes

@@ -10,4 +10,5 @@ returns-in-Ok-clause-ok g c =
 pub returns-in-Err-clause-err : goal.returns-in-Err-clause-err
 returns-in-Err-clause-err g c =
     byte_stopped (record { second_is = c.around_at.ensures.is; above_is = c.around_at-2.ensures.is })
-    (omega (arith, c.min-n.ensures)) (omega (arith, c.min-n.ensures, c.requires.part.0)) c.behind-in-Err.ensures.begun c.behind-in-Err.ensures.done c.behind-in-Err.ensures.past c.in-Err.ensures.pixels.1.1
+    (omega (arith, c.min-n.ensures))
+    (omega (arith, c.min-n.ensures, c.requires.part.0)) c.behind-in-Err.ensures.begun c.behind-in-Err.ensures.done c.behind-in-Err.ensures.past c.in-Err.ensures.pixels.1.1

@@ -25,7 +25,7 @@ bytes-preserved-then-skipped-gt0 g c =
     record {
       inside = omega (arith, c.skip_run-skipped.ensures.inside);
       puts = puts_as
-          (events_on c.args.template c.bytes.around.template (lines_in c.args.rows) (8 * c.bytes.i) (8 * c.bytes.i) (8 * c.skip_run-skipped.result) (8 * (c.bytes.i + c.skip_run-skipped.result)) c.bytes.invariant.stands.template_is refl (omega arith))
+          (events_on _ _ (lines_in c.args.rows) (8 * c.bytes.i) _ (8 * c.skip_run-skipped.result) (8 * (c.bytes.i + c.skip_run-skipped.result)) c.bytes.invariant.stands.template_is refl (omega arith))
           (puts_join c.bytes.invariant.puts run);
       events = omega arith;
       same = run.same ∙ c.bytes.invariant.same;
@@ -48,7 +48,7 @@ returns-in_err-encode_byte g c =
     let small : c.byte-byte.result.byte < 256 = omega arith in
     let before : Puts g.W.CodeSink (events_from c.args.template lines 0 (8 * c.bytes.i)) c.args.coder.now c.skip_run-skipped.new.coder (Ok tt) =
     puts_as
-    (events_on c.args.template c.bytes.around.template lines (8 * c.bytes.i) (8 * c.bytes.i) (8 * c.skip_run-skipped.result) (8 * c.bytes.i) c.bytes.invariant.stands.template_is refl (omega arith))
+    (events_on _ _ lines (8 * c.bytes.i) _ (8 * c.skip_run-skipped.result) (8 * c.bytes.i) c.bytes.invariant.stands.template_is refl (omega arith))
     (puts_join c.bytes.invariant.puts c.skip_run-skipped.ensures.puts) in
     puts_as (events_rest c.args.template lines 0 (8 * (c.bytes.i + 1)) c.args.rows.width (omega arith))
     (puts_stop _ c.from_residual.ensures
@@ -67,7 +67,7 @@ bytes-preserved g c =
     let small : c.byte-byte.result.byte < 256 = omega arith in
     let before : Puts g.W.CodeSink (events_from c.args.template lines 0 (8 * c.bytes.i)) c.args.coder.now c.skip_run-skipped.new.coder (Ok tt) =
     puts_as
-    (events_on c.args.template c.bytes.around.template lines (8 * c.bytes.i) (8 * c.bytes.i) (8 * c.skip_run-skipped.result) (8 * c.bytes.i) c.bytes.invariant.stands.template_is refl (omega arith))
+    (events_on _ _ lines (8 * c.bytes.i) _ (8 * c.skip_run-skipped.result) (8 * c.bytes.i) c.bytes.invariant.stands.template_is refl (omega arith))
     (puts_join c.bytes.invariant.puts run) in
     let is : IsByte c.byte-byte.result c.byte-byte.result.around.template lines c.bytes.i = byte_as (sym c.byte-byte.ensures.template_is) c.byte-byte.ensures in
     record {

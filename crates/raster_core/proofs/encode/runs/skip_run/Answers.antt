@@ -16,7 +16,8 @@ pub returns-then-is_filled : goal.returns-then-is_filled
 returns-then-is_filled g c =
     let filled = c.is_filled.ensures in
     let on = c.if-is_filled.true in
-    let only : RemembersOnly (colour_of c.args.around.above) c.args.around = record { second_is = filled.second on; above_is = filled.above on; past_is = filled.past on c.args.around.template.offset c.requires.moved } in
+    let only : RemembersOnly (colour_of c.args.around.above) c.args.around =
+    record { second_is = filled.second on; above_is = filled.above on; past_is = filled.past on c.args.around.template.offset c.requires.moved } in
     record {
       inside = c.skip_bytes.ensures.inside;
       stands = stands_on c.requires.stands only c.skip_bytes.ensures.uniform;
