@@ -22,10 +22,10 @@ use Rattle.raster_core.proofs.Parts.{is_lt, adaptive_left, agreement_push, all_p
 none_at : (x t g : ℕ) → x ≡ 0 → t ≡ 0 → (x + t * g) % 2 ^ 64 ≡ 0
 none_at x t g e f = let none : (x + 0 * g) % 2 ^ 64 ≡ 0 = omega arith in rw f none
 
-pub none_counted : (t : Tally) (width current : ℕ) → t.rows ≡ 0 → t.held ≡ 0 → t.times ≡ 0 → t.counts ≡ replicate 128 0 → KeepsCounts t.last → CountsLines t width current []
-none_counted t width current no_rows none_held no_times no_counts kept =
+pub none_counted : (t : Tally) (width current : ℕ) → t.rows ≡ 0 → t.agreeing ≡ 0 → t.times ≡ 0 → t.counts ≡ replicate 128 0 → KeepsCounts t.last → CountsLines t width current []
+none_counted t width current no_rows none_agreeing no_times no_counts kept =
     let none : (lag : ℕ) → counted_at t lag ≡ 0 = λ lag. none_at (get_or t.counts lag 0) t.times (get_or t.last.agreed lag 0) (ap (λ c. get_or c lag 0) no_counts ∙ zeros 128 lag) no_times in
-    record { number = no_rows; width_is = λ h. absurd (omega arith); wide = tt; none = λ _. none; each = λ lag _ _. none lag; held = none_held; kept = kept }
+    record { number = no_rows; width_is = λ h. absurd (omega arith); wide = tt; none = λ _. none; each = λ lag _ _. none lag; agreeing = none_agreeing; kept = kept }
 
 -- ---- a row more
 
@@ -140,6 +140,6 @@ best_by t width current (r ∷ rows) b k h =
 pub chosen_by : (t : Tally) (width current : ℕ) (rows : List Lines) (b : ℕ) → CountsLines t width current rows → least_lag (is_two_line t) ≤ b → b ≤ last_lag (is_two_line t) (most_of t) t.width →
     best_offset rows (candidates (is_two_line t) (most_of t)) ≡ Some b →
     chosen_offset (is_two_line t) (most_of t) width rows current
-    ≡ (if nat_lt (t.width * t.rows / 8) (counted_at t b - t.held) then Some b else None)
+    ≡ (if nat_lt (t.width * t.rows / 8) (counted_at t b - t.agreeing) then Some b else None)
 chosen_by t width current rows b k low high best =
-    rw (best, threshold t width current rows k, ← counted_best t width current rows b k low high, ← k.held) refl
+    rw (best, threshold t width current rows k, ← counted_best t width current rows b k low high, ← k.agreeing) refl

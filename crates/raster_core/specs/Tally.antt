@@ -33,7 +33,7 @@ counted_at t lag = (slice_index t.counts lag + t.times * slice_index t.last.agre
 -- both tallies have the same counts at these lags, and differ only in how they store them
 pub record CountsAlike (low high : ℕ) (old new : Tally) : Type 0 where
   pub counted : (lag : ℕ) → low ≤ lag → lag ≤ high → counted_at new lag ≡ counted_at old lag
-  pub held : new.held ≡ old.held
+  pub agreeing : new.agreeing ≡ old.agreeing
   pub rows : new.rows ≡ old.rows
   pub two_line : new.two_line ≡ old.two_line
   pub most : new.most ≡ old.most
@@ -54,5 +54,5 @@ pub record CountsLines (t : Tally) (width current : ℕ) (rows : List Lines) : T
   pub wide : AllByRecursion (λ lines. length lines.row ≡ width) rows
   pub none : length rows ≡ 0 → (lag : ℕ) → counted_at t lag ≡ 0
   pub each : (lag : ℕ) → least_lag (is_two_line t) ≤ lag → lag ≤ last_lag (is_two_line t) (most_of t) width → counted_at t lag ≡ agreement rows lag
-  pub held : t.held ≡ agreement rows current
+  pub agreeing : t.agreeing ≡ agreement rows current
   pub kept : KeepsCounts t.last

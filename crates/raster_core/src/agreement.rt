@@ -23,7 +23,7 @@ fn left_by(lag: usize, second: u64, before: u64, word: u64) -> u64
 }
 
 /// The number of pixels of the mask, in word `k` of a row, that equal the adaptive pixel at `offset`.
-pub(crate) fn held_in(
+pub(crate) fn agreeing_in_word(
     above: &[u8],
     k: usize,
     offset: u8,
@@ -142,7 +142,7 @@ fn add_lags(
 }
 
 /// The number of pixels of a row that equal the adaptive pixel at `offset`.
-pub(crate) fn held_row(row: &[u8], above: &[u8], width: u32, offset: u8) -> u64
+pub(crate) fn agreeing_in_row(row: &[u8], above: &[u8], width: u32, offset: u8) -> u64
     requires offset { offset ≤ 127 }
     ensures agreed { (lines : Lines) → row.now ≡ packed_row lines.row →
         above.now ≡ packed_row lines.above →
@@ -150,17 +150,17 @@ pub(crate) fn held_row(row: &[u8], above: &[u8], width: u32, offset: u8) -> u64
     ensures small { result ≤ 2 ^ 32 }
 {
     let words = (width as usize).div_ceil(64);
-    let mut held = 0;
+    let mut agreeing = 0;
     let mut second = 0;
     let mut before = 0;
     for k in 0..words {
         let word = word_at(row, k + 2);
         let mask = mask_at(width, k);
-        held += held_in(above, k, offset, second, before, word, mask);
+        agreeing += agreeing_in_word(above, k, offset, second, before, word, mask);
         second = before;
         before = word;
     }
-    held
+    agreeing
 }
 
 /// Adds to the counts at the lags from `from` up to `end`, the given number of times, modulo 2^64.

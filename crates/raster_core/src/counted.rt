@@ -6,7 +6,7 @@ ghost use Rattle.raster_core.specs.Lines.{Lines};
 ghost use Rattle.raster_core.specs.Packed.{packed_row};
 ghost use Rattle.raster_core.specs.Machine.Words.{AgreesAt};
 
-use crate::agreement::{add_all, add_word, held_row};
+use crate::agreement::{add_all, add_word, agreeing_in_row};
 use crate::words::{mask_at, word_at};
 
 /// For each lag, the number of pixels of a row that equal the pixel `lag` to their left. A row of at most 2,048 bytes
@@ -47,7 +47,7 @@ impl Counted {
     }
 
     /// Discards the stored row.
-    pub(crate) fn forget(&mut self)
+    pub(crate) fn discard(&mut self)
         ensures { KeepsCounts self.new }
     {
         self.len = 2049;
@@ -97,7 +97,7 @@ impl Counted {
     }
 
     /// The number of pixels of the last row counted that equal the adaptive pixel at `offset`.
-    pub(crate) fn held(&mut self, row: &[u8], above: &[u8], offset: u8) -> u64
+    pub(crate) fn agreeing(&mut self, row: &[u8], above: &[u8], offset: u8) -> u64
         requires offset { offset ≤ 127 }
         requires row { self.old.len ≤ 2048 → take self.old.len self.old.row ≡ row.now }
         ensures agreed { (lines : Lines) → KeepsCounts self.old → CountsRow self.old row.now →
@@ -109,15 +109,15 @@ impl Counted {
         if self.least <= offset && offset <= self.most {
             self.agreed[usize::from(offset)]
         } else if offset == 0 && self.len <= 2048 && row == above {
-            self.held_below_itself()
+            self.agreeing_below_itself()
         } else {
-            held_row(row, above, self.width, offset)
+            agreeing_in_row(row, above, self.width, offset)
         }
     }
 
     /// The number of pixels of the last row counted that equal the adaptive pixel in its nominal position, if the row
     /// above is the same row.
-    fn held_below_itself(&mut self) -> u64
+    fn agreeing_below_itself(&mut self) -> u64
         requires { self.old.len ≤ 2048 }
         ensures agreed { KeepsCounts self.old →
             AgreesBelowItself (take self.old.len self.old.row) self.old.width result }
@@ -128,9 +128,9 @@ impl Counted {
             return self.below_itself;
         }
         let row = &self.row[..usize::from(self.len)];
-        let held = held_row(row, row, self.width, 0);
-        self.below_itself = held;
-        held
+        let agreeing = agreeing_in_row(row, row, self.width, 0);
+        self.below_itself = agreeing;
+        agreeing
     }
 }
 

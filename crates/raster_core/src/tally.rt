@@ -11,7 +11,7 @@ use crate::window::Window;
 #[derive(Drop)]
 pub struct Tally {
     /// The number of pixels that equal the adaptive pixel at the current offset.
-    held: u64,
+    agreeing: u64,
     /// The number of rows equal to the last one that are not yet in the counts.
     times: u64,
     width: u32,
@@ -42,7 +42,7 @@ impl Tally {
         ensures most { most_of result ≡ most }
     {
         Tally {
-            held: 0,
+            agreeing: 0,
             times: 0,
             width: 0,
             rows: 0,
@@ -62,9 +62,9 @@ impl Tally {
     {
         self.counts = [0; 128];
         self.times = 0;
-        self.held = 0;
+        self.agreeing = 0;
         self.rows = 0;
-        self.last.forget();
+        self.last.discard();
     }
 
     /// Counts the current row of a window, typical or not, which was coded with the adaptive pixel at this offset.
@@ -85,9 +85,9 @@ impl Tally {
         let most = self.last_lag(width);
         let row = window.row(0);
         let above = window.row(1);
-        self.take(row, width, least, most);
-        let held = self.last.held(row, above, offset);
-        self.held = self.held.wrapping_add(held);
+        self.count_row(row, width, least, most);
+        let agreeing = self.last.agreeing(row, above, offset);
+        self.agreeing = self.agreeing.wrapping_add(agreeing);
         self.times = self.times.wrapping_add(1);
         self.width = width;
         self.rows = self.rows.wrapping_add(1);
@@ -95,7 +95,7 @@ impl Tally {
 
     /// Counts a row at the lags from `least` to `most`; if it equals the last row, only records that its counts must be
     /// added once more.
-    fn take(&mut self, row: &[u8], width: u32, least: u8, most: u8)
+    fn count_row(&mut self, row: &[u8], width: u32, least: u8, most: u8)
         requires lags { (1 ≤ least) × (least < 64) × (most ≤ 127) }
         ensures counts { KeepsCounts self.old.last → CountsRow self.new.last row.now }
         ensures kept { KeepsCounts self.old.last → KeepsCounts self.new.last }
@@ -160,7 +160,7 @@ impl Tally {
     {
         let best = self.best()?;
         let eighth = self.width as u64 * self.rows as u64 / 8;
-        let gain = self.at(best).saturating_sub(self.held);
+        let gain = self.at(best).saturating_sub(self.agreeing);
         (gain > eighth).then_some(best)
     }
 

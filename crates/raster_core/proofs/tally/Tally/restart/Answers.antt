@@ -3,4 +3,4 @@ use Rattle.raster_core.proofs.Tallies.{none_counted}
 use Rattle.raster_core.proofs.tally.Tally.restart.Goals as goal
 
 pub returns-clause-counts : goal.returns-clause-counts
-returns-clause-counts c width current = none_counted _ width current refl refl refl refl c.forget.ensures
+returns-clause-counts c width current = none_counted _ width current refl refl refl refl c.discard.ensures

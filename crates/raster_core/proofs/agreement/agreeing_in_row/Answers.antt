@@ -2,13 +2,13 @@ use Rattle.std.proofs.Common.{ℕ, ◌*◌, ◌∙◌, sym, ap, arith, refl}
 use Rattle.raster_core.specs.Machine.Words.{word, led}
 use Rattle.raster_core.proofs.Packs.{led_white}
 use Rattle.raster_core.proofs.Parts.{part_none, part_next, first_place, second_place, third_place}
-use Rattle.raster_core.proofs.agreement.held_row.Goals as goal
+use Rattle.raster_core.proofs.agreement.agreeing_in_row.Goals as goal
 
 pub loop-k-init : goal.loop-k-init
 loop-k-init c = record {
   second = λ line e. led_white line 0 (omega arith);
   before = λ line e. led_white line 1 (omega arith);
-  held = λ lines e f. sym (part_none lines c.args.width c.args.offset 0);
+  agreeing = λ lines e f. sym (part_none lines c.args.width c.args.offset 0);
   room = omega arith;
 }
 
@@ -18,13 +18,13 @@ loop-k-preserved c =
     record {
       second = c.loop-k.invariant.before;
       before = λ line e. c.word_at-word.ensures line e ∙ ap (λ x. word (led line) (64 * x) 64) (third_place k);
-      held = λ lines e f.
+      agreeing = λ lines e f.
           part_next lines c.args.width c.args.offset k
-          (c.loop-k.invariant.held lines e f) refl
-          (c.held_in-held.ensures.agreed lines c.args.width f
+          (c.loop-k.invariant.agreeing lines e f) refl
+          (c.agreeing_in_word-agreeing.ensures.agreed lines c.args.width f
           (c.loop-k.invariant.second lines.row e)
           (c.loop-k.invariant.before lines.row e ∙ ap (λ x. word (led lines.row) x 64) (first_place k))
           (c.word_at-word.ensures lines.row e ∙ ap (λ x. word (led lines.row) x 64) (second_place k))
           c.mask_at-mask.ensures);
-      room = omega (arith, c.held_in-held.ensures.small, c.loop-k.invariant.room);
+      room = omega (arith, c.agreeing_in_word-agreeing.ensures.small, c.loop-k.invariant.room);
     }
