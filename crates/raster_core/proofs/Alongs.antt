@@ -17,7 +17,7 @@ use Rattle.raster_core.proofs.BytePixels.{at_registers}
 use Rattle.raster_core.proofs.EventLists.{event_is}
 
 pub along_none : {S : Type 0} {pull : S → Pulled → S → Type 0} {b : ByteAround} {old : DecoderState S} → Along pull b old 0 b.past old
-along_none {S} {pull} {b} {old} = record {
+along_none = record {
   any = λ from first s answers lines done so_far s2 a2. record {
     pixels = [];
     count = refl;
@@ -29,7 +29,7 @@ along_none {S} {pull} {b} {old} = record {
 registers_at : {second above past : ℕ} (lines : Lines) (offset n : ℕ) (done pixels : List Bool) → n < 8 → length pixels ≡ n →
     second ≡ before lines.second (length done + 16) 24 → above ≡ before lines.above (length done + 16) 24 → past ≡ before (done ++ pixels) (length (done ++ pixels)) (past_bits offset) →
     AreAt (with_row lines (done ++ pixels)) offset (second / 2 ^ 7 * 2 ^ n) (above / 2 ^ 6 * 2 ^ n) past (length (done ++ pixels))
-registers_at {second} {above} {past} lines offset n done pixels h count s a p =
+registers_at lines offset n done pixels h count s a p =
     let long : length done + n ≡ length (done ++ pixels) = rw (← count) (sym (length-append done pixels)) in
     rw (← long) (at_registers {lines = with_row lines (done ++ pixels)} {byte = before (done ++ pixels) (length done + 8) 8} n h (record { second_is = s; above_is = a; byte_is = refl }) (rw long p))
 
@@ -38,7 +38,7 @@ pub along_next : {S : Type 0} {pull : S → Pulled → S → Type 0} {b : ByteAr
     ((lines : Lines) (x : ℕ) → AreAt lines b.offset (b.second / 2 ^ 7 * 2 ^ n) (b.above / 2 ^ 6 * 2 ^ n) past x → cx ≡ context_at b.mode lines b.offset x) →
     ((p : Place) (answers : List Pulled) → DecoderIsAt mid.decoder p answers → Next (source_at pull mid.source answers) (record { place = p; learned = mid.learned }) cx to (Ok pixel)) →
     Along pull b old n past mid → Along pull b old (n + 1) past' to
-along_next {S} {pull} {b} {old} {mid} {to} {n} {past} {past'} {cx} {pixel} few past_is context next along = record {
+along_next {S} {pull} {b} {to = to} {n} {past' = past'} {cx} {pixel} few past_is context next along = record {
   any = λ from first s answers lines done so_far s2 a2.
       let m = along.any from first s answers lines done so_far s2 a2 in
       let row = done ++ m.pixels in

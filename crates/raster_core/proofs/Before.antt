@@ -60,7 +60,7 @@ above_low row zero d (suc l) = (0, rw (before_none, before_none) (omega arith))
 above_low row (suc x) d (suc l) =
     let b : d + suc l ≡ suc (d + l) = omega arith in
     let r = above_low row x d l in
-    (r.0, rw (b, before_suc, before_suc, pow-suc) (omega (arith, r.1)))
+    (r.0, rw (b, before_suc, before_suc, pow-suc) (omega arith))
 
 pub before_mod : (row : List Bool) (x d l : ℕ) → before row x (d + l) % 2 ^ l ≡ before row x l
 before_mod row x d l =
@@ -74,7 +74,7 @@ least (suc t) = omega arith
 -- the nearest l pixels of a register
 pub low_part : {past : ℕ} (row : List Bool) (x offset l : ℕ) → past ≡ before row x (past_bits offset) → l ≤ 64 → past % 2 ^ l ≡ before row x l
 low_part row x offset l h few =
-    let large : 64 ≤ past_bits offset = least offset in
+    let large = least offset in
     let size : (past_bits offset - l) + l ≡ past_bits offset = omega arith in
     rw (h, ← size) (before_mod row x (past_bits offset - l) l)
 
@@ -150,5 +150,5 @@ before_far row (suc x) zero =
     let e : pixel_left row (suc x) 1 ≡ pixel_at row x = rw up (left_at row x 1) in
     rw (before_suc, before_zero, before_zero, e) (omega arith)
 before_far row (suc x) (suc k) =
-    let e : pixel_left row (suc x) (suc (suc k)) ≡ pixel_left row x (suc k) = left_up row x (suc k) in
+    let e = left_up row x (suc k) in
     rw (before_suc, before_suc, e, pow-suc) (omega (arith, before_far row x k))

@@ -39,7 +39,7 @@ past_on row (suc t) x h = past_at row _ x 127 h
 
 pub at_registers : {lines : Lines} {offset second above byte past x : ℕ} (n : ℕ) → n < 8 → ByteAt lines second above byte x → past ≡ before lines.row (x + n) (past_bits offset) →
     AreAt lines offset (second / 2 ^ 7 * 2 ^ n) (above / 2 ^ 6 * 2 ^ n) past (x + n)
-at_registers {lines} {second = second} {above} {x = x} n h b p =
+at_registers {lines} {x = x} n h b p =
     let e : (x + n) + ((7 - n) + 2) ≡ x + 9 = omega arith in
     let f : (x + n) + ((7 - n) + 3) ≡ x + 10 = omega arith in
     let back : 7 - (7 - n) ≡ n = omega arith in

@@ -17,14 +17,14 @@ use Rattle.raster_core.proofs.EventLists.{event_is}
 pub numbers_from_last : (k n : ℕ) → numbers_from k (suc n) ≡ numbers_from k n ++ (k + n) ∷ []
 numbers_from_last k zero = ap (λ m. m ∷ []) (let e : k ≡ k + 0 = omega arith in e)
 numbers_from_last k (suc n) =
-    let tail : numbers_from (k + 1) (suc n) ≡ numbers_from (k + 1) n ++ ((k + 1) + n) ∷ [] = numbers_from_last (k + 1) n in
+    let tail = numbers_from_last (k + 1) n in
     let same : (k + 1) + n ≡ k + suc n = omega arith in
     rw (tail, same) refl
 
 pub map_same : {A : Type 0} (f g : ℕ → A) (k n : ℕ) → ((x : ℕ) → x < k + n → f x ≡ g x) → map f (numbers_from k n) ≡ map g (numbers_from k n)
 map_same f g k zero h = refl
 map_same f g k (suc n) h =
-    let here : f k ≡ g k = h k (omega arith) in
+    let here = h k (omega arith) in
     let rest = map_same f g (k + 1) n (λ x l. h x (omega arith)) in
     cc
 
@@ -73,8 +73,7 @@ pixel_events_more mode lines offset xs b =
     let long : length (xs ++ b ∷ []) ≡ suc (length xs) = length-append xs (b ∷ []) ∙ (let e : length xs + 1 ≡ suc (length xs) = omega arith in e) in
     let split : map f (numbers_from 0 (suc (length xs))) ≡ map f (numbers_from 0 (length xs)) ++ f (0 + length xs) ∷ [] =
     ap (map f) (numbers_from_last 0 (length xs)) ∙ map-append f (numbers_from 0 (length xs)) ((0 + length xs) ∷ []) in
-    let same : map f (numbers_from 0 (length xs)) ≡ map g (numbers_from 0 (length xs)) =
-    map_same f g 0 (length xs) (λ x l. event_is _ _ _ _ (context_front mode lines xs (b ∷ []) offset x (omega arith)) (at_front xs (b ∷ []) x (omega arith))) in
+    let same = map_same f g 0 (length xs) (λ x l. event_is _ _ _ _ (context_front mode lines xs (b ∷ []) offset x (omega arith)) (at_front xs (b ∷ []) x (omega arith))) in
     let zero' : 0 + length xs ≡ length xs = omega arith in
     let last : f (0 + length xs) ≡ record { context = context_at mode (with_row lines xs) offset (length xs); pixel = b } =
     ap f zero' ∙ event_is _ _ _ _ (context_front mode lines xs (b ∷ []) offset (length xs) (omega arith)) (get_or-append_seam xs b [] false) in
@@ -105,5 +104,5 @@ pub past_next : {past : ℕ} (xs : List Bool) (b : Bool) (offset : ℕ) → past
     past % 2 ^ (past_bits offset - 1) * 2 + bit b ≡ before (xs ++ b ∷ []) (length (xs ++ b ∷ [])) (past_bits offset)
 past_next {past} xs b offset h =
     let here : past ≡ before (xs ++ b ∷ []) (length xs) (past_bits offset) = rw (before_front xs (b ∷ []) (length xs) (past_bits offset) (omega arith)) h in
-    let seam : pixel_at (xs ++ b ∷ []) (length xs) ≡ b = get_or-append_seam xs b [] false in
+    let seam = get_or-append_seam xs b [] false in
     rw length-append (rw seam at (past_on (xs ++ b ∷ []) offset (length xs) here))

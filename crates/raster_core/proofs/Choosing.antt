@@ -26,9 +26,8 @@ find_first p k (suc n) b low high hit miss =
           let here : p k ≡ true = ap p e ∙ hit in
           rw (here, e) refl
       | inr lt ↦
-          let here : p k ≡ false = miss k (omega arith) lt in
-          let rest : find p (numbers_from (k + 1) n) ≡ Some b =
-          find_first p (k + 1) n b (omega arith) (omega arith) hit (λ u from below. miss u (omega arith) below) in
+          let here = miss k (omega arith) lt in
+          let rest = find_first p (k + 1) n b (omega arith) (omega arith) hit (λ u from below. miss u (omega arith) below) in
           rw here rest
     ]
 
@@ -52,10 +51,10 @@ pub best_found : (f : ℕ → ℕ) (k n b : ℕ) → k ≤ b → b < k + n →
     find (λ t. list_all (λ u. nat_le (f u) (f t)) (numbers_from k n)) (numbers_from k n) ≡ Some b
 best_found f k n b low high most first =
     find_first (λ t. list_all (λ u. nat_le (f u) (f t)) (numbers_from k n)) k n b low high
-    (all_true (λ u. nat_le (f u) (f b)) k n (λ u from below. let h : f u ≤ f b = most u from below in grind (arith, nat_tests)))
+    (all_true (λ u. nat_le (f u) (f b)) k n (λ u from below. let h = most u from below in grind (arith, nat_tests)))
     (λ t from below.
     one_false (λ u. nat_le (f u) (f t)) k n b low high
-    (let h : f t < f b = first t from below in grind (arith, nat_tests)))
+    (let h = first t from below in grind (arith, nat_tests)))
 
 -- the best offset of a list of candidates
 pub best_is : (two_line : Bool) (most : ℕ) (stripe : List Lines) (b : ℕ) →

@@ -27,7 +27,7 @@ bit_of c r zero k h few = absurd (omega arith)
 bit_of c r (suc l) k h few =
     let one : suc l ≡ 1 + l = omega arith in
     let parts : r % 2 ^ suc l ≡ (r / 2 ^ l % 2) * 2 ^ l + r % 2 ^ l = rw one (mod-pow-add r 1 l) in
-    let twice : 2 ^ suc l ≡ 2 ^ l * 2 = pow-suc 2 l in
+    let twice = pow-suc 2 l in
     let t = top_bit c (r / 2 ^ l % 2) (2 ^ l) (r % 2 ^ l) (omega arith) (mod-lt r (pow_pos l)) (sym parts ∙ (h ∙ ap (λ p. bit c * (p - 1)) twice)) in
     elim (cases_lt k l) [
       | inl below ↦ bit_of c r l k t.1 below
@@ -43,7 +43,7 @@ pub record AreLeft (row : List Bool) (x m l : ℕ) (c : Bool) : Type 0 where
 pub part_left : {row : List Bool} {r x m l : ℕ} {c : Bool} (w : ℕ) → r ≡ before row x w → m + l ≤ w → r / 2 ^ m % 2 ^ l ≡ bit c * (2 ^ l - 1) → AreLeft row x m l c
 part_left {row} {r} {x} {m} {l} {c} w is within h = record {
   any = λ k few.
-      let b : r / 2 ^ m / 2 ^ k % 2 ≡ bit c = bit_of c (r / 2 ^ m) l k h few in
+      let b = bit_of c (r / 2 ^ m) l k h few in
       let size : w ≡ (w - suc (m + k)) + suc (m + k) = omega arith in
       let one : r / 2 ^ (m + k) % 2 ≡ bit (pixel_left row x (suc (m + k))) = rw (is, size) (past_bit row x (w - suc (m + k)) (m + k)) in
       let two : r / 2 ^ m / 2 ^ k ≡ r / 2 ^ (m + k) = rw (div-div-eq-div-mul, ← pow-add) refl in
@@ -68,13 +68,13 @@ seen_at {row} {top} {m} h y from few =
 -- a pixel of the row itself, where those from x on are of the colour, too
 row_left : {row : List Bool} {x m l : ℕ} {c : Bool} (j : ℕ) → AreLeft row x m l c → ((k : ℕ) → k < j → pixel_at row (x + k) ≡ c) → (k : ℕ) → (j ≤ k → m + j ≤ k) → k < (m + l) + j →
     pixel_left row (x + j) (suc k) ≡ c
-row_left {row} {x} {m} j h own k from few =
+row_left {x = x} {m} j h own k from few =
     elim (cases_lt k j) [
       | inl near ↦
           let e : (x + (j - suc k)) + suc k ≡ x + j = omega arith in
           rw (← e, left_at) (own (j - suc k) (omega arith))
       | inr far ↦
-          let after : m + j ≤ k = from far in
+          let after = from far in
           let e : suc k ≡ suc (m + ((k - j) - m)) + j = omega arith in
           rw (e, left_along) (h.any ((k - j) - m) (omega arith))
     ]
@@ -114,8 +114,8 @@ stays_uniform {lines} {x} {n} {c} mode offset r adapts = λ j few own.
     let p3 = row_left j r.row own 2 (λ t. omega arith) (omega arith) in
     let p2 = row_left j r.row own 1 (λ t. omega arith) (omega arith) in
     let p1 = row_left j r.row own 0 (λ t. omega arith) (omega arith) in
-    let three : binary (three_line lines offset (x + j)) ≡ uniform_context c = ten_same s1 s0 sr a2 a1 a0 ar a p2 p1 in
-    let two : binary (two_line lines offset (x + j)) ≡ uniform_context c = ten_same a3 a2 a1 a0 ar a p4 p3 p2 p1 in
+    let three = ten_same s1 s0 sr a2 a1 a0 ar a p2 p1 in
+    let two = ten_same a3 a2 a1 a0 ar a p4 p3 p2 p1 in
     elim mode.two_line as (λ b. binary (if b then two_line lines offset (x + j) else three_line lines offset (x + j)) ≡ uniform_context c)
     [ true ↦ two | false ↦ three ]
 
@@ -123,7 +123,7 @@ pub nominal_adapts : {c : Bool} (lines : Lines) (x n : ℕ) → AreLeft lines.ab
 nominal_adapts lines x n h = λ j few own. seen_at h (x + j + 2) (omega arith) (omega arith)
 
 pub moved_adapts : {x m l : ℕ} {c : Bool} (lines : Lines) (t n : ℕ) → AreLeft lines.row x m l c → ((j : ℕ) → j < n → j ≤ t → m + j ≤ t) → t < m + l → Adapts lines (suc t) x n c
-moved_adapts {x} lines t n h from few = λ j within own.
+moved_adapts lines t n h from few = λ j within own.
     let test : (suc t == 0) ≡ false = grind (arith, nat_tests) in
     rw test (row_left j h own t (from j within) (omega arith))
 
@@ -142,7 +142,7 @@ pub record AreNear (second above past : ℕ) (c : Bool) : Type 0 where
   pub past_is : past % 16 ≡ bit c * 15
 
 reads_eight : {lines : Lines} {second above past offset x : ℕ} {c : Bool} → AreRead lines second above past offset x → AreNear second above past c → Reads lines x 8 c
-reads_eight {lines} {past = past} {offset} {x} {c} r near =
+reads_eight {past = past} {offset} {x} {c} r near =
     let top : x + 16 ≡ x + 8 + 8 = omega arith in
     let whole : past / 2 ^ 0 % 2 ^ 4 ≡ bit c * (2 ^ 4 - 1) = omega (arith, near.past_is) in
     record {

@@ -91,11 +91,11 @@ four_before : (row : List Bool) (x : ℕ) → before row x 4 ≡ bit (pixel_left
 four_before row x = before_far row x 3 ∙ rw before_far (omega arith)
 
 row_two : {lines : Lines} {offset second above past x : ℕ} → AreAt lines offset second above past x → past % 4 ≡ bit (pixel_left lines.row x 2) * 2 + bit (pixel_left lines.row x 1)
-row_two {lines} {offset} {past = past} {x} r = low_part lines.row x offset 2 r.past_is (omega arith) ∙ two_before lines.row x
+row_two {lines} {offset} {x = x} r = low_part lines.row x offset 2 r.past_is (omega arith) ∙ two_before lines.row x
 
 row_four : {lines : Lines} {offset second above past x : ℕ} → AreAt lines offset second above past x →
     past % 16 ≡ bit (pixel_left lines.row x 4) * 8 + bit (pixel_left lines.row x 3) * 4 + (bit (pixel_left lines.row x 2) * 2 + bit (pixel_left lines.row x 1))
-row_four {lines} {offset} {past = past} {x} r =
+row_four {lines} {offset} {x = x} r =
     rw (low_part lines.row x offset 4 r.past_is (omega arith), four_before, two_before) refl
 
 above_four_of : (row : List Bool) (x : ℕ) → before row (x + 2) 4 ≡ bit (pixel_left row x 2) * 8 + (bit (pixel_left row x 1) * 4 + bit (pixel_at row x) * 2 + bit (pixel_at row (x + 1)))
@@ -113,7 +113,7 @@ one_right row x k =
 
 pub three_line_moved : {lines : Lines} {offset second above past x : ℕ} → AreAt lines offset second above past x →
     second / 2 ^ 7 % 8 * 128 + above / 2 ^ 8 % 16 * 8 + bit (adaptive lines offset x) * 4 + past % 4 ≡ binary (three_line lines offset x)
-three_line_moved {lines} {offset} {x = x} r =
+three_line_moved {lines} {x = x} r =
     let s = second_part r ∙ three_of lines.second x in
     let a = above_next 4 r (omega arith) ∙ above_four_of lines.above x in
     let p = row_two r in
@@ -121,7 +121,7 @@ three_line_moved {lines} {offset} {x = x} r =
 
 pub two_line_moved : {lines : Lines} {offset second above past x : ℕ} → AreAt lines offset second above past x →
     above / 2 ^ 8 % 32 * 32 + bit (adaptive lines offset x) * 16 + past % 16 ≡ binary (two_line lines offset x)
-two_line_moved {lines} {offset} {x = x} r =
+two_line_moved {lines} {x = x} r =
     let a = above_next 5 r (omega arith) ∙ above_five_of lines.above x in
     let p = row_four r in
     rw (binary_ten, a, p) (omega arith)

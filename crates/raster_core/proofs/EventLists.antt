@@ -8,7 +8,7 @@ use Rattle.raster_core.specs.Lines.{Lines, numbers_from, context_at}
 use Rattle.raster_core.specs.Machine.Bytes.{events_from, lane_events}
 use Rattle.raster_core.specs.declared.row_byte.Template.{Template}
 use Rattle.raster_core.proofs.Packed.{length-numbers}
-use Rattle.raster_core.proofs.Shifts.{numbers_cat}
+use Rattle.raster_core.proofs.Counts.{numbers_cat}
 
 -- the context of a pixel by a template
 abbrev pub context_by : Template → Lines → ℕ → ℕ

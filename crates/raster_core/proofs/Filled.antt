@@ -84,11 +84,11 @@ is_filled {colour} {i = i} is fill = record { byte = λ j few. is.byte (i + j) �
 
 -- pixels of a colour before a byte, and bytes of it from there on
 filled_on : {colour : Bool} {row : List Bool} {b : ℕ} (k n : ℕ) → IsFilled colour row b n → before row (8 * b) k ≡ filled colour k → before row (8 * (b + n)) (k + 8 * n) ≡ filled colour (k + 8 * n)
-filled_on {colour} {row} {b} k zero fill h =
+filled_on {b = b} k zero fill h =
     let e : 8 * (b + 0) ≡ 8 * b = omega arith in
     let f : k + 8 * 0 ≡ k = omega arith in
     rw (e, f) h
-filled_on {colour} {row} {b} k (suc n) fill h =
+filled_on {colour} {b = b} k (suc n) fill h =
     let e : 8 * (b + suc n) ≡ 8 * (b + n) + 8 = omega arith in
     let f : k + 8 * suc n ≡ (k + 8 * n) + 8 = omega arith in
     let shorter = filled_on k n (record { byte = λ j few. fill.byte j (omega arith) }) h in
@@ -121,11 +121,11 @@ adapts_filled {colour} lines (suc t) i n high past above =
 pub filled_uniform : {colour : Bool} {lines : Lines} {offset i n : ℕ} (mode : Mode) → offset ≤ 127 → AreBehind colour lines offset i → IsFilled colour lines.above (i + 1) n →
     IsFilled colour lines.second (i + 1) n →
     StaysUniform mode lines offset colour (8 * i) (8 * n)
-filled_uniform {colour} {lines} {offset} {i} {n} mode high behind above second =
+filled_uniform {lines = lines} {offset} {i} {n} mode high behind above second =
     let from : 8 * i + 8 ≡ 8 * (i + 1) = omega arith in
     let top : 8 * ((i + 1) + n) ≡ 8 * i + 8 * n + 8 = omega arith in
-    let a : AreLeft lines.above (8 * i + 8 * n + 8) 6 (8 * n + 5) colour = left_filled (24 + 8 * n) (rw top at (filled_on 24 n above (rw from at behind.above_is))) (omega arith) in
-    let s : AreLeft lines.second (8 * i + 8 * n + 8) 7 (8 * n + 2) colour = left_filled (24 + 8 * n) (rw top at (filled_on 24 n second (rw from at behind.second_is))) (omega arith) in
+    let a = left_filled (24 + 8 * n) (rw top at (filled_on 24 n above (rw from at behind.above_is))) (omega arith) in
+    let s = left_filled (24 + 8 * n) (rw top at (filled_on 24 n second (rw from at behind.second_is))) (omega arith) in
     stays_uniform mode offset (record { second = s; above = a; row = left_filled (past_bits offset) behind.row_is (omega (arith, least offset)) }) (adapts_filled lines offset i n high behind.row_is a)
 
 pub own_filled : {colour : Bool} {row : List Bool} {i n : ℕ} → IsFilled colour row i n → (k : ℕ) → k < 8 * n → pixel_at row (8 * i + k) ≡ colour
@@ -144,7 +144,7 @@ past_filled {colour} {row} {i} {n} w fill h =
 -- a register of a row above, after bytes of its colour
 pub register_filled : {colour : Bool} {row : List Bool} {register n : ℕ} (i : ℕ) → IsFilled colour row (i + 1) n → register ≡ before row (8 * i + 8) 24 → register ≡ filled colour 24 →
     register ≡ before row (8 * (i + n) + 8) 24
-register_filled {row = row} {n = n} i fill is all =
+register_filled {n = n} i fill is all =
     let from : 8 * i + 8 ≡ 8 * (i + 1) = omega arith in
     let to : 8 * (i + 1) + 8 * n ≡ 8 * (i + n) + 8 = omega arith in
     rw (all, ← past_filled 24 fill (rw from at (sym is ∙ all)), to) refl

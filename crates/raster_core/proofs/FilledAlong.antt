@@ -9,8 +9,8 @@ use Rattle.qm_core.specs.Decoder.{DecoderState, has_stopped, decoder_state}
 use Rattle.qm_core.specs.declared.source.Pulled.{Pulled}
 use Rattle.qm_core.specs.declared.decoder.Decoder.{Decoder}
 use Rattle.raster_core.specs.Machine.Registers.{bit, before, past_bits}
-use Rattle.raster_core.specs.Machine.Decoded.{RowAround, RowPart, BytesAt, with_row, BytesAlong, SkipsFilledAlong, filled_run, bytes_at}
-use Rattle.raster_core.specs.Machine.Uniform.{filled, uniform_event, StaysUniform}
+use Rattle.raster_core.specs.Machine.Decoded.{RowAround, RowPart, BytesAt, BytesAlong, SkipsFilledAlong, filled_run, bytes_at}
+use Rattle.raster_core.specs.Machine.Uniform.{filled, uniform_event}
 use Rattle.raster_core.proofs.Causal.{before_front}
 use Rattle.raster_core.proofs.Packed.{packed_in}
 use Rattle.raster_core.proofs.SkipsAlong.{run_pixels, run_before, decoded_run}
@@ -19,7 +19,7 @@ use Rattle.raster_core.proofs.Filled.{filled_join, is_filled, run_join, after_mo
 pub along_join : {colour : Bool} {above second : List ℕ} {i at count : ℕ} {d d' d'' : Decoder} {learned : List Estimate} (n : ℕ) → at ≡ i + n → count ≡ n + 8 →
     SkipsFilledAlong (filled_run colour i n) above second d learned d' → SkipsFilledAlong (filled_run colour at 8) above second d' learned d'' →
     SkipsFilledAlong (filled_run colour i count) above second d learned d''
-along_join {colour} {above} {second} {i} {at} {count} {d} {d'} {d''} {learned} n at_is count_is a b =
+along_join {colour} {above} {second} {i} {at} {d = d} {d'} {d''} {learned} n at_is count_is a b =
     let behind : at + 1 ≡ (i + 1) + n = omega arith in
     subst (λ z. SkipsFilledAlong (filled_run colour i z) above second d learned d'') (sym count_is)
     (record {
@@ -36,7 +36,7 @@ along_join {colour} {above} {second} {i} {at} {count} {d} {d'} {d''} {learned} n
           let size : 8 * n + 64 ≡ 8 * (n + 8) = omega arith in
           let last : after t (replicate 64 event) ≡ after s (replicate (8 * (n + 8)) event) =
           rw (← after_more, size) refl in
-          let still : t.place.doublings ≡ p.doublings = one.0.quiet (8 * n) (omega arith) in (
+          let still = one.0.quiet (8 * n) (omega arith) in (
             rw (← size) (run_join s event (8 * n) 64 one.0 (subst (λ u. IsRun u event 64) same two.0)),
             rw (← ap (λ u. after u (replicate 64 event)) same ∙ last) two.1,
             λ _ more. rw (← still) (two.2 (omega arith) more),
@@ -78,8 +78,7 @@ bytes_skipped {a = a} {b = b} {colour = colour} n high left_is left_to some regi
       rw (before_front f.done (replicate (8 * n) colour) (8 * i) (past_bits a.offset) (omega arith), ← wide, ← f.so_far.past_is) registers.past_is in
       let above_filled = is_filled (packed_in a_is) skips.above_filled in
       let second_filled = is_filled (packed_in s_is) skips.second_filled in
-      let stays : StaysUniform a.mode (with_row lines row) a.offset colour (8 * i) (8 * n) =
-      filled_uniform a.mode high (record { row_is = near; above_is = sym f.above_is ∙ registers.above_is; second_is = sym f.second_is ∙ registers.second_is }) above_filled second_filled in
+      let stays = filled_uniform a.mode high (record { row_is = near; above_is = sym f.above_is ∙ registers.above_is; second_is = sym f.second_is ∙ registers.second_is }) above_filled second_filled in
       let behind : b.past ≡ before row (length row) (past_bits a.offset) =
       rw (registers.past_is, ← past_filled (past_bits a.offset) (record { byte = run_filled colour f.done i n wide }) near, ← long) refl in
       record {
@@ -103,7 +102,7 @@ pub kept_along : {S : Type 0} {pull : S → Pulled → S → Type 0} {a : RowAro
     d' ≡ mid.decoder → ((k : ℕ) → k < b.i → slice_index current k ≡ slice_index b.current k) →
     BytesAlong pull a part width b mid →
     BytesAlong pull a part width (bytes_at b.left b.i b.second b.above b.past current) (decoder_state mid.source d' mid.learned)
-kept_along {pull = pull} {a} {b = b} {mid = mid} same kept along = record {
+kept_along same kept along = record {
   any = λ from first s answers lines done₀ had so_far a_is s_is.
       let f = along.any from first s answers lines done₀ had so_far a_is s_is in
       record {

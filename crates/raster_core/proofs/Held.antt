@@ -44,9 +44,9 @@ bits_before (suc n) (suc k) v h =
     let front : List Bool = bits n (v / 2) in
     let last : Bool = nat_eq (v % 2) 1 in
     let long = length-bits n (v / 2) in
-    let seam : pixel_at (front ++ last ∷ []) n ≡ last = subst (λ z. pixel_at (front ++ last ∷ []) z ≡ last) long (get_or-append_seam front last [] false) in
+    let seam = subst (λ z. pixel_at (front ++ last ∷ []) z ≡ last) long (get_or-append_seam front last [] false) in
     let rest : before (front ++ last ∷ []) n k ≡ v / 2 % 2 ^ k = before_front front (last ∷ []) n k (omega arith) ∙ bits_before n k (v / 2) (omega arith) in
-    let own : bit last ≡ v % 2 = bit_nat (v % 2) (omega arith) in
+    let own = bit_nat (v % 2) (omega arith) in
     let e : k + 1 ≡ suc k = omega arith in
     let parts : v % 2 ^ suc k ≡ (v / 2 ^ 1 % 2 ^ k) * 2 ^ 1 + v % 2 ^ 1 = rw (← e) (mod-pow-add v k 1) in
     ap (λ row. before row (suc n) (suc k)) (bits_suc n v)
@@ -128,7 +128,7 @@ lanes_at : {moved : Bool} {own : ℕ} (b : RowByte) (far lanes n : ℕ) → b.by
     AreBeside (near moved b.around.second b.around.above far) b.around.template.offset b.around.second b.around.above b.byte b.around.past →
     HasPixels lanes (near moved b.around.second b.around.above far) (b.around.past % 256 * 256 + own) n 4 → n + 4 ≤ 8 →
     lane_events lanes 4 ≡ events_from b.around.template (byte_lines b) (128 + n) 4
-lanes_at {moved} b far lanes n small made is are has few =
+lanes_at b far lanes n small made is are has few =
     lanes_are b lanes n 4 small made.two_line_is are
     (rw (← is) has) few
 

@@ -35,7 +35,7 @@ first_lanes : {lanes : ℕ} {b : ByteAround} {n : ℕ} (i : ℕ) {k : ℕ} → i
 first_lanes i less h = record { three_line = h.three_line; nominal = h.nominal; within = let w = h.within in omega arith; around_is = λ j few. h.around_is j (omega arith) }
 
 later_lanes : {lanes : ℕ} {b : ByteAround} {n : ℕ} (i k : ℕ) → AreLanesOf lanes b n (i + k) → AreLanesOf (lanes / 2 ^ (16 * i)) b (n + i) k
-later_lanes {lanes} {b} {n} i k h = record {
+later_lanes {n = n} i k h = record {
   three_line = h.three_line;
   nominal = h.nominal;
   within = let w = h.within in omega arith;
@@ -46,7 +46,7 @@ later_lanes {lanes} {b} {n} i k h = record {
 
 pub more_then : {S : Type 0} {pull : S → Pulled → S → Type 0} {lanes p i p' k p'' : ℕ} {old mid to : DecoderState S} →
     AlongMore pull (lanes_around lanes p) old i p' mid → AlongMore pull (lanes_around (lanes / 2 ^ (16 * i)) p') mid k p'' to → AlongMore pull (lanes_around lanes p) old (i + k) p'' to
-more_then {S} {pull} {lanes} {p} {i} {p'} {k} {p''} {old} {mid} {to} first then = record {
+more_then {i = i} {k = k} first then = record {
   any = λ b from n has so_far.
       let e : (n + i) + k ≡ n + (i + k) = omega arith in
       rw (← e) (then.any b from (n + i) (later_lanes i k has) (first.any b from n (first_lanes i (omega arith) has) so_far));
@@ -59,7 +59,7 @@ stops_first {i = i} less stops = record { any = λ b from n has so_far. stops.an
 pub stops_then : {S : Type 0} {pull : S → Pulled → S → Type 0} {lanes p i p' k : ℕ} {old mid to : DecoderState S} {pause pause' : Pause} →
     pause'.count ≡ i + pause.count → pause'.past ≡ pause.past →
     AlongMore pull (lanes_around lanes p) old i p' mid → StopsMore pull (lanes_around (lanes / 2 ^ (16 * i)) p') mid k pause to → StopsMore pull (lanes_around lanes p) old (i + k) pause' to
-stops_then {S} {pull} {lanes} {p} {i} {p'} {k} {old} {mid} {to} {pause} {pause'} count_is past_is first then = record {
+stops_then {i = i} {k = k} {pause = pause} {pause'} count_is past_is first then = record {
   any = λ b from n has so_far.
       let e : (n + i) + pause.count ≡ n + pause'.count = omega arith in
       rw (← same_pause _ _ _ _ e (sym past_is)) (then.any b from (n + i) (later_lanes i k has) (first.any b from n (first_lanes i (omega arith) has) so_far));
@@ -74,4 +74,4 @@ are_last three nominal has = record { three_line = three; nominal = nominal; wit
 -- where the source stopped, counted from a byte's first pixel
 pub stops_at : {S : Type 0} {pull : S → Pulled → S → Type 0} {b : ByteAround} {old to : DecoderState S} {pause' : Pause} (n : ℕ) (pause : Pause) →
     pause'.count ≡ n + pause.count → pause'.past ≡ pause.past → StopsAlong pull b old 8 (later n pause) to → StopsAlong pull b old 8 pause' to
-stops_at {S} {pull} {b} {old} {to} n pause count_is past_is stops = rw (← same_pause _ _ _ _ (sym count_is) (sym past_is)) stops
+stops_at n pause count_is past_is stops = rw (← same_pause _ _ _ _ (sym count_is) (sym past_is)) stops

@@ -3,8 +3,8 @@ use Rattle.std.proofs.Common.{◌≡◌, ℕ, zero, suc, ◌+◌, ◌-◌, ◌*�
 use Rattle.std.specs.Prelude.{◌==◌}
 use Rattle.std.proofs.lemmas.Bool.Decides.{nat_tests}
 use Rattle.raster_core.specs.Raster.{pixel_at, pixel_left}
-use Rattle.raster_core.specs.Lines.{Lines, adaptive, context_at}
-use Rattle.raster_core.specs.Machine.Registers.{AreAt, before, bit, past_bits}
+use Rattle.raster_core.specs.Lines.{Lines, context_at}
+use Rattle.raster_core.specs.Machine.Registers.{before, bit, past_bits}
 use Rattle.raster_core.specs.Machine.Lanes.{lane, near, own, HasFar, HasPixels}
 use Rattle.raster_core.specs.Machine.Registers.{ByteAt}
 use Rattle.raster_core.specs.Machine.Lanes.{AreBeside}
@@ -73,9 +73,8 @@ beside_moved t far second above byte past₀ has = record {
   small = λ j. omega arith;
   contexts = λ typical lines x j few b p₀.
       let past = before lines.row (x + j) 128 in
-      let r : AreAt lines (suc t) (second / 2 ^ 7 * 2 ^ j) (above / 2 ^ 6 * 2 ^ j) past (x + j) = at_registers j few b refl in
+      let r = at_registers j few b refl in
       let test : (suc t == 0) ≡ false = grind (arith, nat_tests) in
-      let adaptive_is : far * 2 ^ j / 2 ^ 7 % 2 ≡ bit (adaptive lines (suc t) (x + j)) =
-      has lines.row x j p₀ b.byte_is few ∙ ap (λ v. bit (cond v (pixel_at lines.above ((x + j) + 2)) (pixel_left lines.row (x + j) (suc t)))) (sym test) in
+      let adaptive_is = has lines.row x j p₀ b.byte_is few ∙ ap (λ v. bit (cond v (pixel_at lines.above ((x + j) + 2)) (pixel_left lines.row (x + j) (suc t)))) (sym test) in
       rw (own_before lines.row (suc t) x j few p₀ b.byte_is refl, adaptive_is) (three_line_moved r);
 }

@@ -11,11 +11,14 @@ pub mod RowBytes
 pub mod FarPixels
 pub mod Firsts
 pub mod Undecided
+pub mod RowsBegun
 pub mod RowsDone
 pub mod BytePixels
 pub mod SameRows
 pub mod White
+pub mod Counts
 pub mod Shifts
+pub mod Evens
 pub mod Packs
 pub mod Parts
 pub mod Choosing

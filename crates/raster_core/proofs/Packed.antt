@@ -24,7 +24,7 @@ get_or-numbers f k (suc n) (suc i) d h = get_or-numbers f (k + 1) n i d (omega a
 pub binary_before : (row : List Bool) (x n : ℕ) → binary (map (pixel_at row) (numbers_from x n)) ≡ before row (x + n) n
 binary_before row x zero = sym (before_zero row (x + 0))
 binary_before row x (suc n) =
-    let long : length (map (pixel_at row) (numbers_from (x + 1) n)) ≡ n = length-map (numbers_from (x + 1) n) (pixel_at row) ∙ length-numbers (x + 1) n in
+    let long = length-map (numbers_from (x + 1) n) (pixel_at row) ∙ length-numbers (x + 1) n in
     let e : (x + 1) + n ≡ x + suc n = omega arith in
     let rest : binary (map (pixel_at row) (numbers_from (x + 1) n)) ≡ before row (x + suc n) n = rw (binary_before row (x + 1) n, e) refl in
     binary_bit (pixel_at row x) (map (pixel_at row) (numbers_from (x + 1) n))
@@ -36,7 +36,7 @@ before_white row x zero h = before_zero row (x + 0)
 before_white row x (suc k) h =
     let e : x + suc k ≡ suc (x + k) = omega arith in
     let far : length row ≤ x + k = omega arith in
-    let white : pixel_at row (x + k) ≡ false = get_or-eq_default row false far in
+    let white = get_or-eq_default row false far in
     rw (e, before_suc row (x + k) k, before_white row x k h, white) refl
 
 pub packed-length : (row : List Bool) → length (packed_row row) ≡ row_bytes (length row)
@@ -81,8 +81,8 @@ byte_in {register} row i h =
 -- the byte of a row whose last n pixels are in it
 pub byte_out : {past : ℕ} (done : List Bool) (offset i n : ℕ) → past ≡ before done (length done) (past_bits offset) → length done ≡ 8 * i + n → n ≤ 8 →
     past % 256 * 2 ^ (8 - n) % 256 ≡ before done (8 * i + 8) 8
-byte_out {past} done offset i n h long few =
-    let low : past % 256 ≡ before done (length done) 8 = low_part done (length done) offset 8 h (omega arith) in
+byte_out done offset i n h long few =
+    let low = low_part done (length done) offset 8 h (omega arith) in
     let s = before_split done (length done) 8 (8 - n) in
     let white = before_white done (length done) (8 - n) (omega arith) in
     let e : length done + (8 - n) ≡ 8 * i + 8 = omega arith in
@@ -106,8 +106,8 @@ three_bytes row k =
 
 pub second_byte : (row : List Bool) → before row 8 8 * 256 + before row 16 8 ≡ before row 16 24
 second_byte row =
-    let a : before row 16 24 ≡ before row 8 16 * 256 + before row 16 8 = before_split row 8 16 8 in
-    let b : before row 8 16 ≡ before row 0 8 * 256 + before row 8 8 = before_split row 0 8 8 in
+    let a = before_split row 8 16 8 in
+    let b = before_split row 0 8 8 in
     omega (arith, a, b, before_none row 8)
 
 -- a register moves on by some pixels of the next byte

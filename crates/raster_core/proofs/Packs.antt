@@ -1,6 +1,6 @@
 -- Rows in bytes, rows in words.
 use Rattle.std.proofs.Common.{◌≡◌, ℕ, zero, suc, ◌+◌, ◌-◌, ◌*◌, ◌/◌, ◌%◌, ◌^◌, ◌<◌, ◌≤◌, Bool, true, false, List, length, refl, sym, ◌∙◌, ap, arith, map, get_or, add-zero, inl, inr, lit<, zero-add}
-use Rattle.std.specs.Prelude.{bit_or, ◌==◌, nat_lt, if◌then◌else◌}
+use Rattle.std.specs.Prelude.{bit_or, ◌==◌, if◌then◌else◌}
 use Rattle.std.proofs.lemmas.Nat.{or_shifted, pow-add, div-mul-add}
 use Rattle.std.proofs.lemmas.Nat.Bits.{ones_shl}
 use Rattle.std.proofs.Math.Nat.{mod-eq_of_lt, pow-le-pow_right, pow-suc}
@@ -23,9 +23,9 @@ pub binary_is : (p : ℕ → Bool) (a n : ℕ) → binary (map p (numbers_from a
 unfolding word
 binary_is p a zero = refl
 binary_is p a (suc n) =
-    let both : word p a (1 + n) ≡ word p a 1 * 2 ^ n + word p (a + 1) n = word_cat p a 1 n in
+    let both = word_cat p a 1 n in
     let s : 1 + n ≡ suc n = omega arith in
-    let one : bit (p a) ≡ word p a 1 = sym (ap (λ k. 0 * 2 + bit (p k)) (add-zero a) ∙ start (bit (p a))) in
+    let one = sym (ap (λ k. 0 * 2 + bit (p k)) (add-zero a) ∙ start (bit (p a))) in
     rw (binary_bit (p a) (map p (numbers_from (a + 1) n)), length-map (numbers_from (a + 1) n) p, length-numbers (a + 1) n, binary_is p (a + 1) n, one, ← both, s) refl
   where
     start : (k : ℕ) → 0 * 2 + k ≡ k
@@ -49,7 +49,7 @@ byte_is line j =
 
 -- one byte more of a word
 pub one_byte : {w b : ℕ} (p : ℕ → Bool) (a k : ℕ) → k + 8 ≤ 64 → w ≡ word p a k → b ≡ word p (a + k) 8 → bit_or (w * 2 ^ 8 % 2 ^ 64) b ≡ word p a (k + 8)
-one_byte {b = b} p a k h e f =
+one_byte p a k h e f =
     rw (e, mod-eq_of_lt (fits (word p a k) k (word_lt p a k) h), f, or_shifted (word p a k) 8 (word p (a + k) 8) (word_lt p (a + k) 8)) (sym (word_cat p a k 8))
   where
     fits : (x n : ℕ) → x < 2 ^ n → n + 8 ≤ 64 → x * 2 ^ 8 < 2 ^ 64
@@ -68,7 +68,7 @@ byte_led line place i b h lt e =
     here : (j : ℕ) → pixel_at line (8 * (8 * (place - 2) + i) + j) ≡ led line (64 * place + 8 * i + j)
     here j =
         let e : 64 * place + 8 * i + j - 128 ≡ 8 * (8 * (place - 2) + i) + j = omega arith in
-        let t : nat_lt (64 * place + 8 * i + j) 128 ≡ false = is_not_lt (64 * place + 8 * i + j) 128 (omega arith) in
+        let t = is_not_lt (64 * place + 8 * i + j) 128 (omega arith) in
         ap (pixel_at line) (sym e) ∙ sym (ap (λ b. if b then false else pixel_at line (64 * place + 8 * i + j - 128)) t)
 
 pub led_white : (line : List Bool) (place : ℕ) → place < 2 → 0 ≡ word (led line) (64 * place) 64
@@ -85,9 +85,9 @@ black : (p : ℕ → Bool) (a n : ℕ) → ((i : ℕ) → i < n → p (a + i) �
 unfolding word
 black p a zero h = refl
 black p a (suc n) h =
-    let rest : word p a n + 1 ≡ 2 ^ n = black p a n (λ i lt. h i (omega arith)) in
+    let rest = black p a n (λ i lt. h i (omega arith)) in
     let last : bit (p (a + n)) ≡ 1 = ap bit (h n (omega arith)) in
-    let up : 2 ^ suc n ≡ 2 ^ n * 2 = pow-suc 2 n in
+    let up = pow-suc 2 n in
     omega arith
 
 inside : (w x : ℕ) → x < w → is_within w x ≡ true
@@ -98,7 +98,7 @@ outside w x h = grind (arith, nat_tests)
 
 pub mask_full : (w a : ℕ) → a + 64 ≤ w → 2 ^ 64 - 1 ≡ word (is_within w) a 64
 mask_full w a h =
-    let e : word (is_within w) a 64 + 1 ≡ 2 ^ 64 = black (is_within w) a 64 (λ i lt. inside w (a + i) (omega arith)) in
+    let e = black (is_within w) a 64 (λ i lt. inside w (a + i) (omega arith)) in
     omega arith
 
 pub mask_none : (w a : ℕ) → w ≤ a → 0 ≡ word (is_within w) a 64
@@ -106,13 +106,12 @@ mask_none w a h = sym (white (is_within w) a 64 (λ i lt. outside w (a + i) (ome
 
 pub mask_part : (w a : ℕ) → a < w → w < a + 64 → (2 ^ 64 - 1) * 2 ^ (64 - (w - a)) % 2 ^ 64 ≡ word (is_within w) a 64
 mask_part w a h k =
-    let cat : word (is_within w) a ((w - a) + (64 - (w - a))) ≡ word (is_within w) a (w - a) * 2 ^ (64 - (w - a)) + word (is_within w) (a + (w - a)) (64 - (w - a)) =
-    word_cat (is_within w) a (w - a) (64 - (w - a)) in
-    let ones : word (is_within w) a (w - a) + 1 ≡ 2 ^ (w - a) = black (is_within w) a (w - a) (λ i lt. inside w (a + i) (omega arith)) in
-    let none : word (is_within w) (a + (w - a)) (64 - (w - a)) ≡ 0 = white (is_within w) (a + (w - a)) (64 - (w - a)) (λ i lt. outside w (a + (w - a) + i) (omega arith)) in
+    let cat = word_cat (is_within w) a (w - a) (64 - (w - a)) in
+    let ones = black (is_within w) a (w - a) (λ i lt. inside w (a + i) (omega arith)) in
+    let none = white (is_within w) (a + (w - a)) (64 - (w - a)) (λ i lt. outside w (a + (w - a) + i) (omega arith)) in
     let n : (w - a) + (64 - (w - a)) ≡ 64 = omega arith in
     let all : 2 ^ (w - a) * 2 ^ (64 - (w - a)) ≡ 2 ^ 64 = rw (← pow-add, n) refl in
-    let shl : (2 ^ 64 - 1) * 2 ^ (64 - (w - a)) % 2 ^ 64 ≡ 2 ^ 64 - 2 ^ (64 - (w - a)) = ones_shl 64 (64 - (w - a)) (omega arith) in
+    let shl = ones_shl 64 (64 - (w - a)) (omega arith) in
     rw (shl, collected (2 ^ (w - a)) (2 ^ (64 - (w - a))) (word (is_within w) a (w - a)) (2 ^ 64) all ones, ← none, ← cat, n) refl
   where
     collected : (d s x m : ℕ) → d * s ≡ m → x + 1 ≡ d → m - s ≡ x * s + 0
@@ -124,7 +123,7 @@ mask_part w a h k =
 
 upper : (q : ℕ → Bool) (g n s : ℕ) → s ≤ n → word q g n / 2 ^ s ≡ word q g (n - s)
 upper q g n s h =
-    let e : word q g ((n - s) + s) ≡ word q g (n - s) * 2 ^ s + word q (g + (n - s)) s = word_cat q g (n - s) s in
+    let e = word_cat q g (n - s) s in
     let m : (n - s) + s ≡ n = omega arith in
     ap (λ k. word q g k / 2 ^ s) (sym m) ∙ ap (λ x. x / 2 ^ s) e ∙ div-mul-add (word q g (n - s)) (2 ^ s) (word q (g + (n - s)) s) (word_lt q (g + (n - s)) s)
 

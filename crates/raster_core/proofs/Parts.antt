@@ -9,7 +9,7 @@ use Rattle.raster_core.specs.Raster.{pixel_at, pixel_left}
 use Rattle.raster_core.specs.Lines.{Lines, adaptive, numbers_from}
 use Rattle.raster_core.specs.Offset.{agreements, agreement}
 use Rattle.raster_core.specs.Machine.Words.{led, is_within, agreed_from, part_agreement, pixels_from}
-use Rattle.raster_core.proofs.Shifts.{count_same, count_cat, shifted}
+use Rattle.raster_core.proofs.Counts.{count_same, count_cat, shifted}
 use Rattle.std.proofs.lemmas.Bool.{cases_lt}
 
 pub is_lt : (x y : ℕ) → x < y → nat_lt x y ≡ true
@@ -42,7 +42,7 @@ adaptive_left lines lag x h =
     rw test refl
 
 three : {a a' b b' c c' : Bool} → a ≡ a' → b ≡ b' → c ≡ c' → a && same b c ≡ (a' && same b' c')
-three {a} {a'} {b} {b'} {c} {c'} e f g = rw (e, f, g) refl
+three e f g = rw (e, f, g) refl
 
 pub row_part : (lines : Lines) (width lag k n : ℕ) → 1 ≤ lag → lag ≤ 127 →
     agreed_from (pixels_from (led lines.row) (64 * k + 128)) (pixels_from (led lines.row) (64 * k + 128 - lag)) (pixels_from (is_within width) (64 * k)) n ≡ part_agreement lines width lag (64 * k) n
@@ -134,7 +134,7 @@ all_push P (r ∷ rows) lines h p = (h.0, all_push P rows lines h.1 p)
 
 pub length_push : (rows : List Lines) (lines : Lines) → length (rows ++ lines ∷ []) ≡ length rows + 1
 length_push [] lines = refl
-length_push (r ∷ rows) lines = let e : length (rows ++ lines ∷ []) ≡ length rows + 1 = length_push rows lines in omega arith
+length_push (r ∷ rows) lines = let e = length_push rows lines in omega arith
 
 -- ---- a pixel more
 

@@ -14,7 +14,7 @@ abbrev pub three : ℕ → List ℕ → List ℕ → List ℕ → Held
 three width current above second = record { width = width; current = current; above = above; second = second }
 
 pub same_rows : {c a s c' a' s' : List ℕ} (width : ℕ) → c ≡ c' → a ≡ a' → s ≡ s' → three width c a s ≡ three width c' a' s'
-same_rows {c} {a} {s} {c'} {a'} {s'} width e f g = rw (e, f, g) refl
+same_rows width e f g = rw (e, f, g) refl
 
 -- bytes with another row in place of the one at p
 abbrev with_row : ℕ → ℕ → List ℕ → List ℕ → List ℕ

@@ -88,7 +88,7 @@ fails_first ys h = record { events = h.events; rest = h.rest ++ ys; all_are = rw
 -- ---- no event
 
 pub puts_none : {S : Type 0} {sink : Ghosts S} {c : Coder S} → Puts sink [] c c (Ok tt)
-puts_none {c = c} = record {
+puts_none = record {
   lends = record { learned_is = refl; encoder_is = refl; out_is = refl };
   count = omega arith;
   same = refl;
@@ -113,7 +113,7 @@ puts_join {S} {sink} {a} {b} {c} {xs} {ys} {result} h k =
       same = unfailed result k.same;
       stuck = λ t.
           let was = h.stuck t in
-          let none : xs ≡ [] = none_of xs was.0 in
+          let none = none_of xs was.0 in
           let then = k.stuck (rw (was.1.encoder_is) t) in (
             then.0 ∙ ap (λ zs. failed_answer (zs ++ ys)) (sym none),
             record { learned_is = then.1.learned_is ∙ was.1.learned_is; encoder_is = then.1.encoder_is ∙ was.1.encoder_is; out_is = then.1.out_is ∙ was.1.out_is },
@@ -156,13 +156,13 @@ puts_join {S} {sink} {a} {b} {c} {xs} {ys} {result} h k =
 -- a failure that `?` hands on
 pub puts_handed : {S : Type 0} {sink : Ghosts S} {a b : Coder S} {xs : List Event} {f : CoderFault} {result : Result (Unit {0}) CoderFault} →
     IsErr result × IsErrAnd result (λ e. e ≡ f) → Puts sink xs a b (Err f) → Puts sink xs a b result
-puts_handed {S} {sink} {a} {b} {xs} {f} {result = Ok x} is h = absurd (no_err x is.0)
-puts_handed {S} {sink} {a} {b} {xs} {f} {result = Err e} is h = rw (is.1) h
+puts_handed {result = Ok x} is h = absurd (no_err x is.0)
+puts_handed {result = Err e} is h = rw (is.1) h
 
 -- it comes before all that was to follow
 pub puts_stop : {S : Type 0} {sink : Ghosts S} {a b : Coder S} {xs : List Event} {f : CoderFault} {result : Result (Unit {0}) CoderFault} (ys : List Event) →
     IsErr result × IsErrAnd result (λ e. e ≡ f) → Puts sink xs a b (Err f) → Puts sink (xs ++ ys) a b result
-puts_stop {S} {sink} {a} {b} {xs} {f} {result} ys is h = puts_handed is (record {
+puts_stop {xs = xs} {f} ys is h = puts_handed is (record {
   lends = h.lends;
   count = tt;
   same = tt;
@@ -180,13 +180,13 @@ puts_stop {S} {sink} {a} {b} {xs} {f} {result} ys is h = puts_handed is (record 
 
 -- the same for other lists
 pub puts_as : {S : Type 0} {sink : Ghosts S} {a b : Coder S} {xs ys : List Event} {result : Result (Unit {0}) CoderFault} → xs ≡ ys → Puts sink xs a b result → Puts sink ys a b result
-puts_as {S} {sink} {a} {b} {xs} {ys} {result} e h = rw (← e) h
+puts_as e h = rw (← e) h
 
 -- ---- a run in one step
 
 -- a try that left all as it was
 pub puts_idle : {S : Type 0} {sink : Ghosts S} {a b c : Coder S} {xs : List Event} → IsSameLoan b c → IsUnchanged b c → Puts sink xs a b (Ok tt) → Puts sink xs a c (Ok tt)
-puts_idle {sink = sink} {c = c} {xs} loan same h = puts_as (append-nil xs) (puts_join {ys = []} {result = Ok tt} h (record {
+puts_idle {xs = xs} loan same h = puts_as (append-nil xs) (puts_join {ys = []} {result = Ok tt} h (record {
   lends = loan;
   count = let e = ap event_count same.encoder_is in omega arith;
   same = rw (same.out_is) refl;

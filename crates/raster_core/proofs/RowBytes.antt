@@ -19,7 +19,7 @@ use Rattle.raster_core.proofs.Packed.{packed_byte, packed_is, byte_in, byte_out}
 -- a register takes the next byte of its row in
 pub register_in : {bytes : List ℕ} {register : ℕ} (row : List Bool) (i : ℕ) → bytes ≡ packed_row row → register ≡ before row (8 * i + 8) 24 →
     register % 65536 * 256 + slice_index bytes (i + 1) ≡ before row (8 * (i + 1) + 8) 24
-register_in {bytes} {register} row i h r =
+register_in {bytes} row i h r =
     let e : slice_index bytes (i + 1) ≡ before row (8 * (i + 1) + 8) 8 = rw h (packed_byte row (i + 1)) in
     rw e (byte_in row i r)
 
@@ -37,7 +37,7 @@ pub bytes_next : {S : Type 0} {pull : S → Pulled → S → Type 0} {a : RowAro
     b.left ≡ width - 8 * b.i → 8 * b.i < width → b.i < length b.current → n ≡ min b.left 8 → byte ≡ past' % 256 * 2 ^ (8 - n) % 256 →
     BytesAlong pull a part width b mid → Along pull (next_around a b) mid n past' to →
     BytesAlong pull a part width (bytes_at (b.left - n) (b.i + 1) (next_around a b).second (next_around a b).above past' (slice_set b.current b.i byte)) to
-bytes_next {S} {pull} {a} {part} {width} {n} {byte} {past'} {b} left_is inside within n_is byte_is along byte_along = record {
+bytes_next {a = a} {n = n} {byte} {b = b} left_is inside within n_is byte_is along byte_along = record {
   any = λ from first s answers lines done₀ had so_far a_is s_is.
       let f = along.any from first s answers lines done₀ had so_far a_is s_is in
       let r2 = register_in lines.second b.i s_is f.second_is in
@@ -47,7 +47,7 @@ bytes_next {S} {pull} {a} {part} {width} {n} {byte} {past'} {b} left_is inside w
       let m = byte_along.any from first s answers lines f.done f.so_far
       (subst (λ z. (next_around a b).second ≡ before lines.second z 24) at r2) (subst (λ z. (next_around a b).above ≡ before lines.above z 24) at r1) in
       let count = m.count in
-      let long : length (f.done ++ m.pixels) ≡ length f.done + length m.pixels = length-append f.done m.pixels in
+      let long = length-append f.done m.pixels in
       let here : byte ≡ before (f.done ++ m.pixels) (8 * b.i + 8) 8 = byte_is ∙ byte_out (f.done ++ m.pixels) a.offset b.i n m.so_far.past_is (omega arith) (omega arith) in
       record {
         done = f.done ++ m.pixels;
@@ -64,7 +64,7 @@ pub bytes_stop : {S : Type 0} {pull : S → Pulled → S → Type 0} {a : RowAro
     b.left ≡ width - 8 * b.i → 8 * b.i < width → n ≡ min b.left 8 → place.is_begun ≡ true → place.done ≡ 8 * b.i + pause.count → place.past ≡ pause.past →
     BytesAlong pull a part width b mid → StopsAlong pull (next_around a b) mid n pause to →
     RowStops pull a part width (record { place = place; current = b.current; state = to })
-bytes_stop {S} {pull} {a} {part} {width} {b} n left_is inside n_is begun_is done_is past_is along stops = record {
+bytes_stop {a = a} {b = b} n left_is inside n_is begun_is done_is past_is along stops = record {
   any = λ from first s answers lines done₀ had so_far a_is s_is.
       let f = along.any from first s answers lines done₀ had so_far a_is s_is in
       let r2 = register_in lines.second b.i s_is f.second_is in
@@ -75,7 +75,7 @@ bytes_stop {S} {pull} {a} {part} {width} {b} n left_is inside n_is begun_is done
       (subst (λ z. (next_around a b).second ≡ before lines.second z 24) at r2) (subst (λ z. (next_around a b).above ≡ before lines.above z 24) at r1) in
       let few = m.few in
       let many = m.many in
-      let long : length (f.done ++ m.pixels) ≡ length f.done + length m.pixels = length-append f.done m.pixels in
+      let long = length-append f.done m.pixels in
       record {
         begun = begun_is;
         done = f.done ++ m.pixels;
@@ -102,12 +102,12 @@ pub byte_ended : {S : Type 0} {pull : S → Pulled → S → Type 0} {a : RowAro
     byte ≡ past' % 256 * 2 ^ ((8 - part.place.done % 8) - n) % 256 → place.done ≡ part.place.done + n → place.past ≡ past' →
     Along pull (byte_around a.mode a.offset second above part.place.past) part.state n past' to →
     ByteEnds pull a part (record { place = place; current = slice_set part.current (part.place.done / 8) byte; state = to })
-byte_ended {S} {pull} {a} {part} {second} {above} {n} {byte} {past'} {place} {to} round begun few inside byte_is done_is past_is along = record {
+byte_ended {a = a} {part} {n = n} {byte} round begun few inside byte_is done_is past_is along = record {
   any = λ from first s answers lines done had so_far a_is s_is.
       let count = had.count in
       let x = part.place.done in
       let m = along.any from first s answers lines done so_far (rw (← count) (round.second_is lines.second s_is)) (rw (← count) (round.above_is lines.above a_is)) in
-      let long : length (done ++ m.pixels) ≡ length done + length m.pixels = length-append done m.pixels in
+      let long = length-append done m.pixels in
       let many = m.count in
       let i : ℕ = x / 8 in
       let shift : (8 - x % 8) - n ≡ 8 - (x % 8 + n) = omega arith in
@@ -129,11 +129,11 @@ pub byte_stopped : {S : Type 0} {pull : S → Pulled → S → Type 0} {a : RowA
     n ≤ 8 - part.place.done % 8 → part.place.done + n ≤ width → place.is_begun ≡ true → place.done ≡ part.place.done + pause.count → place.past ≡ pause.past →
     StopsAlong pull (byte_around a.mode a.offset second above part.place.past) part.state n pause to →
     RowStops pull a part width (record { place = place; current = part.current; state = to })
-byte_stopped {S} {pull} {a} {part} {second} {above} round few within begun_is done_is past_is stops = record {
+byte_stopped round few within begun_is done_is past_is stops = record {
   any = λ from first s answers lines done had so_far a_is s_is.
       let count = had.count in
       let m = stops.any from first s answers lines done so_far (rw (← count) (round.second_is lines.second s_is)) (rw (← count) (round.above_is lines.above a_is)) in
-      let long : length (done ++ m.pixels) ≡ length done + length m.pixels = length-append done m.pixels in
+      let long = length-append done m.pixels in
       let many = m.many in
       let less = m.few in
       record {
@@ -153,10 +153,10 @@ byte_stopped {S} {pull} {a} {part} {second} {above} round few within begun_is do
 -- a row that ended with a byte, or with its last pixel
 pub ended_row : {S : Type 0} {pull : S → Pulled → S → Type 0} {a : RowAround} {part part' : RowPart S} {width : ℕ} → part'.place.done ≡ width → length part'.current ≡ div_ceil width 8 →
     ByteEnds pull a part part' → RowAlong pull a part width part'.current part'.state
-ended_row {part' = part'} {width} all long ends = record {
+ended_row {part' = part'} all long ends = record {
   any = λ from first s answers lines done had so_far a_is s_is.
       let e = ends.any from first s answers lines done had so_far a_is s_is in
-      let wide : length e.done ≡ width = sym e.count ∙ all in
+      let wide = sym e.count ∙ all in
       record {
         row = e.done;
         wide = wide;

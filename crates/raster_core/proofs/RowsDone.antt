@@ -1,9 +1,9 @@
 -- The ends of decoding a row, or a part of it.
 use Rattle.std.proofs.Common.{◌≡◌, ℕ, ◌≤◌, Bool, true, false, List, [], ◌∷◌, ◌++◌, length, refl, sym, ◌∙◌, arith, subst, Ok, Err}
-use Rattle.std.specs.Prelude.{Result, IsErr, IsTrue, ◌↔◌, not}
+use Rattle.std.specs.Prelude.{Result, IsErr, IsTrue, ◌↔◌}
 use Rattle.std.proofs.lemmas.List.{append-nil}
 use Rattle.qm_core.specs.Place.{Place, Estimate}
-use Rattle.qm_core.specs.Source.{SourceAt, before_fault, source_at}
+use Rattle.qm_core.specs.Source.{SourceAt, before_fault}
 use Rattle.qm_core.specs.Decoder.{DecoderIsAt, DecoderState, has_stopped, decoder_state}
 use Rattle.qm_core.specs.declared.source.Pulled.{Pulled}
 use Rattle.qm_core.specs.declared.decoder.Decoder.{Decoder}
@@ -15,36 +15,18 @@ use Rattle.raster_core.specs.Packed.{packed_row, Held, HasLines, with_current}
 use Rattle.raster_core.specs.Events.{Decodes}
 use Rattle.raster_core.specs.Machine.Decoded.{with_row, RowPaused, RowPixels}
 use Rattle.raster_core.specs.Row.{RowTask, RowLeft, row_left, task_events, plain_row_of, FirstDecoded, FirstStopped}
-use Rattle.raster_core.specs.Row.{RowIs, IsRowStart, HasAbove, StandsInPixels, StandsInRow, RowBegins, RowGoesOn, RowPasses}
+use Rattle.raster_core.specs.Row.{RowIs, IsRowStart, HasAbove, StandsInRow, RowGoesOn, RowPasses}
 use Rattle.raster_core.specs.declared.place.RowPlace.{RowPlace}
 use Rattle.raster_core.specs.declared.shape.Kept.{Kept}
-use Rattle.raster_core.specs.Machine.Registers.{past_bits}
-use Rattle.raster_core.proofs.Before.{before_none}
 use Rattle.raster_core.proofs.Joins.{bytes_before}
 use Rattle.raster_core.proofs.SameRows.{same_row_self}
-use Rattle.raster_core.proofs.SkipsAlong.{not_stopped}
+use Rattle.raster_core.proofs.RowsBegun.{both}
 use Rattle.raster_core.proofs.Undecided.{undecided_first, undecided_row}
 
 -- ---- small facts
 
 not_err : (x : Unit {0}) → IsErr {T = Unit {0}} {E = Stop} (Ok x) → ⊥
 not_err x h = cc
-
-both : {A : Type 0} (b : Bool) → b ≡ false → b ≡ true → A
-both b e f = absurd (let e : false ≡ true = sym e ∙ f in let bot : ⊥ = cc in bot)
-
--- whether some of them are decoded or not
-pub by_begun : (b : Bool) (P : Type 0) → (b ≡ true → P) → (b ≡ false → P) → P
-by_begun true P yes' no' = yes' refl
-by_begun false P yes' no' = no' refl
-
-pub not_true : (b : Bool) → not b ≡ true → b ≡ false
-not_true true h = cc
-not_true false h = refl
-
-pub not_false : (b : Bool) → not b ≡ false → b ≡ true
-not_false true h = refl
-not_false false h = cc
 
 -- ---- the rows above
 
@@ -58,49 +40,6 @@ above_lines h = record { above_is = h.above_is; second_is = h.second_is; above_w
 lines_below : {w : Held} {current : List ℕ} {lines : Lines} (row : List Bool) → HasAbove (with_current w current) lines → w.current ≡ packed_row row → length row ≡ w.width →
     HasLines w (with_row lines row)
 lines_below row h packed wide = record { row_is = packed; above_is = h.above_is; second_is = h.second_is; row_wide = wide; above_wide = h.above_wide; second_wide = h.second_wide }
-
--- ---- before a row's pixels
-
--- a row before which its source stood so
-pub fresh_row : {task : RowTask} {place : RowPlace} {answers : List Pulled} {w : Held} {d : Decoder} → IsRowStart place → DecoderIsAt d task.state.place answers → HasAbove w task.lines →
-    StandsInRow task place answers w task.state.learned d
-fresh_row {place = place} start stands above =
-    record { above = above; before_it = λ _. record { start = start; stands = stands; taught = refl }; in_it = both place.is_begun start.is_begun }
-
-pub begin_pixels : {S : Type 0} {old : SourceAt S} {task : RowTask} {place : RowPlace} {window : Held} {flag : Bool} {new : DecoderState S} →
-    IsRowStart place → (flag ≡ true → task.shape.typical ≡ true) → FirstDecoded old (shape_mode task.shape) task.kept.previous_typical flag task.state new →
-    RowBegins old task place window flag new
-begin_pixels {S} {old} {task} {place} {window} {flag} {new} start typical f =
-    let past_is = start.past ∙ sym (before_none [] (past_bits task.kept.offset)) in
-    record {
-      plain = λ e.
-          let g = rw e at f in
-          ([], record { count = start.done; past_is = past_is; bytes = λ k h. absurd (omega arith) }, record { past_is = past_is; more = g.more; decodes = rw append-nil g.decodes });
-      typical = λ e. (typical e, rw e at f);
-    }
-
--- some of them are decoded
-pub begun_pixels : {S : Type 0} {pull : S → Pulled → S → Type 0} {task : RowTask} {place : RowPlace} {answers : List Pulled} {window : Held} {new : DecoderState S} →
-    has_stopped new.decoder ≡ false → StandsInPixels task place answers window new.learned new.decoder → RowBegins (source_at pull new.source answers) task place window false new
-begun_pixels {answers = answers} going h =
-    record {
-      plain = λ _. (
-        h.done,
-        h.held,
-        record {
-          past_is = h.held.past_is;
-          more = [];
-          decodes = record {
-            gives = refl;
-            stands = rw append-nil h.stands;
-            taught = h.taught;
-            enough = λ _. rw append-nil h.enough;
-            going = λ e. absurd (not_stopped _ _ answers h.stands going (rw append-nil at e));
-          };
-        },
-      );
-      typical = both false refl;
-    }
 
 -- ---- the source stopped
 

@@ -34,7 +34,7 @@ before_after xs ys x zero h = before_zero (xs ++ ys) (length xs + x) ∙ sym (be
 before_after xs ys zero (suc n) h = absurd (omega arith)
 before_after xs ys (suc x) (suc n) h =
     let e : length xs + suc x ≡ suc (length xs + x) = omega arith in
-    let at : pixel_at (xs ++ ys) (length xs + x) ≡ pixel_at ys x = get_or-append-add xs ys x false in
+    let at = get_or-append-add xs ys x false in
     rw (e, before_suc, before_suc, before_after xs ys x n (omega arith), at) refl
 
 row_in_is : (bytes : List ℕ) (k : ℕ) → before (row_in bytes) (8 * k + 8) 8 ≡ slice_index bytes k % 256
@@ -72,7 +72,7 @@ first_read {row} is at small = read_byte 0 is at small ∙ first_byte row
 
 pub next_read : {row : List Bool} {bytes : List ℕ} {register v : ℕ} (i : ℕ) → IsIn row bytes → register ≡ before row (8 * i + 8) 24 → v ≡ slice_index bytes (i + 1) → v < 256 →
     register % 65536 * 256 + v ≡ before row (8 * i + 16) 24
-next_read {row} {bytes} {register} {v} i is h at small =
+next_read {row} i is h at small =
     let e : 8 * (i + 1) + 8 ≡ 8 * i + 16 = omega arith in
     rw (read_byte (i + 1) is at small, byte_in row i h, e) refl
 
@@ -116,8 +116,7 @@ same_to b lines i (suc n) small at past few =
     let pixel : pixel_at own (128 + n) ≡ pixel_at lines.row (8 * i + n) = sym (pixel_of_byte b n small (omega arith)) ∙ there in
     let one_more : before own ((128 + n) + 1) w ≡ before lines.row ((8 * i + n) + 1) w =
     rw (← past_on own b.around.template.offset (128 + n) refl, pixel) (past_on lines.row b.around.template.offset (8 * i + n) m.past) in
-    let context : context_by b.around.template (byte_lines b) (128 + n) ≡ context_by b.around.template lines (8 * i + n) =
-    context_same b.around.template
+    let context = context_same b.around.template
     (at_registers n (omega arith) (holds b small) refl)
     (at_registers n (omega arith) at m.past) in
     record {
@@ -176,10 +175,10 @@ run_events {a} {rows} {i} {n} {colour} h only uniform =
 -- ---- other names of the same template
 
 pub stands_as : {a : Around} {t u : Template} {lines : Lines} {i : ℕ} → t ≡ u → StandsAt a t lines i → StandsAt a u lines i
-stands_as {a} {lines = lines} {i} e h = rw (← e) h
+stands_as e h = rw (← e) h
 
 pub byte_as : {b : RowByte} {t u : Template} {lines : Lines} {i : ℕ} → t ≡ u → IsByte b t lines i → IsByte b u lines i
-byte_as {b} {lines = lines} {i} e h = rw (← e) h
+byte_as e h = rw (← e) h
 
 -- a byte's events after those of the bytes before it, of which n are the last
 pub byte_on : {b : RowByte} {t u : Template} {lines : Lines} {i : ℕ} (n k : ℕ) → b.byte < 256 → IsByte b u lines i → u ≡ t → n ≤ 8 → 8 * i + n ≡ k →
@@ -190,7 +189,7 @@ byte_on {b} {t} {u} {lines} {i} n k small is template few size =
 -- no byte at all
 pub no_run : {S : Type 0} {sink : Ghosts S} {a : Around} {rows : Rows} {i : ℕ} {c : Coder S} → 8 * i < rows.width → StandsAt a a.template (lines_in rows) i →
     ((colour : Bool) → RemembersOnly colour a → StopsAt colour rows i c) → PassesRun sink a (byte_range rows i 0) c c
-no_run {sink = sink} {a} {rows} {i} {c} inside stands stops =
+no_run {a = a} {rows} {i} inside stands stops =
     let same : i ≡ i + 0 = omega arith in
     record {
       inside = omega arith;

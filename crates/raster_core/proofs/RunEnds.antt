@@ -25,21 +25,21 @@ no_word none = record { no_room = λ more uniform. absurd (let e = none more uni
 pub ends_above : {S : Type 0} {colour : Bool} {rows : Rows} {i : ℕ} {c : Coder S} {result : Bool} (left : ℕ) → left + 8 * i ≡ rows.width →
     (64 < left → i + 9 ≤ length rows.above.now → i + 9 ≤ length rows.second.now → AreFilled colour rows.above.now (i + 1) 8 → AreFilled colour rows.second.now (i + 1) 8 → result ≡ true) →
     result ≡ false → StopsAt colour rows i c
-ends_above {colour = colour} {rows} {i} {c} left size all is = no_word (λ more uniform.
+ends_above {rows = rows} {i} left size all is = no_word (λ more uniform.
     sym (all (omega arith) (nine_more i rows.above_long more) (nine_more i rows.second_long more) uniform.above_filled uniform.second_filled) ∙ is)
 
 -- they are of another colour themselves
 pub ends_below : {S : Type 0} {colour : Bool} {rows : Rows} {i : ℕ} {c : Coder S} {result : Bool} →
     (i + 8 ≤ length rows.current.now → AreFilled colour rows.current.now i 8 → result ≡ true) → result ≡ false → StopsAt colour rows i c
-ends_below {colour = colour} {rows} {i} {c} all is = no_word (λ more uniform.
-    let long : i + 9 ≤ length rows.current.now = nine_more i rows.long more in
+ends_below {rows = rows} {i} all is = no_word (λ more uniform.
+    let long = nine_more i rows.long more in
     sym (all (omega arith) uniform.row_filled) ∙ is)
 
 -- the coder did not take them
 pub ends_full : {S : Type 0} {colour : Bool} {rows : Rows} {i : ℕ} {c c' : Coder S} {result : Bool} →
     ((p : Place) (pushed : List ℕ) → has_failed c.encoder.now ≡ false → EncoderIsAt c.encoder.now p pushed → result ≡ has_room (state_at c p) (uniform_event colour) 64) →
     result ≡ false → IsUnchanged c c' → StopsAt colour rows i c'
-ends_full {colour = colour} exact is same = record {
+ends_full exact is same = record {
   no_room = λ more uniform p pushed going at.
       let e = exact p pushed (rw (← same.encoder_is) going) (subst (λ e. EncoderIsAt e p pushed) same.encoder_is at) in
       rw (same.learned_is, ← e) is;
@@ -53,7 +53,7 @@ colour_is {colour = true} only = ap colour_of only.above_is
 colour_is {colour = false} only = ap colour_of only.above_is
 
 pub ends_alike : {S : Type 0} {colour : Bool} {a : Around} {rows : Rows} {i : ℕ} {c : Coder S} → StopsAt (colour_of a.above) rows i c → RemembersOnly colour a → StopsAt colour rows i c
-ends_alike {colour = colour} {a} {rows} {i} {c} h only = rw (← colour_is only) h
+ends_alike h only = rw (← colour_is only) h
 
 -- the two rows above are not alike
 pub ends_unlike : {S : Type 0} {colour : Bool} {a : Around} {rows : Rows} {i : ℕ} {c : Coder S} → (a.second ≡ a.above → ⊥) → RemembersOnly colour a → StopsAt colour rows i c
@@ -62,7 +62,7 @@ ends_unlike unlike only = absurd (unlike (only.second_is ∙ sym only.above_is))
 -- the next byte is of another colour
 pub ends_other : {S : Type 0} {colour : Bool} {a : Around} {rows : Rows} {i : ℕ} {c : Coder S} → (slice_index rows.current.now i ≡ bit (colour_of a.above) * 255 → ⊥) → RemembersOnly colour a →
     StopsAt colour rows i c
-ends_other {colour = colour} {a} {rows} {i} {c} other only =
+ends_other {rows = rows} {i} other only =
     let here : i + 0 ≡ i = omega arith in
     no_word (λ more uniform.
     absurd (other (ap (λ k. slice_index rows.current.now k) (sym here) ∙ (uniform.row_filled 0 (omega arith) ∙ ap (λ k. bit k * 255) (sym (colour_is only))))))
@@ -71,7 +71,7 @@ ends_other {colour = colour} {a} {rows} {i} {c} other only =
 pub ends_mixed : {S : Type 0} {colour : Bool} {a : Around} {rows : Rows} {i : ℕ} {c : Coder S} {result : Bool} →
     (a.second ≡ filled (colour_of a.above) 24 → a.above ≡ filled (colour_of a.above) 24 → a.past ≡ filled (colour_of a.above) (past_bits a.template.offset) → result ≡ true) →
     result ≡ false → RemembersOnly colour a → StopsAt colour rows i c
-ends_mixed {colour = colour} {a} {result = result} all is only =
+ends_mixed {a = a} all is only =
     let same : RemembersOnly (colour_of a.above) a = rw (colour_is only) only in
-    let e : result ≡ true = all same.second_is same.above_is same.past_is in
+    let e = all same.second_is same.above_is same.past_is in
     absurd (cc)

@@ -41,7 +41,7 @@ stopped_bytes (Fault ∷ xs) h = let r = few xs in omega arith
 pub enough_more : (events : List Event) (m n : ℕ) (s : State) → m ≤ n → AreEnough m s events → AreEnough n s events
 enough_more [] m n s l h = tt
 enough_more (e ∷ events) m n s l h =
-    let a : wanted_bytes s.place.doublings ≤ m = h.0 in
+    let a = h.0 in
     (omega arith, enough_more events m n (step s e.context e.pixel) l h.1)
 
 pub enough_append : (xs ys : List Event) (n : ℕ) (s : State) → AreEnough n s xs → AreEnough n (after s xs) ys → AreEnough n s (xs ++ ys)
@@ -80,24 +80,22 @@ pub decodes_next : {S : Type 0} {pull : S → Pulled → S → Type 0} {from : S
     Next (source_at pull mid.source (answers ++ more)) (record { place = (after s events).place; learned = mid.learned }) cx to (Ok pixel) →
     (more' : List Pulled) × Decodes (source_at pull from answers) s more' (events ++ record { context = cx; pixel = pixel } ∷ []) to
 decodes_next {S} {pull} {from} {mid} {to} {s} {answers} {more} {events} {cx} {pixel} h n =
-    let at : Next (source_at pull mid.source (answers ++ more)) (after s events) cx to (Ok pixel) =
-    subst (λ l. Next (source_at pull mid.source (answers ++ more)) (record { place = (after s events).place; learned = l }) cx to (Ok pixel)) h.taught n in
-    let last : after s (events ++ record { context = cx; pixel = pixel } ∷ []) ≡ step (after s events) cx pixel = after_append s events (record { context = cx; pixel = pixel } ∷ []) in
+    let at = subst (λ l. Next (source_at pull mid.source (answers ++ more)) (record { place = (after s events).place; learned = l }) cx to (Ok pixel)) h.taught n in
+    let last = after_append s events (record { context = cx; pixel = pixel } ∷ []) in
     (more ++ at.more, parts at last)
   where
     parts : (at : Next (source_at pull mid.source (answers ++ more)) (after s events) cx to (Ok pixel)) →
         after s (events ++ record { context = cx; pixel = pixel } ∷ []) ≡ step (after s events) cx pixel →
         Decodes (source_at pull from answers) s (more ++ at.more) (events ++ record { context = cx; pixel = pixel } ∷ []) to
     parts at last =
-        let assoc : (answers ++ more) ++ at.more ≡ answers ++ (more ++ at.more) = append_assoc answers more at.more in
+        let assoc = append_assoc answers more at.more in
         record {
           gives = Gives-append pull from mid.source to.source more at.more h.gives at.gives;
           stands = rw (last, ← assoc) at.stands;
           taught = rw last at.taught;
           enough = λ going.
               let going' : heard_of ((answers ++ more) ++ at.more) ≡ More = rw assoc going in
-              let size : length (bytes_of ((answers ++ more) ++ at.more)) ≡ wanted_bytes (after s events).place.doublings =
-              length-bytes_of ((answers ++ more) ++ at.more) going' ∙ at.asked.enough going' in
+              let size = length-bytes_of ((answers ++ more) ++ at.more) going' ∙ at.asked.enough going' in
               let bytes : length (bytes_of ((answers ++ more) ++ at.more)) ≡ length (bytes_of (answers ++ more)) + length (bytes_of at.more) =
               rw bytes_of-append (length-append (bytes_of (answers ++ more)) (bytes_of at.more)) in
               let grown : length (bytes_of (answers ++ more)) ≤ length (bytes_of ((answers ++ more) ++ at.more)) = omega arith in
@@ -113,14 +111,13 @@ pub decodes_stop : {S : Type 0} {pull : S → Pulled → S → Type 0} {from : S
     Next (source_at pull mid.source (answers ++ more)) (record { place = (after s events).place; learned = mid.learned }) cx to (Err fault) →
     (more' : List Pulled) × Stops (source_at pull from answers) s more' events to
 decodes_stop {S} {pull} {from} {mid} {to} {s} {answers} {more} {events} {cx} {fault} h n =
-    let at : Next (source_at pull mid.source (answers ++ more)) (after s events) cx to (Err fault) =
-    subst (λ l. Next (source_at pull mid.source (answers ++ more)) (record { place = (after s events).place; learned = l }) cx to (Err fault)) h.taught n in
+    let at = subst (λ l. Next (source_at pull mid.source (answers ++ more)) (record { place = (after s events).place; learned = l }) cx to (Err fault)) h.taught n in
     (more ++ at.more, parts at)
   where
     parts : (at : Next (source_at pull mid.source (answers ++ more)) (after s events) cx to (Err fault)) → Stops (source_at pull from answers) s (more ++ at.more) events to
     parts at =
-        let assoc : (answers ++ more) ++ at.more ≡ answers ++ (more ++ at.more) = append_assoc answers more at.more in
-        let stopped : heard_of ((answers ++ more) ++ at.more) ≡ Stopped = at.stop.0 refl in
+        let assoc = append_assoc answers more at.more in
+        let stopped = at.stop.0 refl in
         let few = stopped_bytes ((answers ++ more) ++ at.more) stopped in
         let most = at.asked.no_more in
         let short : length (bytes_of ((answers ++ more) ++ at.more)) < wanted_bytes (after s events).place.doublings = omega arith in

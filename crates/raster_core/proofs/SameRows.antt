@@ -10,7 +10,7 @@ use Rattle.raster_core.specs.Packed.{packed_row}
 use Rattle.raster_core.specs.Machine.Registers.{bit}
 use Rattle.raster_core.proofs.Packed.{packed_byte}
 use Rattle.raster_core.proofs.BytePixels.{pixel_in}
-use Rattle.raster_core.proofs.Shifts.{same_self}
+use Rattle.raster_core.proofs.Counts.{same_self}
 use Rattle.raster_core.proofs.Before.{bit_same}
 
 -- the pixel at x, from the bytes

@@ -1,17 +1,14 @@
 -- Pixels in words.
-use Rattle.std.proofs.Common.{◌≡◌, ℕ, zero, suc, ◌+◌, ◌-◌, ◌*◌, ◌/◌, ◌%◌, ◌^◌, ◌<◌, ◌≤◌, Bool, true, false, ◌++◌, ◌&&◌, not, refl, sym, ◌∙◌, ap, arith, cond, add-zero, lit<, lit≤, inl, inr, zero-add}
+use Rattle.std.proofs.Common.{◌≡◌, ℕ, zero, suc, ◌+◌, ◌-◌, ◌*◌, ◌/◌, ◌%◌, ◌^◌, ◌<◌, ◌≤◌, Bool, true, false, ◌&&◌, not, refl, sym, ◌∙◌, ap, arith, cond, add-zero, lit<, lit≤, zero-add}
 use Rattle.std.specs.Prelude.{bit_and, bit_or, bit_xor, count_ones, count_by}
 use Rattle.std.proofs.Math.Nat.{pow-suc, mul-add-mod_self_right, mod-eq_of_lt, mul-le-mul_right}
 use lib.Count.{ones, ones_in}
 use Rattle.std.proofs.lemmas.Nat.{pow-add, div-mul-add, and_block, xor_block, ones_cat, pow_pos, or_shifted, mul-mod_first}
-use Rattle.std.proofs.lemmas.List.Sums.{sum_by-cons, sum_by-append}
-use Rattle.raster_core.proofs.Choosing.{le_cases}
+use Rattle.std.proofs.lemmas.List.Sums.{sum_by-cons}
 use Rattle.qm_core.specs.Place.{same}
 use Rattle.raster_core.specs.Lines.{numbers_from}
 use Rattle.raster_core.specs.Machine.Words.{word, agreed_from, pixels_from}
 use Rattle.raster_core.specs.Machine.Registers.{bit}
-use Rattle.std.proofs.lemmas.Bool.{cases_lt}
-use Rattle.std.proofs.Math.Bool.{and-true}
 
 pow_two : (n : ℕ) → 2 ^ suc n ≡ 2 ^ n * 2
 pow_two n = pow-suc 2 n
@@ -27,9 +24,9 @@ pub word_lt : (p : ℕ → Bool) (f n : ℕ) → word p f n < 2 ^ n
 unfolding word
 word_lt p f zero = lit< tt
 word_lt p f (suc n) =
-    let h : word p f n < 2 ^ n = word_lt p f n in
-    let b : bit (p (f + n)) < 2 = bit_lt (p (f + n)) in
-    let d : 2 ^ suc n ≡ 2 ^ n * 2 = pow_two n in
+    let h = word_lt p f n in
+    let b = bit_lt (p (f + n)) in
+    let d = pow_two n in
     omega arith
 
 -- two words one after the other
@@ -37,7 +34,7 @@ pub word_cat : (p : ℕ → Bool) (f m n : ℕ) → word p f (m + n) ≡ word p 
 unfolding word
 word_cat p f m zero = ap (word p f) (add-zero m) ∙ grind arith
 word_cat p f m (suc n) =
-    let e : word p f (m + n) ≡ word p f m * 2 ^ n + word p (f + m) n = word_cat p f m n in
+    let e = word_cat p f m n in
     let s : m + suc n ≡ suc (m + n) = omega arith in
     let q : f + (m + n) ≡ (f + m) + n = omega arith in
     rw (s, e, q, regroup, ← pow_two) refl
@@ -47,7 +44,7 @@ pub word_same : (p q : ℕ → Bool) (f g n : ℕ) → ((i : ℕ) → i < n → 
 unfolding word
 word_same p q f g zero h = refl
 word_same p q f g (suc n) h =
-    let rest : word p f n ≡ word q g n = word_same p q f g n (λ i lt. h i (omega arith)) in
+    let rest = word_same p q f g n (λ i lt. h i (omega arith)) in
     rw (rest, h n (omega arith)) refl
 
 and_bit : (a b : Bool) → bit_and (bit a) (bit b) ≡ bit (a && b)
@@ -92,11 +89,11 @@ pub word_not : (p : ℕ → Bool) (f n : ℕ) → 2 ^ n - 1 - word p f n ≡ wor
 unfolding word
 word_not p f zero = refl
 word_not p f (suc n) =
-    let e : 2 ^ n - 1 - word p f n ≡ word (λ i. not (p i)) f n = word_not p f n in
-    let lt : word p f n < 2 ^ n = word_lt p f n in
-    let b : 1 - bit (p (f + n)) ≡ bit (not (p (f + n))) = not_bit (p (f + n)) in
-    let c : bit (p (f + n)) < 2 = bit_lt (p (f + n)) in
-    let d : 2 ^ suc n ≡ 2 ^ n * 2 = pow_two n in
+    let e = word_not p f n in
+    let lt = word_lt p f n in
+    let b = not_bit (p (f + n)) in
+    let c = bit_lt (p (f + n)) in
+    let d = pow_two n in
     omega arith
 
 -- how many of the pixels are black
@@ -104,7 +101,7 @@ pub word_ones : (p : ℕ → Bool) (f n : ℕ) → count_ones (word p f n) ≡ c
 unfolding word
 word_ones p f zero = ones_bit false
 word_ones p f (suc n) =
-    let both : word p f (1 + n) ≡ word p f 1 * 2 ^ n + word p (f + 1) n = word_cat p f 1 n in
+    let both = word_cat p f 1 n in
     let one : word p f 1 ≡ bit (p f) = ap (λ k. 0 * 2 + bit (p k)) (add-zero f) ∙ omega arith in
     let s : suc n ≡ 1 + n = omega arith in
     ap (λ k. count_ones (word p f k)) s
@@ -119,15 +116,15 @@ word_ones p f (suc n) =
 
 pub second_part : (q : ℕ → Bool) (g s : ℕ) → s ≤ 64 → word q g 64 / 2 ^ s ≡ word q g (64 - s)
 second_part q g s h =
-    let e : word q g ((64 - s) + s) ≡ word q g (64 - s) * 2 ^ s + word q (g + (64 - s)) s = word_cat q g (64 - s) s in
+    let e = word_cat q g (64 - s) s in
     let n : (64 - s) + s ≡ 64 = omega arith in
-    let lt : word q (g + (64 - s)) s < 2 ^ s = word_lt q (g + (64 - s)) s in
+    let lt = word_lt q (g + (64 - s)) s in
     ap (λ k. word q g k / 2 ^ s) (sym n) ∙ ap (λ x. x / 2 ^ s) e ∙ div-mul-add (word q g (64 - s)) (2 ^ s) (word q (g + (64 - s)) s) lt
 
 modded : (a b s p m : ℕ) → s * p ≡ m → b < s → 0 < p → ((a * s + b) * p) % m ≡ b * p
 modded a b s p m e lt pos =
     let parts : (a * s + b) * p ≡ a * (s * p) + b * p = omega arith in
-    let small : b * p < m = below (omega (arith, mul-le-mul_right p (up lt))) in
+    let small = below (omega (arith, mul-le-mul_right p (up lt))) in
     rw (parts, e, mul-add-mod_self_right) (mod-eq_of_lt small)
   where
     up : b < s → b + 1 ≤ s
@@ -146,9 +143,9 @@ first_part q g s h =
     let one_more : suc (63 - s) ≡ 64 - s = omega arith in
     let whole : s + (64 - s) ≡ 64 = omega arith in
     let doubled : 2 * 2 ^ (63 - s) ≡ 2 ^ suc (63 - s) = omega (arith, pow_two (63 - s)) in
-    let e : word q g ((64 - s) + s) ≡ word q g (64 - s) * 2 ^ s + word q (g + (64 - s)) s = word_cat q g (64 - s) s in
+    let e = word_cat q g (64 - s) s in
     let n : (64 - s) + s ≡ 64 = omega arith in
-    let lt : word q (g + (64 - s)) s < 2 ^ s = word_lt q (g + (64 - s)) s in
+    let lt = word_lt q (g + (64 - s)) s in
     let up : 2 * 2 ^ (63 - s) ≡ 2 ^ (64 - s) = rw (doubled, one_more) refl in
     let all : 2 ^ s * 2 ^ (64 - s) ≡ 2 ^ 64 = rw (← pow-add, whole) refl in
     twice (word q g 64) (2 ^ (63 - s)) (2 ^ 64)
@@ -178,27 +175,6 @@ kept_same true true = refl
 kept_same true false = refl
 kept_same false s = refl
 
-pub shifted : (x i : ℕ) → (x + 1) + i ≡ x + (i + 1)
-shifted x i = omega arith
-
--- a count by places, from elsewhere
-pub count_same : (f g : ℕ → Bool) (a b n : ℕ) → ((i : ℕ) → i < n → f (a + i) ≡ g (b + i)) → count_by f (numbers_from a n) ≡ count_by g (numbers_from b n)
-count_same f g a b zero h = refl
-count_same f g a b (suc n) h =
-    let first : f a ≡ g b = rw (← add-zero a, h 0 (omega arith), add-zero b) refl in
-    rw (sum_by-cons (λ x. cond (f x) 1 0) a (numbers_from (a + 1) n), first, count_same f g (a + 1) (b + 1) n (λ i lt. ap f (shifted a i) ∙ h (i + 1) (omega arith) ∙ ap g (sym (shifted b i))))
-    (sym (sum_by-cons (λ x. cond (g x) 1 0) b (numbers_from (b + 1) n)))
-
-pub numbers_cat : (a n k : ℕ) → numbers_from a (n + k) ≡ numbers_from a n ++ numbers_from (a + n) k
-numbers_cat a zero k = ap (numbers_from a) (zero-add k) ∙ ap (λ x. numbers_from x k) (sym (add-zero a))
-numbers_cat a (suc n) k =
-    let later : suc n + k ≡ suc (n + k) = omega arith in
-    let moved : (a + 1) + n ≡ a + suc n = omega arith in
-    rw (later, numbers_cat (a + 1) n k, moved) refl
-
-pub count_cat : (f : ℕ → Bool) (a n k : ℕ) → count_by f (numbers_from a (n + k)) ≡ count_by f (numbers_from a n) + count_by f (numbers_from (a + n) k)
-count_cat f a n k = rw numbers_cat (sum_by-append (λ x. cond (f x) 1 0) (numbers_from a n) (numbers_from (a + n) k))
-
 pub agreed_word_is : (p q m : ℕ → Bool) (a b c n : ℕ) →
     count_ones (bit_and (word m c n) (2 ^ n - 1 - bit_xor (word p a n) (word q b n))) ≡ agreed_from (pixels_from p a) (pixels_from q b) (pixels_from m c) n
 unfolding agreed_from
@@ -214,7 +190,7 @@ agreed_word_is p q m a b c n =
 
 pub far_next : (q : ℕ → Bool) (g d : ℕ) → d < 64 → word q g (64 - d) / 2 ≡ word q g (64 - (d + 1))
 far_next q g d h =
-    let e : word q g ((63 - d) + 1) ≡ word q g (63 - d) * 2 ^ 1 + word q (g + (63 - d)) 1 = word_cat q g (63 - d) 1 in
+    let e = word_cat q g (63 - d) 1 in
     let n : 64 - d ≡ (63 - d) + 1 = omega arith in
     let m : 63 - d ≡ 64 - (d + 1) = omega arith in
     rw (n, e, div-mul-add (word q g (63 - d)) 2 (word q (g + (63 - d)) 1) (word_lt q (g + (63 - d)) 1), m) refl
@@ -224,72 +200,8 @@ pub near_next : (q : ℕ → Bool) (g d : ℕ) → d < 64 →
 near_next q g d h =
     let beside : g + 64 - d ≡ g + (63 - d) + 1 = omega arith in
     let one_left : g + (63 - d) ≡ g + 64 - (d + 1) = omega arith in
-    let e : word q g ((63 - d) + 1) ≡ word q g (63 - d) * 2 ^ 1 + word q (g + (63 - d)) 1 = word_cat q g (63 - d) 1 in
+    let e = word_cat q g (63 - d) 1 in
     let n : 64 - d ≡ (63 - d) + 1 = omega arith in
-    let last : word q (g + (63 - d)) 1 < 2 ^ 1 = word_lt q (g + (63 - d)) 1 in
+    let last = word_lt q (g + (63 - d)) 1 in
     let first = modded (word q g (63 - d)) (word q (g + (63 - d)) 1) 2 (2 ^ 63) (2 ^ 64) refl last (lit< tt) in
     rw (n, e, first, second_part q (g + 64 - d) 1 (lit≤ tt), or_shifted (word q (g + (63 - d)) 1) 63 (word q (g + 64 - d) 63) (word_lt q _ 63), beside, ← word_cat, one_left) refl
-
--- ---- words of one colour
-
-pub dark : (p : ℕ → Bool) (f n : ℕ) → word p f n ≡ 0 → (i : ℕ) → i < n → p (f + i) ≡ false
-unfolding word
-dark p f zero e i lt = absurd (omega arith)
-dark p f (suc n) e i lt =
-    let rest : word p f n ≡ 0 = omega arith in
-    let last : bit (p (f + n)) ≡ 0 = omega arith in
-    elim (le_cases i n (omega arith)) [
-      | inl eq ↦ rw eq (white_bit (p (f + n)) last)
-      | inr below ↦ dark p f n rest i below
-    ]
-  where
-    white_bit : (b : Bool) → bit b ≡ 0 → b ≡ false
-    white_bit true e = absurd (omega arith)
-    white_bit false e = refl
-
-pub lit : (p : ℕ → Bool) (f n : ℕ) → word p f n ≡ 2 ^ n - 1 → (i : ℕ) → i < n → p (f + i) ≡ true
-lit p f n e i lt =
-    let none : word (λ k. not (p k)) f n ≡ 0 = sym (word_not p f n) ∙ omega arith in
-    black (p (f + i)) (dark (λ k. not (p k)) f n none i lt)
-  where
-    black : (b : Bool) → not b ≡ false → b ≡ true
-    black true e = refl
-    black false e = sym e
-
--- what holds in each of three words holds in all
-pub in_all : (p : ℕ → Bool) (place : ℕ) (b : Bool) → ((i : ℕ) → i < 64 → p (place + i) ≡ b) → ((i : ℕ) → i < 64 → p (place + 64 + i) ≡ b) → ((i : ℕ) → i < 64 → p (place + 128 + i) ≡ b) →
-    (i : ℕ) → i < 192 → p (place + i) ≡ p place
-in_all p place b one two three i lt =
-    rw (there i lt, ← one 0 (omega arith), add-zero) refl
-  where
-    at : (i k : ℕ) → k ≤ i → place + i ≡ place + k + (i - k)
-    at i k h = omega arith
-
-    there : (i : ℕ) → i < 192 → p (place + i) ≡ b
-    there i lt =
-        elim (cases_lt i 64) [
-          | inl h ↦ one i h
-          | inr h ↦ elim (cases_lt i 128) [
-            | inl k ↦ ap p (at i 64 h) ∙ two (i - 64) (omega arith)
-            | inr k ↦ ap p (at i 128 k) ∙ three (i - 128) (omega arith)
-          ]
-        ]
-
-pub same_self : (b : Bool) → same b b ≡ true
-same_self true = refl
-same_self false = refl
-
-pub even_agreed : (p m : ℕ → Bool) (place c lag n : ℕ) → ((i : ℕ) → i < 192 → p (place + i) ≡ p place) → lag ≤ 127 → n ≤ 64 →
-    count_ones (word m c n) ≡ agreed_from (pixels_from p (place + 128)) (pixels_from p (place + 128 - lag)) (pixels_from m c) n
-unfolding agreed_from
-even_agreed p m place c lag n h high le =
-    word_ones m c n
-    ∙ count_same m (λ i. m (c + i) && same (p (place + 128 + i)) (p ((place + 128 - lag) + i))) c 0 n (λ i lt. sym (here i lt))
-  where
-    here : (i : ℕ) → i < n → m (c + (0 + i)) && same (p (place + 128 + (0 + i))) (p ((place + 128 - lag) + (0 + i))) ≡ m (c + i)
-    here i lt =
-        let one_at : place + 128 + (0 + i) ≡ place + (128 + i) = omega arith in
-        let other_at : (place + 128 - lag) + (0 + i) ≡ place + (128 - lag + i) = omega arith in
-        let one : p (place + 128 + (0 + i)) ≡ p place = ap p one_at ∙ h (128 + i) (omega arith) in
-        let other : p ((place + 128 - lag) + (0 + i)) ≡ p place = ap p other_at ∙ h (128 - lag + i) (omega arith) in
-        rw (one, other, same_self, and-true, zero-add) refl

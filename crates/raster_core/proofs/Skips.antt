@@ -19,7 +19,7 @@ past_size (suc t) = refl
 
 pub past_run : {past byte : ℕ} (row : List Bool) (offset x : ℕ) → past ≡ before row x (past_bits offset) → byte ≡ before row (x + 8) 8 →
     past % 2 ^ (past_bits offset - 8) * 256 + byte ≡ before row (x + 8) (past_bits offset)
-past_run {past} {byte} row offset x p b =
+past_run {past} row offset x p b =
     let low : past % 2 ^ (past_bits offset - 8) ≡ before row x (past_bits offset - 8) =
     ap (λ z. z % 2 ^ (past_bits offset - 8)) (p ∙ ap (λ w. before row x w) (past_size offset)) ∙ before_mod row x 8 (past_bits offset - 8) in
     let size : (past_bits offset - 8) + 8 ≡ past_bits offset = omega (arith, past_size offset) in

@@ -73,7 +73,7 @@ enough_run : (n : ℕ) (s : State) (event : Event) (count : ℕ) → ((k : ℕ) 
     AreEnough count s (replicate n event)
 enough_run zero s event count quiet h = tt
 enough_run (suc n) s event count quiet h =
-    let one : (step s event.context event.pixel).place.doublings ≡ s.place.doublings = quiet 1 (omega arith) in
+    let one = quiet 1 (omega arith) in
     (h, enough_run n (step s event.context event.pixel) event count (λ k few. quiet (suc k) (omega arith) ∙ sym one) (rw one h))
 
 pub not_stopped : (d : Decoder) (p : Place) (answers : List Pulled) → DecoderIsAt d p answers → has_stopped d ≡ false → heard_of answers ≡ Stopped → ⊥
@@ -91,7 +91,7 @@ pub decoded_run : {S : Type 0} {old : SourceAt S} {row : PlainRow} {at : Decoder
     × DecoderIsAt d' (after (record { place = p; learned = at.learned }) (replicate n (uniform_event c))).place given
     × (heard_of given ≡ More → wanted_bytes p.doublings ≤ length (bytes_of given))) →
     PixelsSoFar old row (done ++ replicate n c) past' (decoder_state at.source d' at.learned)
-decoded_run {S} {old} {row} {at} {done} {d' = d'} n c h stays past_is going decoded =
+decoded_run {S} {old} {row} {at} {done} n c h stays past_is going decoded =
     let s = row.state in
     let es = events_up_to row done in
     let given = old.answers ++ h.more in
@@ -122,8 +122,8 @@ skipped_along {b = b} {byte} {past'} k past_is = record {
   any = λ from first s answers lines done so_far s2 a2.
       let row = done ++ replicate 8 k.colour in
       let near : b.past ≡ before row (length done) (past_bits b.offset) = so_far.past_is ∙ sym (before_front done (replicate 8 k.colour) (length done) (past_bits b.offset) (omega arith)) in
-      let byte_is : byte ≡ before row (length done + 8) 8 = k.byte_is ∙ sym (run_before row (length done) 8 k.colour (run_pixels done 8 k.colour)) in
-      let long : length row ≡ length done + 8 = length-append done (replicate 8 k.colour) in
+      let byte_is = k.byte_is ∙ sym (run_before row (length done) 8 k.colour (run_pixels done 8 k.colour)) in
+      let long = length-append done (replicate 8 k.colour) in
       let behind : past' ≡ before row (length row) (past_bits b.offset) =
       rw (past_is, past_run row b.offset (length done) near byte_is, ← long) refl in
       record {

@@ -14,7 +14,7 @@ use Rattle.raster_core.specs.Tally.{CountsLines, KeepsCounts, counted_at, is_two
 use Rattle.raster_core.specs.declared.tally.Tally.{Tally}
 use Rattle.raster_core.proofs.Choosing.{zeros, best_is}
 use Rattle.raster_core.proofs.Packed.{length-numbers}
-use Rattle.raster_core.proofs.Shifts.{count_same}
+use Rattle.raster_core.proofs.Counts.{count_same}
 use Rattle.raster_core.proofs.Parts.{is_lt, adaptive_left, agreement_push, all_push, length_push}
 
 -- ---- no rows
@@ -32,7 +32,7 @@ none_counted t width current no_rows none_agreeing no_times no_counts kept =
 -- the last row once more
 pub once_more : (c t g : ℕ) → (c + (t + 1) % 2 ^ 64 * g) % 2 ^ 64 ≡ ((c + t * g) % 2 ^ 64 + g) % 2 ^ 64
 once_more c t g =
-    let sum : (t + 1) * g ≡ t * g + 1 * g = add-mul t 1 g in
+    let sum = add-mul t 1 g in
     folded ((t + 1) % 2 ^ 64 * g) (t * g) (mul-mod_first (t + 1) g (2 ^ 64) ∙ ap (λ x. x % 2 ^ 64) sum)
   where
     folded : (x y : ℕ) → x % 2 ^ 64 ≡ (y + 1 * g) % 2 ^ 64 → (c + x) % 2 ^ 64 ≡ ((c + y) % 2 ^ 64 + g) % 2 ^ 64
@@ -81,12 +81,12 @@ pub record IsBest (t : Tally) (b : ℕ) : Type 0 where
 
 threshold : (t : Tally) (width current : ℕ) (rows : List Lines) → CountsLines t width current rows → width * length rows / 8 ≡ t.width * t.rows / 8
 threshold t width current [] k =
-    let none : t.rows ≡ 0 = k.number in
+    let none = k.number in
     let nothing : width * 0 ≡ t.width * 0 = omega arith in
     rw (nothing, ← none) refl
 threshold t width current (r ∷ rows) k =
     let some : 0 < length (r ∷ rows) = omega arith in
-    let w : t.width ≡ width = k.width_is some in
+    let w = k.width_is some in
     rw (← w, ← k.number) refl
 
 some_lag : (two_line : Bool) → 1 ≤ least_lag two_line
@@ -106,28 +106,28 @@ counted_best : (t : Tally) (width current : ℕ) (rows : List Lines) (b : ℕ) �
 counted_best t width current [] b k low high = k.none refl b
 counted_best t width current (r ∷ rows) b k low high =
     let some : 0 < length (r ∷ rows) = omega arith in
-    let w : t.width ≡ width = k.width_is some in
+    let w = k.width_is some in
     k.each b low (rw w at high)
 
 pub best_by : (t : Tally) (width current : ℕ) (rows : List Lines) (b : ℕ) → CountsLines t width current rows → IsBest t b →
     best_offset rows (candidates (is_two_line t) (most_of t)) ≡ Some b
 best_by t width current [] b k h =
-    let zero_b : counted_at t b ≡ 0 = k.none refl b in
-    best_is (is_two_line t) (most_of t) [] b h.low (omega (arith, h.high))
+    let zero_b = k.none refl b in
+    best_is (is_two_line t) (most_of t) [] b h.low (omega arith)
     (λ u from to. omega arith)
     (λ u from below. absurd (let l = h.first u from below in omega arith))
 best_by t width current (r ∷ rows) b k h =
     let some : 0 < length (r ∷ rows) = omega arith in
-    let w : t.width ≡ width = k.width_is some in
+    let w = k.width_is some in
     let high : b ≤ last_lag (is_two_line t) (most_of t) width = rw w at h.high in
-    let at_b : counted_at t b ≡ agreement (r ∷ rows) b = k.each b h.low high in
+    let at_b = k.each b h.low high in
     let within : (u : ℕ) → least_lag (is_two_line t) ≤ u → u ≤ last_lag (is_two_line t) (most_of t) width → agreement (r ∷ rows) u ≤ agreement (r ∷ rows) b =
     (λ u from to. subst2 ◌≤◌ (k.each u from to) at_b (h.greatest u from (rw w to))) in
     best_is (is_two_line t) (most_of t) (r ∷ rows) b h.low (omega arith)
     (λ u from to. elim (cases_lt (last_lag (is_two_line t) (most_of t) width) u) [
       | inl above ↦
           let e = beyond_last (is_two_line t) (most_of t) width u (r ∷ rows) k.wide to above in
-          let l = within (last_lag (is_two_line t) (most_of t) width) (omega (arith, h.low)) (omega arith) in
+          let l = within (last_lag (is_two_line t) (most_of t) width) (omega arith) (omega arith) in
           rw e l
       | inr inside ↦ within u from inside
     ])

@@ -16,7 +16,7 @@ loop-lag-init c = record {
   none = λ h. omega arith;
   long = omega arith;
   near = λ p place e f. c.joined-near.ensures p place e f ∙ ap (λ s. word p (place + 64 - s) 64) (first_shift c.args.shift c.args.from);
-  far = λ p place e. ap (λ x. x / 2 ^ c.args.shift) e ∙ second_part p place c.args.shift (omega (arith, c.requires.shift)) ∙ ap (λ s. word p place (64 - s)) (first_shift c.args.shift c.args.from);
+  far = λ p place e. ap (λ x. x / 2 ^ c.args.shift) e ∙ second_part p place c.args.shift (omega arith) ∙ ap (λ s. word p place (64 - s)) (first_shift c.args.shift c.args.from);
   done = λ p m place a d e f g h j from below. absurd (omega arith);
   below = λ j lt. refl;
   above = λ j le. refl;
@@ -34,10 +34,10 @@ loop-lag-preserved c =
     let k : ℕ = c.loop-lag.lag in
     let xs : List ℕ = c.loop-lag.counts in
     let v : ℕ = get_or xs k 0 + c.agreed_word.result in
-    let begin : c.args.from ≤ k = c.loop-lag.auto.lag in
+    let begin = c.loop-lag.auto.lag in
     let d : ℕ = c.args.shift + (k - c.args.from) in
     let small : d < 64 = omega (arith, begin, c.requires.fits, c.loop-lag-test.true) in
-    let there : k < length xs = omega (arith, c.loop-lag.invariant.long, c.requires.end, c.loop-lag-test.true) in
+    let there : k < length xs = omega arith in
     record {
       none = λ h. absurd (omega (arith, h, begin, c.loop-lag-test.true));
       long = length-set xs k v ∙ c.loop-lag.invariant.long;
@@ -63,11 +63,11 @@ loop-lag-preserved c =
           elim (eq_cases j k) [
             | inl eq ↦
                 let a : get_or (set xs k v) j 0 ≡ v = rw eq (same_here xs k v there) in
-                let b : get_or xs k 0 ≡ get_or c.args.counts.now k 0 = c.loop-lag.invariant.above k (omega arith) in
+                let b = c.loop-lag.invariant.above k (omega arith) in
                 let same : get_or c.args.counts.now j 0 ≡ get_or c.args.counts.now k 0 = rw eq refl in
                 omega (arith, a, b, same, c.agreed_word.ensures.small)
             | inr ne ↦
-                let a : get_or (set xs k v) j 0 ≡ get_or xs j 0 = same_else xs k v j ne in
+                let a = same_else xs k v j ne in
                 omega (arith, a, c.loop-lag.invariant.room j)
           ];
     }

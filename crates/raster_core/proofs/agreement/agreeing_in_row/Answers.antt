@@ -26,5 +26,5 @@ loop-k-preserved c =
           (c.loop-k.invariant.before lines.row e ∙ ap (λ x. word (led lines.row) x 64) (first_place k))
           (c.word_at-word.ensures lines.row e ∙ ap (λ x. word (led lines.row) x 64) (second_place k))
           c.mask_at-mask.ensures);
-      room = omega (arith, c.agreeing_in_word-agreeing.ensures.small, c.loop-k.invariant.room);
+      room = omega arith;
     }

@@ -15,4 +15,4 @@ returns-else-offset-eq0-clause-agreed c lines width e second before one mask =
     let k : ℕ = c.args.k in
     c.agreed_word-else-offset-eq0.ensures.agreed (led lines.row) (led lines.row) (is_within width) (64 * k + 128) (64 * k + 128 - c.args.offset) (64 * k) one
     (c.left_by.ensures (led lines.row) (64 * k) second before one) mask
-    ∙ row_part lines width c.args.offset k 64 (omega (arith, c.if-offset-eq0.false)) c.requires.offset
+    ∙ row_part lines width c.args.offset k 64 (omega arith) c.requires.offset

@@ -1,14 +1,15 @@
 use Rattle.std.proofs.Common.{◌≡◌, ℕ, ◌+◌, ◌-◌, ◌^◌, ◌≤◌, ◌∙◌, sym, arith, Bool, true, false}
-use Rattle.std.specs.Prelude.{bit_or, bit_and}
+use Rattle.std.specs.Prelude.{bit_and}
 use Rattle.std.proofs.lemmas.Bool.{eqb-true}
 use Rattle.std.proofs.lemmas.Nat.{le_or_l, le_or_r, and_le_l, and_le_r}
 use Rattle.raster_core.specs.Machine.Words.{word}
-use Rattle.raster_core.proofs.Shifts.{word_lt, dark, lit, in_all}
+use Rattle.raster_core.proofs.Evens.{dark, lit, in_all}
+use Rattle.raster_core.proofs.Shifts.{word_lt}
 use Rattle.raster_core.proofs.agreement.is_even.Goals as goal
 
 pub returns-then-second-eq0 : goal.returns-then-second-eq0
 returns-then-second-eq0 c p place second before word even =
-    let all : bit_or c.args.before c.args.word ≡ 0 = eqb-true _ _ even in
+    let all = eqb-true _ _ even in
     let middle : c.args.before ≡ 0 = omega (arith, all, le_or_l c.args.before c.args.word) in
     let last : c.args.word ≡ 0 = omega (arith, all, le_or_r c.args.before c.args.word) in
     in_all p place false (dark p place 64 (sym second ∙ c.if-second-eq0.true)) (dark p (place + 64) 64 (sym before ∙ middle)) (dark p (place + 128) 64 (sym word ∙ last))
@@ -22,7 +23,7 @@ below p f x e = let l = word_lt p f 64 in omega arith
 
 pub returns : goal.returns
 returns c p place second before word even =
-    let all : bit_and (bit_and c.args.second c.args.before) c.args.word ≡ 2 ^ 64 - 1 = eqb-true _ _ even in
+    let all = eqb-true _ _ even in
     let a = below p place c.args.second second in
     let b = below p (place + 64) c.args.before before in
     let d = below p (place + 128) c.args.word word in

@@ -10,8 +10,7 @@ pub returns : goal.returns
 returns g c = λ typical lines x r.
     let few : c.args.offset - 1 < 127 = omega arith in
     let e : c.args.offset ≡ suc (c.args.offset - 1) = omega arith in
-    let a : c.args.past / 2 ^ (c.args.offset - 1) % 2 ≡ bit (adaptive lines c.args.offset x) =
-    subst (λ t. c.args.past / 2 ^ (c.args.offset - 1) % 2 ≡ bit (adaptive lines t x)) (sym e)
+    let a = subst (λ t. c.args.past / 2 ^ (c.args.offset - 1) % 2 ≡ bit (adaptive lines t x)) (sym e)
     (adaptive_moved (subst (λ t. AreAt lines t c.args.second c.args.above c.args.past x) e r) few) in
     elim c.if-this-ne0.branch [
       | then-this-ne0 w ↦ c.of.ensures ∙ (w.number-is ∙ rw (set_is w.if-this-ne0.true refl, a) (two_line_moved r))

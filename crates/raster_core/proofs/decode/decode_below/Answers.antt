@@ -21,5 +21,5 @@ returns-clause-row g c = λ s answers lines h.
       | else-flag+in-Ok v ↦
           let b = begins.plain v.if-flag.false in
           let pixels = v.in-Ok.ensures.leaves.0.any _ _ s answers lines b.0 b.1 b.2 h.above.above_is h.above.second_is in
-          rw (v.reader-is, v.current-is) (done_plain c.answers.ensures.answers_lie (omega (arith, c.requires.goes_on.1)) refl v.if-flag.false refl h.above pixels)
+          rw (v.reader-is, v.current-is) (done_plain c.answers.ensures.answers_lie (omega arith) refl v.if-flag.false refl h.above pixels)
     ]

@@ -1,6 +1,5 @@
-use Rattle.std.proofs.Common.{◌≡◌, ◌≤◌, ◌+◌, rules, refl, ◌∙◌, ap, arith}
+use Rattle.std.proofs.Common.{◌≡◌, rules, refl, ◌∙◌, ap, arith}
 use Rattle.std.proofs.lemmas.Grind.{common_steps}
-use Rattle.qm_core.specs.Encoder.{event_count}
 use Rattle.raster_core.specs.Packed.{HasLines, Held}
 use Rattle.raster_core.specs.Window.{shape_mode}
 use Rattle.raster_core.proofs.Putting.{puts_handed}
@@ -23,7 +22,7 @@ pub returns-clause-events : goal.returns-clause-events
 returns-clause-events g c =
     let width : c.rows-rows.result.width ≡ c.args.shape.width = ap (λ (h : Held). h.width) c.rows-rows.ensures ∙ c.requires.row.1 in
     let most = counts_to _ _ _ _ _ c.in_ok-encode_as.ensures in
-    let few : event_count c.encode_as.new.coder.encoder.now ≤ event_count c.args.encoder.now + (c.rows-rows.result.width + 1) = most in
+    let few = most in
     grind (arith, common_steps)
 
 pub returns-clause-row : goal.returns-clause-row

@@ -22,7 +22,7 @@ inside-preserved c line e =
     let byte : c.from.result ≡ get_or (packed_row line) (8 * (c.args.place - 2) + i) 0 =
     rw (c.from.ensures, e) refl in
     let read = byte_led line c.args.place i c.from.result c.if-place-lt2.false c.inside-test.true byte in
-    rw (one_byte (led line) (64 * c.args.place) (8 * i) (omega (arith, c.inside-test.true)) (c.inside.invariant line e) read, next) refl
+    rw (one_byte (led line) (64 * c.args.place) (8 * i) (omega arith) (c.inside.invariant line e) read, next) refl
 
 pub across-preserved : goal.across-preserved
 across-preserved c line e =
@@ -30,4 +30,4 @@ across-preserved c line e =
     let byte : c.from-in-across.result ≡ get_or (packed_row line) (8 * (c.args.place - 2) + i) 0 =
     rw (c.from-in-across.ensures, c.byte_at.ensures.byte, e) refl in
     let read = byte_led line c.args.place i c.from-in-across.result c.if-place-lt2.false c.across-test.true byte in
-    rw (one_byte (led line) (64 * c.args.place) (8 * i) (omega (arith, c.across-test.true)) (c.across.invariant line e) read, next) refl
+    rw (one_byte (led line) (64 * c.args.place) (8 * i) (omega arith) (c.across.invariant line e) read, next) refl

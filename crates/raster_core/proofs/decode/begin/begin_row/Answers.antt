@@ -1,7 +1,7 @@
 use Rattle.std.proofs.Common.{◌≡◌, true}
 use Rattle.raster_core.proofs.Firsts.{first_none}
 use Rattle.raster_core.proofs.LaneTables.{if_ok}
-use Rattle.raster_core.proofs.RowsDone.{begin_pixels, begun_pixels, by_begun, not_true, not_false}
+use Rattle.raster_core.proofs.RowsBegun.{begin_pixels, begun_pixels, by_begun, not_true, not_false}
 use Rattle.raster_core.proofs.decode.begin.begin_row.Goals as goal
 use Rattle.raster_core.proofs.decode.begin.begin_row.Goals.{else-shape-via-then-shape+else-not-place, else-shape-via-else-shape}
 

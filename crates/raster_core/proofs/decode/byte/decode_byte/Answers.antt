@@ -1,5 +1,4 @@
-use Rattle.std.proofs.Common.{◌≡◌, arith, refl, sym, ◌∙◌, false}
-use Rattle.qm_core.specs.Decoder.{has_stopped}
+use Rattle.std.proofs.Common.{◌≡◌, arith, refl, sym, ◌∙◌}
 use Rattle.raster_core.proofs.Before.{begins, goes_on, grows}
 use Rattle.raster_core.proofs.Alongs.{along_none, along_next, along_stop}
 use Rattle.raster_core.proofs.Joins.{had_not_stopped, not_both}
@@ -26,8 +25,8 @@ loop-j-preserved g c =
     let stop = c.in-Ok.ensures.reads.0 in
     let lent = c.in-Ok.ensures.reads.1 in
     let was_lent = c.loop-j.invariant.lends in
-    let going : has_stopped c.loop-j.reader.decoder.now ≡ false = had_not_stopped (λ t. (stop.0 t).0) in
-    let was : has_stopped c.args.reader.now.decoder.now ≡ false = sym c.loop-j.invariant.going ∙ going in
+    let going = had_not_stopped (λ t. (stop.0 t).0) in
+    let was = sym c.loop-j.invariant.going ∙ going in
     record {
       lends = (lent.0 ∙ was_lent.0, lent.1 ∙ was_lent.1, lent.2 ∙ was_lent.2);
       same = stop.2 ∙ c.loop-j.invariant.same;

@@ -1,7 +1,4 @@
-use Rattle.std.proofs.Common.{◌≡◌, ◌-◌, ◌*◌, ◌%◌, ◌^◌, ◌<◌, length, arith, sym, ◌∙◌, false, length-set}
-use Rattle.std.specs.Prelude.{slice_set}
-use Rattle.std.specs.Int.{div_ceil}
-use Rattle.qm_core.specs.Decoder.{has_stopped}
+use Rattle.std.proofs.Common.{◌-◌, ◌*◌, ◌%◌, ◌^◌, ◌<◌, arith, sym, ◌∙◌, length-set}
 use Rattle.raster_core.proofs.Joins.{had_not_stopped, not_both}
 use Rattle.raster_core.proofs.RowBytes.{bytes_next, bytes_stop, bytes_all, wrap, whole}
 use Rattle.raster_core.proofs.FilledAlong.{bytes_skipped, kept_along}
@@ -10,7 +7,7 @@ use Rattle.raster_core.proofs.decode.row.decode_bytes.Goals as goal
 pub returns-in-Err-clause-leaves : goal.returns-in-Err-clause-leaves
 returns-in-Err-clause-leaves g c =
     let inside : 8 * c.bytes.i < c.args.shape.width = omega arith in
-    let same : c.skip_filled-words.new.decoder ≡ c.bytes.reader.decoder.now = c.skip_filled-words.ensures.skips.2 (omega (arith, c.if-words-gt0.false)) in
+    let same = c.skip_filled-words.ensures.skips.2 (omega arith) in
     let along = kept_along same c.skip_filled-words.ensures.kept c.bytes.invariant.along in (
       tt,
       bytes_stop 8 c.bytes.invariant.left inside (omega arith) c.within.ensures.begun c.within.ensures.done c.within.ensures.past along
@@ -36,10 +33,10 @@ bytes-preserved-then-words-gt0 g c =
 pub bytes-preserved : goal.bytes-preserved
 bytes-preserved g c =
     let inside : 8 * c.bytes.i < c.args.shape.width = omega arith in
-    let same : c.skip_filled-words.new.decoder ≡ c.bytes.reader.decoder.now = c.skip_filled-words.ensures.skips.2 (omega (arith, c.if-words-gt0.false)) in
+    let same = c.skip_filled-words.ensures.skips.2 (omega arith) in
     let along = kept_along same c.skip_filled-words.ensures.kept c.bytes.invariant.along in
-    let going : has_stopped c.skip_filled-words.new.decoder ≡ false = had_not_stopped (λ t. (c.in-Ok.ensures.reads.0.0 t).0) in
-    let was : has_stopped c.args.reader.now.decoder.now ≡ false = sym c.bytes.invariant.going ∙ (sym c.skip_filled-words.ensures.skips.0 ∙ going) in
+    let going = had_not_stopped (λ t. (c.in-Ok.ensures.reads.0.0 t).0) in
+    let was = sym c.bytes.invariant.going ∙ (sym c.skip_filled-words.ensures.skips.0 ∙ going) in
     let lent = c.in-Ok.ensures.reads.1 in
     let was_lent = c.bytes.invariant.lends in
     record {
@@ -55,14 +52,14 @@ bytes-preserved g c =
 
 pub returns-then-left-eq0-clause-leaves : goal.returns-then-left-eq0-clause-leaves
 returns-then-left-eq0-clause-leaves g c =
-    let long : length c.bytes.current ≡ div_ceil c.args.shape.width 8 = c.bytes.auto.current ∙ c.requires.part.1 in (
+    let long = c.bytes.auto.current ∙ c.requires.part.1 in (
       bytes_all c.bytes.invariant.left long (omega (arith, long, c.bytes.invariant.left, c.if-left-eq0.true)) c.bytes.invariant.along,
       tt,
     )
 
 pub returns-in-Err-decode_byte-clause-leaves : goal.returns-in-Err-decode_byte-clause-leaves
 returns-in-Err-decode_byte-clause-leaves g c =
-    let inside : 8 * c.bytes.i < c.args.shape.width = omega (arith, c.bytes.invariant.left, c.if-left-eq0.false) in (
+    let inside : 8 * c.bytes.i < c.args.shape.width = omega arith in (
       tt,
       bytes_stop c.bytes.left c.bytes.invariant.left inside
           (omega arith) c.within-in-Err-decode_byte.ensures.begun c.within-in-Err-decode_byte.ensures.done c.within-in-Err-decode_byte.ensures.past c.bytes.invariant.along
@@ -71,11 +68,11 @@ returns-in-Err-decode_byte-clause-leaves g c =
 
 pub returns-clause-leaves : goal.returns-clause-leaves
 returns-clause-leaves g c =
-    let inside : 8 * c.bytes.i < c.args.shape.width = omega (arith, c.bytes.invariant.left, c.if-left-eq0.false) in
-    let wide : length c.bytes.current ≡ div_ceil c.args.shape.width 8 = c.bytes.auto.current ∙ c.requires.part.1 in
+    let inside : 8 * c.bytes.i < c.args.shape.width = omega arith in
+    let wide = c.bytes.auto.current ∙ c.requires.part.1 in
     let byte = c.in-Ok-decode_byte.last % 256 * 2 ^ (8 - c.bytes.left) % 4294967296 % 256 in
-    let long : length (slice_set c.bytes.current c.bytes.i byte) ≡ div_ceil c.args.shape.width 8 = length-set c.bytes.current c.bytes.i byte ∙ wide in (
-      bytes_all (omega (arith, c.bytes.invariant.left)) long (omega (arith, long, c.bytes.invariant.left, c.bytes-test.false))
+    let long = length-set c.bytes.current c.bytes.i byte ∙ wide in (
+      bytes_all (omega arith) long (omega (arith, long, c.bytes.invariant.left, c.bytes-test.false))
           (bytes_next c.bytes.invariant.left inside (omega arith) (omega arith) (wrap (c.in-Ok-decode_byte.last % 256 * 2 ^ (8 - c.bytes.left))) c.bytes.invariant.along
           (rw (← c.byte_at-3.ensures.byte, ← c.byte_at-2.ensures.byte) c.in-Ok-decode_byte.ensures.pixels.0)),
       tt,

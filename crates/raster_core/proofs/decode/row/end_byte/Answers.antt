@@ -5,10 +5,10 @@ use Rattle.raster_core.proofs.decode.row.end_byte.Goals as goal
 pub returns-in-Ok-clause-ok : goal.returns-in-Ok-clause-ok
 returns-in-Ok-clause-ok g c =
     byte_ended (record { second_is = c.around_at.ensures.is; above_is = c.around_at-2.ensures.is })
-    c.requires.begun (omega (arith, c.min-n.ensures)) (omega (arith, c.requires.part.0, c.requires.part.1)) (wrap _) c.behind.ensures.done c.behind.ensures.past c.in-Ok.ensures.pixels.0
+    c.requires.begun (omega arith) (omega arith) (wrap _) c.behind.ensures.done c.behind.ensures.past c.in-Ok.ensures.pixels.0
 
 pub returns-in-Err-clause-err : goal.returns-in-Err-clause-err
 returns-in-Err-clause-err g c =
     byte_stopped (record { second_is = c.around_at.ensures.is; above_is = c.around_at-2.ensures.is })
-    (omega (arith, c.min-n.ensures))
-    (omega (arith, c.min-n.ensures, c.requires.part.0)) c.behind-in-Err.ensures.begun c.behind-in-Err.ensures.done c.behind-in-Err.ensures.past c.in-Err.ensures.pixels.1.1
+    (omega arith)
+    (omega arith) c.behind-in-Err.ensures.begun c.behind-in-Err.ensures.done c.behind-in-Err.ensures.past c.in-Err.ensures.pixels.1.1

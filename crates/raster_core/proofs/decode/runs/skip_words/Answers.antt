@@ -5,7 +5,7 @@ use Rattle.raster_core.proofs.decode.runs.skip_words.Goals as goal
 pub words-preserved : goal.words-preserved
 words-preserved c =
     record {
-      at = omega (arith, c.words.invariant.at);
+      at = omega arith;
       rest = omega (arith, c.words.invariant.rest, c.skip_word.ensures.inside c.words-test.true);
       some = omega (arith, c.skip_word.ensures.inside c.words-test.true);
       stopped = c.skip_word.ensures.skips.0 ∙ c.words.invariant.stopped;

@@ -20,7 +20,7 @@ loop-j-init g c =
       past = holds_past c.args.byte small;
       second_small = let h = c.args.byte.around.second_fits in omega arith;
       above_small = let h = c.args.byte.around.above_fits in omega arith;
-      row_small = omega (arith, c.from-row.ensures);
+      row_small = omega arith;
     }
 
 pub returns-in_err-put : goal.returns-in_err-put

@@ -1,8 +1,7 @@
-use Rattle.std.proofs.Common.{◌<◌, ◌+◌, ◌*◌, ◌%◌, Ok, arith, refl, sym, ◌∙◌}
+use Rattle.std.proofs.Common.{◌<◌, ◌+◌, ◌*◌, ◌%◌, arith, refl, sym, ◌∙◌}
 use Rattle.raster_core.specs.Lines.{Lines}
-use Rattle.raster_core.specs.Machine.Bytes.{events_from, byte_lines}
-use Rattle.raster_core.specs.Machine.Rows.{lines_in, IsByte}
-use Rattle.qm_core.specs.Puts.{Puts}
+use Rattle.raster_core.specs.Machine.Bytes.{byte_lines}
+use Rattle.raster_core.specs.Machine.Rows.{lines_in}
 use Rattle.raster_core.proofs.EventLists.{events_none, events_on, events_rest, length-events}
 use Rattle.raster_core.proofs.Putting.{puts_as, puts_join, puts_none, puts_stop}
 use Rattle.raster_core.proofs.RowsIn.{stands_as, byte_as, byte_on}
@@ -23,7 +22,7 @@ bytes-preserved-then-skipped-gt0 g c =
     let count = run.count in
     let long = length-events c.bytes.around.template (lines_in c.args.rows) (8 * c.bytes.i) (8 * c.skip_run-skipped.result) in
     record {
-      inside = omega (arith, c.skip_run-skipped.ensures.inside);
+      inside = omega arith;
       puts = puts_as
           (events_on _ _ (lines_in c.args.rows) (8 * c.bytes.i) _ (8 * c.skip_run-skipped.result) (8 * (c.bytes.i + c.skip_run-skipped.result)) c.bytes.invariant.stands.template_is refl (omega arith))
           (puts_join c.bytes.invariant.puts run);
@@ -46,8 +45,7 @@ returns-in_err-encode_byte g c =
     let lines : Lines = lines_in c.args.rows in
     let none = c.if-skipped-gt0.false in
     let small : c.byte-byte.result.byte < 256 = omega arith in
-    let before : Puts g.W.CodeSink (events_from c.args.template lines 0 (8 * c.bytes.i)) c.args.coder.now c.skip_run-skipped.new.coder (Ok tt) =
-    puts_as
+    let before = puts_as
     (events_on _ _ lines (8 * c.bytes.i) _ (8 * c.skip_run-skipped.result) (8 * c.bytes.i) c.bytes.invariant.stands.template_is refl (omega arith))
     (puts_join c.bytes.invariant.puts c.skip_run-skipped.ensures.puts) in
     puts_as (events_rest c.args.template lines 0 (8 * (c.bytes.i + 1)) c.args.rows.width (omega arith))
@@ -65,11 +63,10 @@ bytes-preserved g c =
     let long = length-events c.bytes.around.template lines (8 * c.bytes.i) (8 * c.skip_run-skipped.result) in
     let eight = length-events c.byte-byte.result.around.template (byte_lines c.byte-byte.result) 128 8 in
     let small : c.byte-byte.result.byte < 256 = omega arith in
-    let before : Puts g.W.CodeSink (events_from c.args.template lines 0 (8 * c.bytes.i)) c.args.coder.now c.skip_run-skipped.new.coder (Ok tt) =
-    puts_as
+    let before = puts_as
     (events_on _ _ lines (8 * c.bytes.i) _ (8 * c.skip_run-skipped.result) (8 * c.bytes.i) c.bytes.invariant.stands.template_is refl (omega arith))
     (puts_join c.bytes.invariant.puts run) in
-    let is : IsByte c.byte-byte.result c.byte-byte.result.around.template lines c.bytes.i = byte_as (sym c.byte-byte.ensures.template_is) c.byte-byte.ensures in
+    let is = byte_as (sym c.byte-byte.ensures.template_is) c.byte-byte.ensures in
     record {
       inside = omega arith;
       puts = puts_as (byte_on 8 (8 * (c.bytes.i + 1)) small c.byte-byte.ensures c.bytes.invariant.stands.template_is (omega arith) (omega arith))

@@ -23,11 +23,11 @@ words-init g c =
 
 pub words-preserved : goal.words-preserved
 words-preserved g c =
-    let more : 8 * (c.words.at - c.args.i) + 64 ≡ 8 * ((c.words.at + 8) - c.args.i) = omega (arith, c.words.invariant.from) in
+    let more : 8 * (c.words.at - c.args.i) + 64 ≡ 8 * ((c.words.at + 8) - c.args.i) = omega arith in
     let h = c.skip_pixels.ensures.done c.if-skip_pixels.true in
     let e = h.count in
     record {
-      from = omega (arith, c.words.invariant.from);
+      from = omega arith;
       left = omega arith;
       some = omega arith;
       uniform = uniform_more c.words.at c.words.invariant.from c.words.invariant.uniform
@@ -40,9 +40,9 @@ words-preserved g c =
 
 pub returns : goal.returns
 returns g c =
-    let last : c.args.i + (c.words.at - c.args.i) ≡ c.words.at = omega (arith, c.words.invariant.from) in
+    let last : c.args.i + (c.words.at - c.args.i) ≡ c.words.at = omega arith in
     record {
-      inside = omega (arith, c.words.invariant.from);
+      inside = omega arith;
       uniform = c.words.invariant.uniform;
       puts = elim c.words-test.branch [
         | then-words-test+then-is_all+else-skip_pixels w ↦
