@@ -13,7 +13,7 @@ use Rattle.qm_core.specs.Machine.{run_bytes}
 use Rattle.qm_core.specs.Encoder.{has_failed, encoder_registers, EncoderIsAt, EncoderStands}
 use Rattle.qm_core.specs.declared.batch.Tail.{Tail}
 use Rattle.qm_core.specs.declared.encoder.Encoder.{Encoder}
-use Rattle.qm_core.proofs.Waiting.{is_place}
+use Rattle.qm_core.proofs.Ending.{is_place}
 
 same_held : (g h : Option ℕ) → is_some g ≡ is_some h → unwrap_or g 0 ≡ unwrap_or h 0 → g ≡ h
 same_held None None s e = refl
@@ -85,4 +85,4 @@ stands e low =
         value = omega (arith, scaled (number run) e.bits, low);
       };
     } in
-    record { place = p; is_place = is_place e p [] codes; pushed = []; codes = codes }
+    record { place = p; is_place = is_place e codes; pushed = []; codes = codes }

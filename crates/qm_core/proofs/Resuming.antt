@@ -1,8 +1,6 @@
 -- A decoder that goes on after its source has failed.
-use Rattle.std.proofs.Common.{◌≡◌, ◌≤◌, List, [], ◌∷◌, length, arith, refl, sym, ◌∙◌, ap, subst, replicate, ◌++◌}
+use Rattle.std.proofs.Common.{◌≡◌, ◌≤◌, List, [], ◌∷◌, length, arith, refl, sym, ◌∙◌, ap, subst}
 use Rattle.qm_core.specs.Place.{Place}
-use Rattle.qm_core.specs.Code.{IsBytes}
-use Rattle.qm_core.specs.Machine.{Registers}
 use Rattle.qm_core.specs.Source.{bytes_of, heard_of, IsClosed, before_fault}
 use Rattle.qm_core.specs.Decoder.{DecoderIsAt}
 use Rattle.qm_core.specs.declared.source.Pulled.{Pulled}
@@ -43,26 +41,22 @@ same_kept (End ∷ answers) c h = ap (λ l. End ∷ l) (ap before_fault c ∙ sy
 same_kept (Fault ∷ answers) c h = absurd (h refl)
 
 -- a decoder that had stopped
-pub stands_again : (d d' : Decoder) (p : Place) (answers : List Pulled) → d.heard ≡ Stopped → d'.heard ≡ More → d'.code ≡ d.code → d'.span ≡ d.span → d'.bits ≡ d.bits →
+pub stands_again : {d d' : Decoder} {p : Place} {answers : List Pulled} → d.heard ≡ Stopped → d'.heard ≡ More → d'.code ≡ d.code → d'.span ≡ d.span → d'.bits ≡ d.bits →
     DecoderIsAt d p answers → DecoderIsAt d' p (before_fault answers)
-stands_again d d' p answers stopped more code span bits s =
+stands_again {answers = answers} stopped more code span bits s =
     let heard : heard_of answers ≡ Stopped = sym s.heard ∙ stopped in
     let same = bytes_kept answers s.closed in
     let kept = few_kept answers in
     let few = s.few in
-    let going = heard_kept answers heard in
     record {
-      heard = more ∙ sym going;
+      heard = more ∙ sym (heard_kept answers heard);
       closed = closed_kept answers s.closed;
-      bytes = subst IsBytes (sym same) s.bytes;
+      bytes = rw same s.bytes;
       few = omega arith;
       zeros = s.zeros;
       no_zeros = λ _. s.no_zeros (λ e. cc);
-      registers = subst (λ z. Registers z d'.span d'.bits p (bytes_of (before_fault answers) ++ replicate s.zeros 0)) (sym code)
-          (subst (λ z. Registers d.code z d'.bits p (bytes_of (before_fault answers) ++ replicate s.zeros 0)) (sym span)
-          (subst (λ z. Registers d.code d.span z p (bytes_of (before_fault answers) ++ replicate s.zeros 0)) (sym bits)
-          (subst (λ z. Registers d.code d.span d.bits p (z ++ replicate s.zeros 0)) (sym same) s.registers)));
+      registers = rw (code, span, bits, same) s.registers;
     }
 
-pub stands_still : (d : Decoder) (p : Place) (answers : List Pulled) → (d.heard ≡ Stopped → ⊥) → DecoderIsAt d p answers → DecoderIsAt d p (before_fault answers)
-stands_still d p answers going s = subst (DecoderIsAt d p) (sym (same_kept answers s.closed (λ h. going (s.heard ∙ h)))) s
+pub stands_still : {d : Decoder} {p : Place} {answers : List Pulled} → (d.heard ≡ Stopped → ⊥) → DecoderIsAt d p answers → DecoderIsAt d p (before_fault answers)
+stands_still {answers = answers} going s = rw (same_kept answers s.closed (λ h. going (s.heard ∙ h))) s

@@ -2,15 +2,15 @@
 use Rattle.std.proofs.Common.{ℕ, ◌≡◌, ◌≤◌, ◌+◌, ◌*◌, Bool, true, false, nat_eq, List, [], ◌∷◌, ◌++◌, length, refl, ap, sym, ◌∙◌, subst, arith, append-nil, length-append}
 use Rattle.std.specs.Prelude.{if◌then◌else◌}
 use Rattle.std.proofs.lemmas.Bool.{eqb-true}
-use Rattle.qm_core.specs.Place.{Place, IsPlace, State, Event, after}
+use Rattle.qm_core.specs.Place.{IsPlace, State, Event, after}
 use Rattle.qm_core.specs.Code.{IsCode, stuffed, code_of, wanted_bytes}
 use Rattle.qm_core.specs.Machine.{run_bytes}
 use Rattle.qm_core.specs.Encoder.{EncoderIsAt, IsStuffedFront, waiting_bytes}
 use Rattle.qm_core.specs.declared.encoder.Encoder.{Encoder}
 use Rattle.qm_core.proofs.CodeOf.{code_of-IsCode}
 use Rattle.qm_core.proofs.OneCode.{code_is}
-use Rattle.qm_core.proofs.Ending.{front_place}
-use Rattle.qm_core.proofs.Fronts.{Codes-front}
+use Rattle.qm_core.proofs.Ending.{is_place}
+use Rattle.qm_core.proofs.Fronts.{encoder_front}
 use Rattle.qm_core.proofs.Inverse.{front_begins}
 use Rattle.qm_core.proofs.Lengths.{events_double, fraction_short, stuffed_short}
 use Rattle.qm_core.proofs.Pixels.{after-IsPlace, after-inside}
@@ -19,30 +19,6 @@ use Rattle.qm_core.proofs.Written.{stuffed-append}
 
 -- ---- a stuffed list that goes on is that of a list that goes on
 
--- what is after the first byte
-head_tail : (c f : ℕ) (cs fs more : List ℕ) → (test other : Bool) → nat_eq f 255 ≡ test → nat_eq c 255 ≡ other →
-    ((stuffed fs ++ more ≡ stuffed cs) → (rest : List ℕ) × (cs ≡ fs ++ rest) × (more ≡ stuffed rest)) →
-    (if test then 255 ∷ 0 ∷ stuffed fs else f ∷ stuffed fs) ++ more ≡ (if other then 255 ∷ 0 ∷ stuffed cs else c ∷ stuffed cs) →
-    (rest : List ℕ) × (c ∷ cs ≡ f ∷ (fs ++ rest)) × (more ≡ stuffed rest)
-head_tail c f cs fs more true true ft ct further e =
-    let same : stuffed fs ++ more ≡ stuffed cs = cc in
-    let r = further same in
-    let one : c ≡ f = eqb-true c 255 ct ∙ sym (eqb-true f 255 ft) in
-    (r.0, ap (λ x. x ∷ cs) one ∙ ap (λ xs. f ∷ xs) r.1, r.2)
-head_tail c f cs fs more true false ft ct further e =
-    let first : 255 ≡ c = cc in
-    let same : true ≡ false = subst (λ n. nat_eq n 255 ≡ false) (sym first) ct in
-    cc
-head_tail c f cs fs more false true ft ct further e =
-    let first : f ≡ 255 = cc in
-    let same : true ≡ false = subst (λ n. nat_eq n 255 ≡ false) first ft in
-    cc
-head_tail c f cs fs more false false ft ct further e =
-    let first : f ≡ c = cc in
-    let same : stuffed fs ++ more ≡ stuffed cs = cc in
-    let r = further same in
-    (r.0, ap (λ x. x ∷ cs) (sym first) ∙ ap (λ xs. f ∷ xs) r.1, r.2)
-
 not_empty : (f : ℕ) (fs more : List ℕ) → (test : Bool) → (if test then 255 ∷ 0 ∷ stuffed fs else f ∷ stuffed fs) ++ more ≡ [] → ⊥
 not_empty f fs more true e = cc
 not_empty f fs more false e = cc
@@ -50,7 +26,28 @@ not_empty f fs more false e = cc
 unstuffed : (front all more : List ℕ) → stuffed front ++ more ≡ stuffed all → (rest : List ℕ) × (all ≡ front ++ rest) × (more ≡ stuffed rest)
 unstuffed [] all more e = (all, refl, e)
 unstuffed (f ∷ fs) [] more e = absurd (not_empty f fs more (nat_eq f 255) e)
-unstuffed (f ∷ fs) (c ∷ cs) more e = head_tail c f cs fs more (nat_eq f 255) (nat_eq c 255) refl refl (unstuffed fs cs more) e
+unstuffed (f ∷ fs) (c ∷ cs) more e = went (nat_eq f 255) (nat_eq c 255) refl refl e (unstuffed fs cs more) where
+  went : (test other : Bool) → nat_eq f 255 ≡ test → nat_eq c 255 ≡ other →
+      (if test then 255 ∷ 0 ∷ stuffed fs else f ∷ stuffed fs) ++ more ≡ (if other then 255 ∷ 0 ∷ stuffed cs else c ∷ stuffed cs) →
+      (stuffed fs ++ more ≡ stuffed cs → (rest : List ℕ) × (cs ≡ fs ++ rest) × (more ≡ stuffed rest)) → (rest : List ℕ) × (c ∷ cs ≡ f ∷ (fs ++ rest)) × (more ≡ stuffed rest)
+  went true true ft ct e further =
+      let r = further (let same : stuffed fs ++ more ≡ stuffed cs = cc in same) in
+      let one : c ≡ f = eqb-true c 255 ct ∙ sym (eqb-true f 255 ft) in
+      let tail = r.1 in
+      (r.0, (let all : c ∷ cs ≡ f ∷ (fs ++ r.0) = cc in all), r.2)
+  went true false ft ct e further =
+      let first : 255 ≡ c = cc in
+      let same : true ≡ false = subst (λ n. nat_eq n 255 ≡ false) (sym first) ct in
+      cc
+  went false true ft ct e further =
+      let first : f ≡ 255 = cc in
+      let same : true ≡ false = subst (λ n. nat_eq n 255 ≡ false) first ft in
+      cc
+  went false false ft ct e further =
+      let r = further (let same : stuffed fs ++ more ≡ stuffed cs = cc in same) in
+      let first : f ≡ c = cc in
+      let tail = r.1 in
+      (r.0, (let all : c ∷ cs ≡ f ∷ (fs ++ r.0) = cc in all), r.2)
 
 -- ---- the counts
 
@@ -66,22 +63,13 @@ few_pushed e e' s events pushed more at at' =
     let doubled = events_double events s in
     omega (arith, short, long, split, a, b, doubled, at.digits.count, at'.digits.count)
 
--- an encoder's place
-pub is_place : (e : Encoder) (p : Place) (pushed : List ℕ) → EncoderIsAt e p pushed → IsPlace p
-is_place e p pushed at =
-    let size = at.digits.size in
-    let large : 0x40_0000 ≤ e.span = e.large in
-    let small : e.span ≤ 0x80_0000 = e.small in
-    let front = Codes-front e.low e.span e.bits e.tail.zeros e.tail.held e.tail.ones p pushed e.tail.raisable e.room e.fixed at in
-    front_place front.front p front.begins (omega (arith, size)) (omega (arith, size))
-
 code_few : (e : Encoder) (s : State) (events : List Event) (pushed : List ℕ) → EncoderIsAt e s.place pushed → length (stuffed (code_of (after s events).place)) ≤ length pushed + (2 * waiting_bytes e + 4 * length events)
 code_few e s events pushed at =
-    let here : IsPlace s.place = is_place e s.place pushed at in
+    let here : IsPlace s.place = is_place e at in
     let there : IsPlace (after s events).place = after-IsPlace events s here in
     let code = code_of (after s events).place in
     let is = code_of-IsCode (after s events).place there in
-    let front = Codes-front e.low e.span e.bits e.tail.zeros e.tail.held e.tail.ones s.place pushed e.tail.raisable e.room e.fixed at in
+    let front = encoder_front e at in
     let r = front_begins s.place code front.front is.bytes (after-inside events s code here (code-Lies (after s events).place code is)) front.begins in
     let few : length code ≤ wanted_bytes (after s events).place.doublings = fraction_short _ _ _ in
     let split : length code ≡ length front.front + length r.0 = ap length r.1 ∙ length-append front.front r.0 in
@@ -97,13 +85,13 @@ code_few e s events pushed at =
 pub few_to_end : (e : Encoder) (s : State) (events : List Event) (pushed code : List ℕ) → EncoderIsAt e s.place pushed → IsCode (after s events).place code →
     length (stuffed code) ≤ length pushed + (2 * waiting_bytes e + 4 * length events)
 few_to_end e s events pushed code at is =
-    let there : IsPlace (after s events).place = after-IsPlace events s (is_place e s.place pushed at) in
+    let there : IsPlace (after s events).place = after-IsPlace events s (is_place e at) in
     subst (λ c. length (stuffed c) ≤ length pushed + (2 * waiting_bytes e + 4 * length events)) (sym (code_is (after s events).place code there is)) (code_few e s events pushed at)
 
 pub few_in_front : (e : Encoder) (s : State) (events : List Event) (pushed front : List ℕ) → EncoderIsAt e s.place pushed → IsStuffedFront front (after s events).place →
     length front ≤ length pushed + (2 * waiting_bytes e + 4 * length events)
 few_in_front e s events pushed front at begins =
-    let there : IsPlace (after s events).place = after-IsPlace events s (is_place e s.place pushed at) in
+    let there : IsPlace (after s events).place = after-IsPlace events s (is_place e at) in
     let code = code_of (after s events).place in
     let is = code_of-IsCode (after s events).place there in
     let r = front_begins (after s events).place code begins.front is.bytes (code-Lies (after s events).place code is) begins.begins in

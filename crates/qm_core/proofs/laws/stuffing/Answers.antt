@@ -1,5 +1,5 @@
 use Rattle.qm_core.proofs.Written.{stuffed-append}
-use Rattle.qm_core.proofs.Fronts.{Codes-front}
+use Rattle.qm_core.proofs.Fronts.{encoder_front}
 use Rattle.std.proofs.Common.{ap, sym, ◌∙◌, ◌++◌}
 use Rattle.qm_core.specs.Code.{stuffed}
 use Rattle.qm_core.proofs.Shortest.{code-Lies}
@@ -10,7 +10,7 @@ pub returns-clause-stuffed_append : goal.returns-clause-stuffed_append
 returns-clause-stuffed_append c = stuffed-append
 
 pub returns-clause-pushed_is_front : goal.returns-clause-pushed_is_front
-returns-clause-pushed_is_front c = λ e p pushed codes. Codes-front e.low e.span e.bits e.tail.zeros e.tail.held e.tail.ones p pushed e.tail.raisable e.room e.fixed codes
+returns-clause-pushed_is_front c = λ e p pushed. encoder_front e
 
 pub returns-clause-stuffed_code_begins : goal.returns-clause-stuffed_code_begins
 returns-clause-stuffed_code_begins c = λ p bytes code f is.

@@ -4,5 +4,5 @@ use Rattle.qm_core.proofs.coder.Coder.skip.Goals as goal
 
 pub returns : goal.returns
 returns g c =
-    skips_run g.W.CodeSink _ _ _ c.args.count c.skip.result (record { learned_is = refl; encoder_is = refl; out_is = refl }) refl refl
-    c.skip.ensures.skips.0 c.skip.ensures.skips.1 c.skip.ensures.skips.2 c.skip.ensures.skips.3 c.skip.ensures.skipped c.skip.ensures.exact
+    skips_run g.W.CodeSink (record { learned_is = refl; encoder_is = refl; out_is = refl })
+    (record { learned = refl; out = refl; skips = c.skip.ensures.skips; run = c.skip.ensures.skipped; exact = c.skip.ensures.exact })

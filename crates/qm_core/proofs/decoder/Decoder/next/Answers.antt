@@ -1,4 +1,5 @@
-use Rattle.std.proofs.Common.{◌≤◌, nat_eq, List, [], ◌++◌, append-nil, sym}
+use Rattle.std.proofs.Common.{◌≤◌, List, [], ◌++◌, append-nil, sym}
+use Rattle.qm_core.specs.Place.{state_of}
 use Rattle.qm_core.specs.Source.{Pulls, Gives}
 use Rattle.qm_core.specs.Decoder.{DecoderIsAt}
 use Rattle.qm_core.specs.declared.source.Pulled.{Pulled}
@@ -8,7 +9,7 @@ use Rattle.qm_core.proofs.decoder.Decoder.next.Goals.{then-self-lt16+in_ok-fill,
 
 pub returns-in_err-fill-clause-next : goal.returns-in_err-fill-clause-next
 returns-in_err-fill-clause-next g c = λ p answers s.
-    next_err _ _ _ p c.args.learned.now answers c.args.cx.number c.fill.new.self _ _ (c.in_err-fill.ensures.fills p answers s) c.from_residual.ensures.0
+    next_err {s = state_of p c.args.learned.now} (c.in_err-fill.ensures.fills p answers s) c.from_residual.ensures.0
 
 pub returns-clause-next : goal.returns-clause-next
 returns-clause-next g c = λ p answers s.
@@ -20,6 +21,6 @@ returns-clause-next g c = λ p answers s.
       | else-self-lt16 w ↦
           ([], sym w.source-is, rw (w.self-is, append-nil) s, rw w.self-is w.if-self-lt16.false)
     ] in
-    next_ok (Pulls g.S.CodeBytes.gives g.S.CodeBytes.failed) c.args.source.now c.if-self-lt16.source p c.args.learned.now answers c.args.cx.number
-    ready.0 c.if-self-lt16.self c.decide.new.self c.decide.new.learned (nat_eq c.decide.result 1) ready.1 ready.2 ready.3
-    c.decide.ensures.heard c.decide.ensures.bits (λ b r. c.decide.ensures.place p b r) (c.decide.ensures.learned p ready.2.registers.size)
+    next_ok {s = state_of p c.args.learned.now} ready.0 ready.1 ready.2
+    (record { enough = ready.3; heard = c.decide.ensures.heard; less = c.decide.ensures.bits; registers = c.decide.ensures.place p })
+    (c.decide.ensures.learned p ready.2.registers.size)

@@ -1,67 +1,54 @@
-use Rattle.std.proofs.Common.{◌-◌, ◌++◌, arith}
-use Rattle.qm_core.specs.Code.{stuffed}
-use Rattle.qm_core.specs.Machine.{run_bytes}
+use Rattle.std.proofs.Common.{◌-◌, ◌++◌, List, ℕ, arith}
+use Rattle.qm_core.specs.Code.{IsChosen, stuffed}
+use Rattle.qm_core.specs.Encoder.{EncoderIsAt}
+use Rattle.qm_core.specs.Place.{Place}
 use Rattle.qm_core.proofs.Written.{writes_more, writes_err}
-use Rattle.qm_core.proofs.Fronts.{trimmed_run, bytes-append, bytes_batch}
-use Rattle.qm_core.proofs.Finishing.{whole_128, value_room, value_whole, chosen_digits, next_digits, digits_low, last_digits, is_chosen, code_is, stuffed_all, rest_zeros, shifted_whole}
+use Rattle.qm_core.proofs.Tails.{batch_bytes}
+use Rattle.qm_core.proofs.Fronts.{whole_batch}
+use Rattle.qm_core.proofs.Finishing.{Ended, whole_128, value_room, value_whole, chosen_digits, next_digits, digits_low, last_digits, is_chosen, code_is, stuffed_all, rest_zeros, shifted_whole}
+use Rattle.qm_core.proofs.encoder.Encoder.finish_short.Given as given
 use Rattle.qm_core.proofs.encoder.Encoder.finish_short.Goals as goal
+use Rattle.qm_core.proofs.encoder.Encoder.finish_short.Goals.{After-settle-rest}
 
 pub byte_out-first-requires-clause-room : goal.byte_out-first-requires-clause-room
 byte_out-first-requires-clause-room g c =
-    let even = whole_128 c.args.self.low c.args.self.span c.chosen.result c.args.self.large c.chosen.ensures.most_even in
-    let r = value_room c.args.self.low c.args.self.span c.chosen.result c.args.self.bits 8 c.requires.short c.chosen.ensures.below c.args.self.room (omega arith) even in (
+    let chosen : IsChosen (record { low = c.args.self.low; size = c.args.self.span; doublings = 0 }) c.chosen.result =
+    record { from = c.chosen.ensures.from; below = c.chosen.ensures.below; most_even = c.chosen.ensures.most_even } in
+    let even = whole_128 c.args.self.large chosen in
+    let r = value_room c.chosen.result c.args.self.bits 8 c.requires.short (omega arith) (omega arith) even in (
       rw (value_whole c.chosen.result c.args.self.bits 8 (omega arith) r) r,
       λ none.
-          let half = value_room c.args.self.low c.args.self.span c.chosen.result c.args.self.bits 7 c.requires.short c.chosen.ensures.below (c.args.self.fixed none) (omega arith) even in
+          let half = value_room c.chosen.result c.args.self.bits 7 c.requires.short (omega arith) (omega (arith, c.args.self.fixed none)) even in
           rw (value_whole c.chosen.result c.args.self.bits 7 (omega arith) half) half,
     )
 
+-- the bytes that are written end the code
+ended : (g : given.Over) (c : After-settle-rest g) (p : Place) (pushed : List ℕ) → EncoderIsAt c.args.self p pushed →
+    Ended p pushed (stuffed (batch_bytes c.byte_out-first.result.batch ++ batch_bytes c.byte_out-second.result.batch) ++ stuffed (batch_bytes c.byte_out-third.result.batch ++ batch_bytes c.settle-rest.result))
+ended g c p pushed s =
+    let chosen : IsChosen (record { low = c.args.self.low; size = c.args.self.span; doublings = 0 }) c.chosen.result =
+    record { from = c.chosen.ensures.from; below = c.chosen.ensures.below; most_even = c.chosen.ensures.most_even } in
+    let e = whole_128 c.args.self.large chosen in
+    let r = value_room c.chosen.result c.args.self.bits 8 c.requires.short (omega arith) (omega arith) e in
+    let d0 = chosen_digits e.0 c.requires.short e.1 s.digits in
+    let d1 = c.byte_out-first.ensures.digits _ s.front (digits_low (value_whole c.chosen.result c.args.self.bits 8 (omega arith) r) d0) in
+    let d2 = c.byte_out-second.ensures.digits _ _ (digits_low (shifted_whole c.byte_out-first.result.low c.byte_out-first.ensures.left) (next_digits d1)) in
+    let d3 = c.byte_out-third.ensures.digits _ _ (digits_low (shifted_whole c.byte_out-second.result.low c.byte_out-second.ensures.left) (next_digits d2)) in
+    let l = last_digits _ _ c.byte_out-third.ensures.left d3 in
+    let is = is_chosen e.0 s.digits e.1 chosen c.args.self.least (let z = s.digits.size in let small = c.args.self.small in omega arith) in
+    let front = whole_batch c.byte_out-third.result.batch (whole_batch c.byte_out-second.result.batch (whole_batch c.byte_out-first.result.batch (record { bytes = s.bytes; trimmed = s.trimmed }))) in
+    record {
+      code = _;
+      is = code_is (24 - c.args.self.bits) c.settle-rest.new.self.zeros (whole_batch c.settle-rest.result front) is (rest_zeros _ (batch_bytes c.settle-rest.result) _ _ c.settle-rest.ensures.bytes) l;
+      all = stuffed_all s.front _ _ _ _ s.is;
+    }
+
 pub returns-in_err-write_both-clause-code : goal.returns-in_err-write_both-clause-code
 returns-in_err-write_both-clause-code g c = λ p pushed s.
-    let r = value_room c.args.self.low c.args.self.span c.chosen.result c.args.self.bits 8 c.requires.short c.chosen.ensures.below c.args.self.room (omega arith) (whole_128 c.args.self.low c.args.self.span c.chosen.result c.args.self.large c.chosen.ensures.most_even) in
-    let e = whole_128 c.args.self.low c.args.self.span c.chosen.result c.args.self.large c.chosen.ensures.most_even in
-    let d0 = chosen_digits c.args.self.low c.args.self.span c.args.self.bits c.chosen.result e.0 p (s.front ++ run_bytes c.args.self.tail.zeros c.args.self.tail.held c.args.self.tail.ones) c.requires.short e.1 s.digits in
-    let d1 = c.byte_out-first.ensures.digits _ s.front (digits_low _ _ _ _ _ _ (value_whole c.chosen.result c.args.self.bits 8 (omega arith) r) d0) in
-    let d2 = c.byte_out-second.ensures.digits _ _ (digits_low _ _ _ _ _ _ (shifted_whole c.byte_out-first.result.low c.byte_out-first.ensures.left) (next_digits _ _ _ d1)) in
-    let d3 = c.byte_out-third.ensures.digits _ _ (digits_low _ _ _ _ _ _ (shifted_whole c.byte_out-second.result.low c.byte_out-second.ensures.left) (next_digits _ _ _ d2)) in
-    let l = last_digits c.byte_out-third.result.low _ _ _ _ c.byte_out-third.ensures.left d3 in
-    let b1 = c.byte_out-first.result.batch in
-    let b2 = c.byte_out-second.result.batch in
-    let b3 = c.byte_out-third.result.batch in
-    let b4 = c.settle-rest.result in
-    let chosen = is_chosen c.args.self.low c.args.self.span c.args.self.bits c.chosen.result e.0 p (s.front ++ run_bytes c.args.self.tail.zeros c.args.self.tail.held c.args.self.tail.ones) s.digits e.1 c.chosen.ensures.from c.chosen.ensures.below c.chosen.ensures.most_even
-    c.args.self.least (let z = s.digits.size in let small = c.args.self.small in omega arith) in
-    let bytes = bytes-append (((s.front ++ run_bytes b1.zeros b1.byte b1.ones) ++ run_bytes b2.zeros b2.byte b2.ones) ++ run_bytes b3.zeros b3.byte b3.ones) _ (bytes-append ((s.front ++ run_bytes b1.zeros b1.byte b1.ones) ++ run_bytes b2.zeros b2.byte b2.ones) _ (bytes-append (s.front ++ run_bytes b1.zeros b1.byte b1.ones) _ (bytes-append s.front _ s.bytes (bytes_batch b1.zeros b1.byte b1.ones b1.small)) (bytes_batch b2.zeros b2.byte b2.ones b2.small)) (bytes_batch b3.zeros b3.byte b3.ones b3.small)) (bytes_batch b4.zeros b4.byte b4.ones b4.small) in
-    let trimmed = trimmed_run (((s.front ++ run_bytes b1.zeros b1.byte b1.ones) ++ run_bytes b2.zeros b2.byte b2.ones) ++ run_bytes b3.zeros b3.byte b3.ones) b4.zeros b4.byte b4.ones (trimmed_run ((s.front ++ run_bytes b1.zeros b1.byte b1.ones) ++ run_bytes b2.zeros b2.byte b2.ones) b3.zeros b3.byte b3.ones (trimmed_run (s.front ++ run_bytes b1.zeros b1.byte b1.ones) b2.zeros b2.byte b2.ones (trimmed_run s.front b1.zeros b1.byte b1.ones s.trimmed b1.nonzero b1.trimmed) b2.nonzero b2.trimmed) b3.nonzero b3.trimmed) b4.nonzero b4.trimmed in
-    record {
-      code = (((s.front ++ run_bytes b1.zeros b1.byte b1.ones) ++ run_bytes b2.zeros b2.byte b2.ones) ++ run_bytes b3.zeros b3.byte b3.ones) ++ run_bytes b4.zeros b4.byte b4.ones;
-      is = code_is p _ (24 - c.args.self.bits) c.settle-rest.new.self.zeros ((((s.front ++ run_bytes b1.zeros b1.byte b1.ones) ++ run_bytes b2.zeros b2.byte b2.ones) ++ run_bytes b3.zeros b3.byte b3.ones) ++ run_bytes b4.zeros b4.byte b4.ones) _ bytes trimmed chosen (rest_zeros (((s.front ++ run_bytes b1.zeros b1.byte b1.ones) ++ run_bytes b2.zeros b2.byte b2.ones) ++ run_bytes b3.zeros b3.byte b3.ones) (run_bytes b4.zeros b4.byte b4.ones) _ c.settle-rest.new.self.zeros c.settle-rest.ensures.bytes) l.0 l.1;
-      more = stuffed (run_bytes b1.zeros b1.byte b1.ones ++ run_bytes b2.zeros b2.byte b2.ones) ++ stuffed (run_bytes b3.zeros b3.byte b3.ones ++ run_bytes b4.zeros b4.byte b4.ones);
-      all = stuffed_all pushed s.front _ _ _ _ s.is;
-      writes = writes_err g.W.CodeSink c.args.out.now c.write_both.new.out _ _ _ c.from_residual.result c.in_err-write_both.ensures.writes c.from_residual.ensures.0;
-    }
+    let e = ended g (goal.at.returns-in_err-write_both-clause-code g c).After-settle-rest p pushed s in
+    record { code = e.code; is = e.is; more = _; all = e.all; writes = writes_err _ c.in_err-write_both.ensures.writes c.from_residual.ensures.0 }
 
 pub returns-clause-code : goal.returns-clause-code
 returns-clause-code g c = λ p pushed s.
-    let r = value_room c.args.self.low c.args.self.span c.chosen.result c.args.self.bits 8 c.requires.short c.chosen.ensures.below c.args.self.room (omega arith) (whole_128 c.args.self.low c.args.self.span c.chosen.result c.args.self.large c.chosen.ensures.most_even) in
-    let e = whole_128 c.args.self.low c.args.self.span c.chosen.result c.args.self.large c.chosen.ensures.most_even in
-    let d0 = chosen_digits c.args.self.low c.args.self.span c.args.self.bits c.chosen.result e.0 p (s.front ++ run_bytes c.args.self.tail.zeros c.args.self.tail.held c.args.self.tail.ones) c.requires.short e.1 s.digits in
-    let d1 = c.byte_out-first.ensures.digits _ s.front (digits_low _ _ _ _ _ _ (value_whole c.chosen.result c.args.self.bits 8 (omega arith) r) d0) in
-    let d2 = c.byte_out-second.ensures.digits _ _ (digits_low _ _ _ _ _ _ (shifted_whole c.byte_out-first.result.low c.byte_out-first.ensures.left) (next_digits _ _ _ d1)) in
-    let d3 = c.byte_out-third.ensures.digits _ _ (digits_low _ _ _ _ _ _ (shifted_whole c.byte_out-second.result.low c.byte_out-second.ensures.left) (next_digits _ _ _ d2)) in
-    let l = last_digits c.byte_out-third.result.low _ _ _ _ c.byte_out-third.ensures.left d3 in
-    let b1 = c.byte_out-first.result.batch in
-    let b2 = c.byte_out-second.result.batch in
-    let b3 = c.byte_out-third.result.batch in
-    let b4 = c.settle-rest.result in
-    let chosen = is_chosen c.args.self.low c.args.self.span c.args.self.bits c.chosen.result e.0 p (s.front ++ run_bytes c.args.self.tail.zeros c.args.self.tail.held c.args.self.tail.ones) s.digits e.1 c.chosen.ensures.from c.chosen.ensures.below c.chosen.ensures.most_even
-    c.args.self.least (let z = s.digits.size in let small = c.args.self.small in omega arith) in
-    let bytes = bytes-append (((s.front ++ run_bytes b1.zeros b1.byte b1.ones) ++ run_bytes b2.zeros b2.byte b2.ones) ++ run_bytes b3.zeros b3.byte b3.ones) _ (bytes-append ((s.front ++ run_bytes b1.zeros b1.byte b1.ones) ++ run_bytes b2.zeros b2.byte b2.ones) _ (bytes-append (s.front ++ run_bytes b1.zeros b1.byte b1.ones) _ (bytes-append s.front _ s.bytes (bytes_batch b1.zeros b1.byte b1.ones b1.small)) (bytes_batch b2.zeros b2.byte b2.ones b2.small)) (bytes_batch b3.zeros b3.byte b3.ones b3.small)) (bytes_batch b4.zeros b4.byte b4.ones b4.small) in
-    let trimmed = trimmed_run (((s.front ++ run_bytes b1.zeros b1.byte b1.ones) ++ run_bytes b2.zeros b2.byte b2.ones) ++ run_bytes b3.zeros b3.byte b3.ones) b4.zeros b4.byte b4.ones (trimmed_run ((s.front ++ run_bytes b1.zeros b1.byte b1.ones) ++ run_bytes b2.zeros b2.byte b2.ones) b3.zeros b3.byte b3.ones (trimmed_run (s.front ++ run_bytes b1.zeros b1.byte b1.ones) b2.zeros b2.byte b2.ones (trimmed_run s.front b1.zeros b1.byte b1.ones s.trimmed b1.nonzero b1.trimmed) b2.nonzero b2.trimmed) b3.nonzero b3.trimmed) b4.nonzero b4.trimmed in
-    record {
-      code = (((s.front ++ run_bytes b1.zeros b1.byte b1.ones) ++ run_bytes b2.zeros b2.byte b2.ones) ++ run_bytes b3.zeros b3.byte b3.ones) ++ run_bytes b4.zeros b4.byte b4.ones;
-      is = code_is p _ (24 - c.args.self.bits) c.settle-rest.new.self.zeros ((((s.front ++ run_bytes b1.zeros b1.byte b1.ones) ++ run_bytes b2.zeros b2.byte b2.ones) ++ run_bytes b3.zeros b3.byte b3.ones) ++ run_bytes b4.zeros b4.byte b4.ones) _ bytes trimmed chosen (rest_zeros (((s.front ++ run_bytes b1.zeros b1.byte b1.ones) ++ run_bytes b2.zeros b2.byte b2.ones) ++ run_bytes b3.zeros b3.byte b3.ones) (run_bytes b4.zeros b4.byte b4.ones) _ c.settle-rest.new.self.zeros c.settle-rest.ensures.bytes) l.0 l.1;
-      more = stuffed (run_bytes b1.zeros b1.byte b1.ones ++ run_bytes b2.zeros b2.byte b2.ones) ++ stuffed (run_bytes b3.zeros b3.byte b3.ones ++ run_bytes b4.zeros b4.byte b4.ones);
-      all = stuffed_all pushed s.front _ _ _ _ s.is;
-      writes = writes_more g.W.CodeSink c.args.out.now c.write_both.new.out c.write_both-2.new.out _ _ c.write_both-2.result c.in_ok-write_both.ensures.writes.ok c.in_ok-write_both.ensures.writes.same c.write_both-2.ensures.writes;
-    }
+    let e = ended g (goal.at.returns-clause-code g c).After-settle-rest p pushed s in
+    record { code = e.code; is = e.is; more = _; all = e.all; writes = writes_more c.in_ok-write_both.ensures.writes c.write_both-2.ensures.writes }
