@@ -1,5 +1,6 @@
 -- Pixels that come one by one, eight to a byte.
-use Rattle.std.proofs.Common.{cond, ◌≡◌, ◌≤◌, ◌<◌, ◌+◌, ◌*◌, ◌-◌, ◌%◌, ◌^◌, ◌⊎◌, inl, inr, ℕ, zero, suc, Bool, true, false, List, [], ◌∷◌, ◌++◌, length, map, get_or, slice_index, slice_index_or, refl, sym, ap, ◌∙◌, subst, arith}
+use Rattle.std.proofs.Common.{cond, ◌≡◌, ◌≤◌, ◌<◌, ◌+◌, ◌*◌, ◌-◌, ◌%◌, ◌^◌, ◌⊎◌, inl, inr, ℕ, zero, suc, Bool, true, false, List, [], ◌∷◌, ◌++◌, length, map, get_or}
+use Rattle.std.proofs.Common.{slice_index, slice_index_or, refl, sym, ap, ◌∙◌, subst, arith}
 use mir.Val.{bool_byte}
 use Rattle.std.proofs.Math.Nat.{add-mul, pow-succ'}
 use Rattle.std.proofs.Math.Pow.{pow_mono}
@@ -63,7 +64,8 @@ padded [] n h = white_after 0 n ∙ (let e : 0 ≡ 0 * 2 ^ (n - 0) = omega arith
 padded (b ∷ bits) zero h = absurd (omega arith)
 padded (b ∷ bits) (suc n) h =
     let z : List Bool = map (λ x. get_or bits x false) (numbers_from 0 n) in
-    let tail : map (λ x. get_or (b ∷ bits) x false) (numbers_from 1 n) ≡ z = map_from (λ x. get_or (b ∷ bits) x false) (λ x. get_or bits x false) 1 0 n (λ x. let e : 1 + x ≡ suc x = omega arith in ap (λ i. get_or (b ∷ bits) i false) e) in
+    let tail : map (λ x. get_or (b ∷ bits) x false) (numbers_from 1 n) ≡ z = map_from (λ x. get_or (b ∷ bits) x false) (λ x. get_or bits x false) 1 0 n
+    (λ x. let e : 1 + x ≡ suc x = omega arith in ap (λ i. get_or (b ∷ bits) i false) e) in
     let less : length bits ≤ n = omega (arith, h) in
     let sum : n ≡ length bits + (n - length bits) = omega arith in
     let same : n - length bits ≡ suc n - suc (length bits) = omega arith in
@@ -89,7 +91,8 @@ byte_behind pixels more k long =
     ∙ ap binary (map_from (λ x. slice_index_or (pixels ++ more) x false) (λ x. slice_index_or more x false) (length pixels) 0 8 (λ x. get_or-append-add pixels more x false))
 
 -- a row whose bytes are those of these pixels
-pub row_packed : (width : ℕ) (row : List ℕ) (pixels : List Bool) → length pixels ≡ width → length row ≡ bytes_of_row width → ((k : ℕ) → k < length row → get_or row k 0 ≡ byte_at pixels k) → row ≡ packed_row pixels
+pub row_packed : (width : ℕ) (row : List ℕ) (pixels : List Bool) → length pixels ≡ width → length row ≡ bytes_of_row width →
+    ((k : ℕ) → k < length row → get_or row k 0 ≡ byte_at pixels k) → row ≡ packed_row pixels
 row_packed width row pixels wide whole each =
     sym (map_numbers (λ k. byte_at pixels k) 0 row 0 (λ i less. let e : 0 + i ≡ i = omega arith in ap (byte_at pixels) e ∙ sym (each i less)))
     ∙ ap (λ n. map (λ k. byte_at pixels k) (numbers_from 0 n)) (whole ∙ ap bytes_of_row (sym wide))

@@ -1,5 +1,6 @@
 -- Bytes that are held before those that a device has still to give.
-use Rattle.std.proofs.Common.{◌≡◌, ◌≤◌, ◌+◌, ◌-◌, ℕ, List, [], ◌++◌, Option, None, Some, length, take, drop, refl, sym, ap, ◌∙◌, append_assoc, take-append-drop, length-take, length-drop, subst, arith, rules}
+use Rattle.std.proofs.Common.{◌≡◌, ◌≤◌, ◌+◌, ◌-◌, ℕ, List, [], ◌++◌, Option, None, Some, length, take, drop, refl, sym, ap, ◌∙◌, append_assoc, take-append-drop}
+use Rattle.std.proofs.Common.{length-take, length-drop, subst, arith, rules}
 use Rattle.std.specs.Io.KnownBytes.{Consumes, Keeps, IsAtEnd, prepend_known}
 use Rattle.std.proofs.lemmas.List.{drop-take, drop-drop, take-take, take-append-le, take_all}
 use Rattle.pbm_core.specs.Buffered.{bytes_between}
@@ -36,9 +37,11 @@ held_after bytes at count end h =
     sym (ap (λ k. drop count (take k (drop at bytes))) n ∙ drop-take count (end - (at + count)) (drop at bytes) ∙ ap (take (end - (at + count))) (drop-drop count at bytes))
 
 -- so many bytes of those that are held
-pub some_taken : (bytes : List ℕ) (at count end : ℕ) (a : Option (List ℕ)) → at + count ≤ end → Consumes (prepend_known (bytes_between bytes at end) a) (prepend_known (bytes_between bytes (at + count) end) a) (take count (bytes_between bytes at end))
+pub some_taken : (bytes : List ℕ) (at count end : ℕ) (a : Option (List ℕ)) → at + count ≤ end →
+    Consumes (prepend_known (bytes_between bytes at end) a) (prepend_known (bytes_between bytes (at + count) end) a) (take count (bytes_between bytes at end))
 some_taken bytes at count end a fits =
-    subst (λ z. Consumes (prepend_known (bytes_between bytes at end) a) (prepend_known z a) (take count (bytes_between bytes at end))) (sym (held_after bytes at count end fits)) (consumes_held count (bytes_between bytes at end) a)
+    subst (λ z. Consumes (prepend_known (bytes_between bytes at end) a) (prepend_known z a) (take count (bytes_between bytes at end))) (sym (held_after bytes at count end fits))
+    (consumes_held count (bytes_between bytes at end) a)
 
 -- the end of the input, if no byte is buffered
 pub at_end_unheld : (held : List ℕ) (a : Option (List ℕ)) → held ≡ [] → IsAtEnd a → IsAtEnd (prepend_known held a)
@@ -46,7 +49,8 @@ at_end_unheld held None e h = tt
 at_end_unheld held (Some a) e h = ap (λ z. z ++ a) e ∙ h
 
 -- the bytes that were copied are the first of those that are held
-pub copied : (bytes source rest : List ℕ) (at count end : ℕ) → source ≡ take (at + count - at) (drop at bytes) → length source ≡ count → at + count ≤ end → take count (source ++ rest) ≡ take count (bytes_between bytes at end)
+pub copied : (bytes source rest : List ℕ) (at count end : ℕ) → source ≡ take (at + count - at) (drop at bytes) → length source ≡ count → at + count ≤ end →
+    take count (source ++ rest) ≡ take count (bytes_between bytes at end)
 copied bytes source rest at count end is long h =
     let n : at + count - at ≡ count = omega arith in
     take-append-le count source rest (omega arith) ∙ take_all count source (omega arith) ∙ is ∙ ap (λ k. take k (drop at bytes)) n ∙ sym (take-take count (end - at) (drop at bytes) (omega arith))

@@ -76,7 +76,8 @@ fails-after {T} {U} {a} {b} {c} {e} {P} {Q} {F} {G} {front} (Err y) is p q widen
   value = tt;
   fault = subst (λ z. F (front ++ q.given) (fault_of_given z)) (sym is) (widen q.given (fault_of_given e) q.fault);
   at_end = (λ h. q.at_end (sym is ∙ h));
-  failures = subst (λ z. CountsPbmRead {T = T} a.failures c.failures (Err z)) (sym is) (subst (λ n. CountsPbmRead {T = T} n c.failures (Err e)) p.failures (counted T U b.failures c.failures e q.failures));
+  failures = subst (λ z. CountsPbmRead {T = T} a.failures c.failures (Err z)) (sym is)
+      (subst (λ n. CountsPbmRead {T = T} n c.failures (Err e)) p.failures (counted T U b.failures c.failures e q.failures));
   same_input = record { same_source = q.same_input.same_source ∙ p.same_source; drained = drained q.same_input.drained };
 } where
   drained : (c.failures ≡ b.failures) ⊎ (c.held ≡ []) → (c.failures ≡ a.failures) ⊎ (c.held ≡ [])

@@ -36,7 +36,8 @@ scans-digit given pixels b black s is =
     (pixels-append s.digits (s.space ++ b ∷ []) pixels (black ∷ []) s.are_pixels (s.space, [], ap (λ n. s.space ++ n ∷ []) is, s.is_space, refl))
 
 -- eight digits at the beginning
-pub finds_eight : (bytes digits : List ℕ) (count : ℕ) → count ≡ 8 → 8 ≤ length bytes → digits ≡ take 8 bytes → (r : Option ℕ) → IfSome r (MakeByte 8 digits) → IfSome r (λ byte. FindsPixels count bytes (record { end = 8; byte = byte }))
+pub finds_eight : (bytes digits : List ℕ) (count : ℕ) → count ≡ 8 → 8 ≤ length bytes → digits ≡ take 8 bytes → (r : Option ℕ) → IfSome r (MakeByte 8 digits) →
+    IfSome r (λ byte. FindsPixels count bytes (record { end = 8; byte = byte }))
 finds_eight bytes digits count is long same None make = tt
 finds_eight bytes digits count is long same (Some byte) make = record {
   within = long;
@@ -44,4 +45,14 @@ finds_eight bytes digits count is long same (Some byte) make = record {
 }
 
 pub reads_pixels : {old new : InputView} {count byte : ℕ} {F : List ℕ → PbmFault → Type 0} → TakesPixels count old new byte → Reads old new (Ok byte) (MakeByte count) F
-reads_pixels t = record { given = t.given; taken = t.taken; left = t.left; value = t.make; fault = tt; at_end = tt; failures = t.failures; same_input = record { same_source = t.same_source; drained = inl t.failures } }
+reads_pixels t = record {
+  given = t.given;
+  taken = t.taken;
+  left = t.left;
+  value = t.make;
+  fault = tt;
+  at_end = tt;
+  failures = t.failures;
+  same_input = record
+      { same_source = t.same_source; drained = inl t.failures };
+}

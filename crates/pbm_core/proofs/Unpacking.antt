@@ -1,5 +1,6 @@
 -- Rows that are packed are read as these rows, and an image that is written as its rows.
-use Rattle.std.proofs.Common.{◌≡◌, ◌<◌, ◌+◌, ◌*◌, ◌-◌, ◌/◌, ◌%◌, ◌^◌, ℕ, zero, suc, Bool, true, false, List, [], ◌∷◌, ◌++◌, length, map, get_or, slice_index_or, refl, sym, ap, ◌∙◌, subst, arith, append_assoc, append-nil}
+use Rattle.std.proofs.Common.{◌≡◌, ◌<◌, ◌+◌, ◌*◌, ◌-◌, ◌/◌, ◌%◌, ◌^◌, ℕ, zero, suc, Bool, true, false, List, [], ◌∷◌, ◌++◌, length, map, get_or, slice_index_or, refl}
+use Rattle.std.proofs.Common.{sym, ap, ◌∙◌, subst, arith, append_assoc, append-nil}
 use Rattle.std.specs.Bool.{◌==◌}
 use Rattle.std.specs.Int.{bit_at}
 use Rattle.std.specs.List.{AllByRecursion, flat_map}
@@ -10,7 +11,7 @@ use Rattle.std.proofs.lemmas.List.{get_or_append_left}
 use Rattle.pbm_core.specs.Pbm.{bytes_of_row, pixel, header_text}
 use Rattle.pbm_core.specs.Outcome.{HasHeader}
 use Rattle.pbm_core.specs.declared.form.Form.TheVariants.{Raw}
-use Rattle.pbm_core.specs.Image.{numbers_from, binary, packed_row, pixels_of, AreRows, OneImage, WrittenImageIsRead}
+use Rattle.pbm_core.specs.Image.{numbers_from, binary, packed_row, pixels_of, AreRows, HoldsRows, OneImage, WrittenImageIsRead}
 use Rattle.pbm_core.proofs.Judged.{one_header}
 use Rattle.pbm_core.proofs.Pixels.{same_rows}
 use Rattle.pbm_core.proofs.Writing.{written_is_read}
@@ -104,13 +105,14 @@ written_image_is_read width rows rest a b c d each =
     record {
       form = Raw;
       body = body;
-      header = subst (λ z. HasHeader z Raw width (length rows) body) (sym (append_assoc (header_text width (length rows)) (flat_map packed_row rows) rest)) (written_is_read width (length rows) body a b c d);
+      header = subst (λ z. HasHeader z Raw width (length rows) body) (sym (append_assoc (header_text width (length rows)) (flat_map packed_row rows) rest))
+          (written_is_read width (length rows) body a b c d);
       holds = record { front = flat_map packed_row rows; bytes_are = refl; are_rows = packed_rows width rows each };
     }
 
 pub one_image : OneImage
 one_image bytes width rows rest width' rows' rest' p q =
-    let same = one_header bytes p.form width (length rows) p.body q.form width' (length rows') q.body p.header q.header in
-    let here : AreRows q.form width' p.holds.front rows = subst (λ f. AreRows f width' p.holds.front rows) same.forms (subst (λ w. AreRows p.form w p.holds.front rows) same.widths p.holds.are_rows) in
-    let equal = same_rows q.form width' rows rows' p.holds.front q.holds.front rest rest' here q.holds.are_rows same.heights (sym p.holds.bytes_are ∙ same.rests ∙ q.holds.bytes_are) in
+    let same = one_header _ _ _ _ _ _ _ _ _ p.header q.header in
+    let here : HoldsRows q.form q.body width' rows rest = rw (← same.forms, ← same.widths, ← same.rests) p.holds in
+    let equal = same_rows rows rows' here q.holds same.heights in
     record { widths = same.widths; all_rows = equal.0; rests = equal.1 }

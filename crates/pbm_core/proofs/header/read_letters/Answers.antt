@@ -29,7 +29,16 @@ pub returns-then-not-begins_space : goal.returns-then-not-begins_space
 returns-then-not-begins_space g c =
     let other : ¬ BeginsSpace c.in_ok-last.last = search rules in
     fails-at NotPbm refl (λ h. cc) (passes-more (passed_byte c.in_ok-letter.ensures) (passes-more (passed_byte c.in_ok-digit.ensures) (passed_byte c.in_ok-last.ensures)))
-    (inr (refl, c.in_ok-last.last, inr (inr (c.in-Some.form, other, ap (λ b. b ∷ c.in_ok-digit.digit ∷ c.in_ok-last.last ∷ []) c.if-letter-ne80.false ∙ ap (λ b. 80 ∷ b ∷ c.in_ok-last.last ∷ []) c.in-Some.ensures.some))))
+    (inr (
+      refl,
+      c.in_ok-last.last,
+      inr (inr (
+        c.in-Some.form,
+        other,
+        ap (λ b. b ∷ c.in_ok-digit.digit ∷ c.in_ok-last.last ∷ []) c.if-letter-ne80.false
+            ∙ ap (λ b. 80 ∷ b ∷ c.in_ok-last.last ∷ []) c.in-Some.ensures.some,
+      )),
+    ))
 
 pub returns : goal.returns
 returns g c =

@@ -9,4 +9,5 @@ pub returns-in-Some : goal.returns-in-Some
 returns-in-Some g c = reads_pixels c.in-Some.ensures.some
 
 pub returns-in-None : goal.returns-in-None
-returns-in-None g c = subst (λ v. Reads v (g.R.Input.view c.read_each.new.input) c.read_each.result (MakeByte c.args.count) (EndsInPixels c.args.count)) (c.in-None.ensures.none refl) c.read_each.ensures
+returns-in-None g c = subst (λ v. Reads v (g.R.Input.view c.read_each.new.input) c.read_each.result (MakeByte c.args.count) (EndsInPixels c.args.count))
+    (c.in-None.ensures.none refl) c.read_each.ensures

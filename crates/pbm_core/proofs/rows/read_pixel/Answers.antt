@@ -22,7 +22,18 @@ pub returns-in_err-byte : goal.returns-in_err-byte
 returns-in_err-byte g c =
     let v = c.space.invariant in
     fails-after _ c.from_residual.ensures.1 v.passes c.in_err-byte.ensures
-    (λ given f p. record { pixels = []; digits = []; space = v.space; following = []; bytes_are = ap (λ z. v.space ++ z) p.0; few = omega arith; are_pixels = refl; is_space = v.is_space; has_fault = p.1 })
+    (λ given f p. record {
+      pixels = [];
+      digits = [];
+      space = v.space;
+      following = [];
+      bytes_are = ap
+          (λ z. v.space ++ z) p.0;
+      few = omega arith;
+      are_pixels = refl;
+      is_space = v.is_space;
+      has_fault = p.1;
+    })
 
 pub returns-in-Some : goal.returns-in-Some
 returns-in-Some g c =

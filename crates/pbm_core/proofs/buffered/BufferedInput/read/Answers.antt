@@ -31,7 +31,8 @@ returns g c =
       | else-self w ↦ rw w.self-is (λ e. absurd (w.if-self.false e))
     ] in
     let fits : at + count ≤ end = omega (arith, c.min-count.ensures) in
-    let given = copied bytes c.copy_from_slice.new.self (drop count c.args.buf.now) at count end c.copy_from_slice.ensures.after (omega (arith, c.copy_from_slice.auto.self, c.min-count.ensures, length-take c.min-count.result c.args.buf.now)) fits in
+    let given = copied bytes c.copy_from_slice.new.self (drop count c.args.buf.now) at count end c.copy_from_slice.ensures.after
+    (omega (arith, c.copy_from_slice.auto.self, c.min-count.ensures, length-take c.min-count.result c.args.buf.now)) fits in
     record {
       within = omega arith;
       bytes = (
