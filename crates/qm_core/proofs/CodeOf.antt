@@ -57,7 +57,8 @@ fraction (suc k) v unit u some h e = went (cases_eq v 0) (λ r z lt g. fraction 
       subst (Fraction v unit) (sym (ap (λ b. cond b [] ((v * 256 / unit) ∷ fraction_bytes k (v * 256 % unit) unit)) t))
       (record {
         bytes = (d_small, f.bytes);
-        trimmed = trimmed_cons (v * 256 / unit) (fraction_bytes k (v * 256 % unit) unit) f.trimmed (λ nil z. let r0 : v * 256 % unit ≡ 0 = f.none nil in let s : unit * (v * 256 / unit) ≡ 0 = ap (λ y. unit * y) z ∙ (let y : unit * 0 ≡ 0 = omega arith in y) in n (omega (arith, split, r0, s)));
+        trimmed = trimmed_cons (v * 256 / unit) (fraction_bytes k (v * 256 % unit) unit) f.trimmed (λ nil z. let r0 : v * 256 % unit ≡ 0 = f.none nil in let s : unit *
+            (v * 256 / unit) ≡ 0 = ap (λ y. unit * y) z ∙ (let y : unit * 0 ≡ 0 = omega arith in y) in n (omega (arith, split, r0, s)));
         value = joined (v * 256 / unit) (v * 256 % unit) (fraction_bytes k (v * 256 % unit) unit) split f.value;
         none = λ nil. absurd (let bot : ⊥ = cc in bot);
       })
@@ -164,5 +165,6 @@ divides n v =
 pub code_of-IsCode : (p : Place) → IsPlace p → IsCode p (code_of p)
 code_of-IsCode p h =
     let c = chosen-IsChosen p h in
-    let f = fraction (wanted_bytes p.doublings) (chosen p) (2 ^ (16 + p.doublings)) (chosen p * 2 ^ (8 * wanted_bytes p.doublings - (16 + p.doublings))) (pow_pos (16 + p.doublings)) (omega (arith, c.below, h.within)) (divides p.doublings (chosen p)) in
+    let f = fraction (wanted_bytes p.doublings) (chosen p) (2 ^ (16 + p.doublings)) (chosen p * 2 ^ (8 * wanted_bytes p.doublings - (16 + p.doublings)))
+    (pow_pos (16 + p.doublings)) (omega (arith, c.below, h.within)) (divides p.doublings (chosen p)) in
     record { bytes = f.bytes; trimmed = f.trimmed; value = (chosen p, c, f.value) }

@@ -79,10 +79,12 @@ pub record SkipsSome {S : Type 0} (c c' : Coder S) (event : Event) (count : ℕ)
   pub learned : c'.learned.now ≡ c.learned.now
   pub out : c'.out.now ≡ c.out.now
   pub skips : SkipsEvents count skipped c.encoder.now c'.encoder.now
-  pub run : (p : Place) (pushed : List ℕ) → EncoderIsAt c.encoder.now p pushed → IsTrue skipped → IsRun (state_at c p) event count × EncoderIsAt c'.encoder.now (after (state_at c p) (replicate count event)).place pushed
+  pub run : (p : Place) (pushed : List ℕ) → EncoderIsAt c.encoder.now p pushed → IsTrue skipped →
+      IsRun (state_at c p) event count × EncoderIsAt c'.encoder.now (after (state_at c p) (replicate count event)).place pushed
   pub exact : (p : Place) (pushed : List ℕ) → has_failed c.encoder.now ≡ false → EncoderIsAt c.encoder.now p pushed → skipped ≡ has_room (state_at c p) event count
 
-pub skips_run : {S : Type 0} (sink : Ghosts S) {c c' : Coder S} {event : Event} {count : ℕ} {skipped : Bool} → IsSameLoan c c' → SkipsSome c c' event count skipped → Skips sink event count c c' skipped
+pub skips_run : {S : Type 0} (sink : Ghosts S) {c c' : Coder S} {event : Event} {count : ℕ} {skipped : Bool} → IsSameLoan c c' → SkipsSome c c' event count skipped →
+    Skips sink event count c c' skipped
 skips_run sink {c} {c'} {event} {count} lends u =
     record {
       lends = lends;

@@ -61,6 +61,7 @@ module _ {d : Decoder} {s : State} {event : Event} {count left : ℕ} (l : Leave
       let r = Registers-Lies [] d.few (room_left d _ left l.enough l.is below) (registers_run stands.registers) tt in
       record {
         room = l.room;
-        ready = by_heard (heard_of answers) d.bits s.place.doublings (length (bytes_of answers)) (pulled_enough stands) l.enough (λ stopped. absurd (omega (arith, d.stuck (stands.heard ∙ stopped), l.enough)));
+        ready = by_heard (heard_of answers) d.bits s.place.doublings (length (bytes_of answers)) (pulled_enough stands) l.enough
+            (λ stopped. absurd (omega (arith, d.stuck (stands.heard ∙ stopped), l.enough)));
         inside = Lies-zeros (bytes_of answers) stands.zeros (rw append-nil at r);
       }

@@ -51,7 +51,12 @@ taken {s} {cx} {e} {code} {span} {entry} {o = o} is cut part =
           elim (cases_lt (span - entry) entry) [
             | inl exchanged ↦
                 let g : o ≡ false = u.2 ∙ ap not (lt-ltb (span - entry) entry exchanged) in
-                rw (u.0, u.1, g) (record { part = upper_part s.place (upper e); takes = favoured_upper is (omega arith) (omega arith); registers = λ b r. registers_upper (upper e) size above cut.less r })
+                rw (u.0, u.1, g) (record {
+                  part = upper_part s.place (upper e);
+                  takes = favoured_upper is (omega arith) (omega arith);
+                  registers = λ b r. registers_upper
+                      (upper e) size above cut.less r;
+                })
             | inr straight ↦
                 let g : o ≡ true = u.2 ∙ ap not (le-ltb (span - entry) entry straight) in
                 rw (u.0, u.1, g) (record { part = upper_part s.place (upper e); takes = other_upper is (omega arith); registers = λ b r. registers_upper (upper e) size above cut.less r })

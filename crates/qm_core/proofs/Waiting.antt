@@ -63,7 +63,8 @@ few_pushed e e' s events pushed more at at' =
     let doubled = events_double events s in
     omega (arith, short, long, split, a, b, doubled, at.digits.count, at'.digits.count)
 
-code_few : (e : Encoder) (s : State) (events : List Event) (pushed : List ℕ) → EncoderIsAt e s.place pushed → length (stuffed (code_of (after s events).place)) ≤ length pushed + (2 * waiting_bytes e + 4 * length events)
+code_few : (e : Encoder) (s : State) (events : List Event) (pushed : List ℕ) → EncoderIsAt e s.place pushed →
+    length (stuffed (code_of (after s events).place)) ≤ length pushed + (2 * waiting_bytes e + 4 * length events)
 code_few e s events pushed at =
     let here : IsPlace s.place = is_place e at in
     let there : IsPlace (after s events).place = after-IsPlace events s here in
@@ -73,7 +74,8 @@ code_few e s events pushed at =
     let r = front_begins s.place code front.front is.bytes (after-inside events s code here (code-Lies (after s events).place code is)) front.begins in
     let few : length code ≤ wanted_bytes (after s events).place.doublings = fraction_short _ _ _ in
     let split : length code ≡ length front.front + length r.0 = ap length r.1 ∙ length-append front.front r.0 in
-    let parts : length (stuffed code) ≡ length (stuffed front.front) + length (stuffed r.0) = ap (λ z. length (stuffed z)) r.1 ∙ ap length (stuffed-append front.front r.0) ∙ length-append (stuffed front.front) (stuffed r.0) in
+    let parts : length (stuffed code) ≡ length (stuffed front.front) + length (stuffed r.0) = ap (λ z. length (stuffed z)) r.1 ∙ ap length (stuffed-append front.front r.0)
+    ∙ length-append (stuffed front.front) (stuffed r.0) in
     let same : length pushed ≡ length (stuffed front.front) = ap length front.is in
     let short = stuffed_short r.0 in
     let u = unstuffed at.front front.front [] (append-nil (stuffed at.front) ∙ sym at.is ∙ front.is) in
@@ -95,6 +97,7 @@ few_in_front e s events pushed front at begins =
     let code = code_of (after s events).place in
     let is = code_of-IsCode (after s events).place there in
     let r = front_begins (after s events).place code begins.front is.bytes (code-Lies (after s events).place code is) begins.begins in
-    let parts : length (stuffed code) ≡ length (stuffed begins.front) + length (stuffed r.0) = ap (λ z. length (stuffed z)) r.1 ∙ ap length (stuffed-append begins.front r.0) ∙ length-append (stuffed begins.front) (stuffed r.0) in
+    let parts : length (stuffed code) ≡ length (stuffed begins.front) + length (stuffed r.0) = ap (λ z. length (stuffed z)) r.1 ∙ ap length (stuffed-append begins.front r.0)
+    ∙ length-append (stuffed begins.front) (stuffed r.0) in
     let same : length front ≡ length (stuffed begins.front) = ap length begins.is in
     omega (arith, parts, same, code_few e s events pushed at)

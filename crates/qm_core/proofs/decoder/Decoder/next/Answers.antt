@@ -13,7 +13,8 @@ returns-in_err-fill-clause-next g c = λ p answers s.
 
 pub returns-clause-next : goal.returns-clause-next
 returns-clause-next g c = λ p answers s.
-    let ready : (more : List Pulled) × Gives (Pulls g.S.CodeBytes.gives g.S.CodeBytes.failed) c.args.source.now more c.if-self-lt16.source × DecoderIsAt c.if-self-lt16.self p (answers ++ more) × (16 ≤ c.if-self-lt16.self.bits) =
+    let ready : (more : List Pulled) × Gives (Pulls g.S.CodeBytes.gives g.S.CodeBytes.failed) c.args.source.now more c.if-self-lt16.source
+    × DecoderIsAt c.if-self-lt16.self p (answers ++ more) × (16 ≤ c.if-self-lt16.self.bits) =
     elim c.if-self-lt16.branch [
       | then-self-lt16+in_ok-fill w ↦
           let f = w.in_ok-fill.ensures.fills p answers s in

@@ -24,7 +24,8 @@ byte_out-first-requires-clause-room g c =
 
 -- the bytes that are written end the code
 ended : (g : given.Over) (c : After-settle-rest g) (p : Place) (pushed : List ℕ) → EncoderIsAt c.args.self p pushed →
-    Ended p pushed (stuffed (batch_bytes c.byte_out-first.result.batch ++ batch_bytes c.byte_out-second.result.batch) ++ stuffed (batch_bytes c.byte_out-third.result.batch ++ batch_bytes c.settle-rest.result))
+    Ended p pushed (stuffed (batch_bytes c.byte_out-first.result.batch ++ batch_bytes c.byte_out-second.result.batch) ++ stuffed
+    (batch_bytes c.byte_out-third.result.batch ++ batch_bytes c.settle-rest.result))
 ended g c p pushed s =
     let chosen : IsChosen (record { low = c.args.self.low; size = c.args.self.span; doublings = 0 }) c.chosen.result =
     record { from = c.chosen.ensures.from; below = c.chosen.ensures.below; most_even = c.chosen.ensures.most_even } in
