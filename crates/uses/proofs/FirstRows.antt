@@ -7,7 +7,7 @@ use Rattle.std.proofs.Math.Seq.{take-append_seam, drop-append_seam}
 use Rattle.std.proofs.lemmas.List.{append_cancel_left, length-map, drop-append-le, take_all}
 use Rattle.std.proofs.lemmas.Bool.Decides.{nat_tests}
 use Rattle.pbm_core.specs.Device.{AppendsBeginning}
-use Rattle.t85_core.specs.Change.{between}
+use Rattle.t85_core.specs.Change.{Change, between}
 use Rattle.pbm_core.specs.Pbm.{header_text}
 use Rattle.raster_core.specs.Packed.{packed_row, row_bytes}
 use Rattle.raster_core.specs.Lines.{numbers_from}
@@ -20,7 +20,7 @@ use Rattle.t85_core.specs.Header.{Fields, HeaderOf, header_fault, is_variable}
 use Rattle.t85_core.specs.Height.{IsHeight}
 use Rattle.t85_core.specs.Outcome.{pbm_rows, pbm_text}
 use Rattle.t85_core.specs.Jbg.{jbg}
-use Rattle.t85_core.specs.ToPbm.{ToPbmAt, ToPbmOnce, ToPbm, HeaderEnds, IsFixed, WantsReading, delivery, second_reading}
+use Rattle.t85_core.specs.ToPbm.{ToPbmAt, ToPbmOnce, ToPbm, HeaderEnds, IsFixed, Delivery, second_reading}
 use Rattle.t85_core.specs.Failures.{counted_as}
 use Rattle.t85_core.specs.Laws.{CodeDenotes, HeaderLaws}
 use Rattle.uses.specs.Cut.{Begins, WritesFirst, WritesFirstRows}
@@ -92,8 +92,7 @@ module _ (law : CodeDenotes) (line_law : LineOrFault) (headers : HeaderLaws) (ra
   -- the whole body denotes the raster at the height of the header
   body_denotes : (h : Fields) → HeaderOf bytes h → is_variable h ≡ false → DenotesAt h h.yd (drop 20 bytes ++ cut.more) raster
   body_denotes h header_of fixed =
-      subst (λ (k : Fields). DenotesAt k k.yd (drop 20 bytes ++ cut.more) raster) same
-      (subst (λ n. DenotesAt d.header n (drop 20 bytes ++ cut.more) raster) (height_is d.height_is) (subst (λ l. DenotesAt d.header d.height l raster) body_is d.denotes)) where
+      subst (λ (k : Fields). DenotesAt k k.yd (drop 20 bytes ++ cut.more) raster) same (rw (body_is, height_is d.height_is) at d.denotes) where
         same : d.header ≡ h
         same = headers.one (bytes ++ cut.more) d.header h (subst (λ l. HeaderOf l d.header) cut.stream_is d.header_of) (headers.stands bytes cut.more h header_of)
 
@@ -105,9 +104,9 @@ module _ (law : CodeDenotes) (line_law : LineOrFault) (headers : HeaderLaws) (ra
         height_is (inr own) = own.0
 
   -- a header that came isn't refused
-  stands : (left : Option (List ℕ)) (f : Fault) (reads_old reads_new : ℕ) → IsFixed bytes → f ≢ Read → HeaderEnds (between (Some bytes) left reads_old reads_new) f → ⊥
-  stands None f reads_old reads_new fixed other h = h.ends.taken
-  stands (Some left) f reads_old reads_new fixed other h = went (nat_lt (length given) 20) refl where
+  stands : {left : Option (List ℕ)} {reads reads' : ℕ} (f : Fault) → IsFixed bytes → f ≢ Read → HeaderEnds (between (Some bytes) left reads reads') f → ⊥
+  stands {left = None} f fixed other h = h.ends.taken
+  stands {left = Some rest} f fixed other h = went (nat_lt (length given) 20) refl where
     given : List ℕ
     given = h.ends.given
 
@@ -125,90 +124,88 @@ module _ (law : CodeDenotes) (line_law : LineOrFault) (headers : HeaderLaws) (ra
         omega (arith, few, long, ap (λ l. length l) all)
     went false test =
         let enough : 20 ≤ length given = grind (arith, nat_tests) in
-        let same : header_fault bytes ≡ Some f = ap (λ l. header_fault l) h.ends.taken ∙ headers.refusal_stands given left enough ∙ is in
+        let same : header_fault bytes ≡ Some f = ap (λ l. header_fault l) h.ends.taken ∙ headers.refusal_stands given rest enough ∙ is in
         no_fault line_law (jbg cut.chosen raster) raster d f (inl (ap (λ l. header_fault l) cut.stream_is ∙ headers.refusal_stands bytes cut.more long ∙ same))
 
-  module _ (out_old out_new : Option (List ℕ)) where
-    unwritten : (answer : Result (Unit {0}) Fault) (f : Fault) → answer ≡ Err f → (IsFixed bytes → f ≢ Read → ⊥) → Keeps out_old out_new → WritesFirst raster bytes out_old out_new answer
-    unwritten answer f is cant keeps =
-        subst (λ a. WritesFirst raster bytes out_old out_new a) (sym is)
-        (record { begins = begins_none out_old out_new (pbm_text raster) keeps; whole = tt; rows = λ other. inl keeps; some = λ fixed read write memory. absurd (cant fixed read) })
+  unwritten : {old new : Option (List ℕ)} {answer : Result (Unit {0}) Fault} {f : Fault} → answer ≡ Err f → (IsFixed bytes → f ≢ Read → ⊥) → Keeps old new → WritesFirst raster bytes old new answer
+  unwritten {old} {new} is cant keeps =
+      rw is (record { begins = begins_none old new (pbm_text raster) keeps; whole = tt; rows = λ other. inl keeps; some = λ fixed read write memory. absurd (cant fixed read) })
 
-    module _ (h : Fields) (whole : DenotesAt h h.yd (drop 20 bytes ++ cut.more) raster) where
-      -- of whatever was taken, the image may still come
-      front_begins : (in_new : Option (List ℕ)) → WritesImageFront h h.yd (Some (drop 20 bytes)) in_new out_old out_new → AppendsBeginning out_old out_new (pbm_text raster)
-      front_begins None front = absurd front.taken
-      front_begins (Some left) front =
-          let all : drop 20 bytes ++ cut.more ≡ front.given ++ (left ++ cut.more) = ap (λ l. l ++ cut.more) front.taken ∙ append_assoc front.given left cut.more in
-          front.appends (left ++ cut.more) None (pbm_text raster) (raster, subst (λ l. DenotesAt h h.yd l raster) all whole, refl)
+  module _ {h : Fields} {old new : Option (List ℕ)} (whole : DenotesAt h h.yd (drop 20 bytes ++ cut.more) raster) where
+    -- of whatever was taken, the image may still come
+    front_begins : {left : Option (List ℕ)} → WritesImageFront h h.yd (Some (drop 20 bytes)) left old new → AppendsBeginning old new (pbm_text raster)
+    front_begins {left = None} front = absurd front.taken
+    front_begins {left = Some left} front =
+        let all : drop 20 bytes ++ cut.more ≡ front.given ++ (left ++ cut.more) = ap (λ l. l ++ cut.more) front.taken ∙ append_assoc front.given left cut.more in
+        front.appends (left ++ cut.more) None (pbm_text raster) (raster, rw all at whole, refl)
 
-      first_of : (rows : List (List Bool)) → AllByRecursion (λ row. length row ≡ h.xd) rows → Appends out_old out_new (pbm_rows h.xd h.yd rows) → AppendsBeginning out_old out_new (pbm_text raster) →
-          Appends out_old out_new (pbm_rows raster.width (height raster) (take (length rows) raster.rows))
-      first_of rows wide appends begins =
-          are_first raster.width (height raster) rows raster.rows (subst (λ n. AllByRecursion (λ row. length row ≡ n) rows) (sym whole.width) wide) cut.proper.rows out_old out_new
-          (subst (λ w. Appends out_old out_new (pbm_rows w (height raster) rows)) (sym whole.width) (subst (λ n. Appends out_old out_new (pbm_rows h.xd n rows)) (sym whole.height) appends)) begins
+    first_of : (rows : List (List Bool)) → AllByRecursion (λ row. length row ≡ h.xd) rows → Appends old new (pbm_rows h.xd h.yd rows) → AppendsBeginning old new (pbm_text raster) →
+        Appends old new (pbm_rows raster.width (height raster) (take (length rows) raster.rows))
+    first_of rows wide appends begins =
+        are_first raster.width (height raster) rows raster.rows (subst (λ n. AllByRecursion (λ row. length row ≡ n) rows) (sym whole.width) wide) cut.proper.rows old new
+        (subst (λ w. Appends old new (pbm_rows w (height raster) rows)) (sym whole.width) (subst (λ n. Appends old new (pbm_rows h.xd n rows)) (sym whole.height) appends)) begins
 
-      of_rows : (body : List ℕ) (f : Fault) → WritesRows h h.yd body f out_old out_new → AppendsBeginning out_old out_new (pbm_text raster) → WritesFirstRows raster out_old out_new
-      of_rows body f w begins = (length w.rows, first_of w.rows w.fixes.fixed.decided.wide w.appends begins)
+    of_rows : {body : List ℕ} {f : Fault} → WritesRows h h.yd body f old new → AppendsBeginning old new (pbm_text raster) → WritesFirstRows raster old new
+    of_rows w begins = (length w.rows, first_of w.rows w.fixes.fixed.decided.wide w.appends begins)
 
-      of_raster : (body : List ℕ) → WritesRaster h h.yd body out_old out_new → AppendsBeginning out_old out_new (pbm_text raster) → Appends out_old out_new (pbm_text raster)
-      of_raster body w begins =
-          let many : length raster.rows ≤ length w.raster.rows = (let a = whole.height in let b = w.denotes.height in omega (arith, a, b)) in
-          subst (λ rows. Appends out_old out_new (pbm_rows raster.width (height raster) rows)) (take_all (length w.raster.rows) raster.rows many)
-          (first_of w.raster.rows (subst (λ n. AllByRecursion (λ row. length row ≡ n) w.raster.rows) w.denotes.width w.denotes.proper.rows)
-          (subst (λ n. Appends out_old out_new (pbm_rows h.xd n w.raster.rows)) w.denotes.height (subst (λ n. Appends out_old out_new (pbm_rows n (height w.raster) w.raster.rows)) w.denotes.width w.appends)) begins)
+    of_raster : {body : List ℕ} → WritesRaster h h.yd body old new → AppendsBeginning old new (pbm_text raster) → Appends old new (pbm_text raster)
+    of_raster w begins =
+        let many : length raster.rows ≤ length w.raster.rows = (let a = whole.height in let b = w.denotes.height in omega (arith, a, b)) in
+        subst (λ rows. Appends old new (pbm_rows raster.width (height raster) rows)) (take_all (length w.raster.rows) raster.rows many)
+        (first_of w.raster.rows (subst (λ n. AllByRecursion (λ row. length row ≡ n) w.raster.rows) w.denotes.width w.denotes.proper.rows)
+        (subst (λ n. Appends old new (pbm_rows h.xd n w.raster.rows)) w.denotes.height (subst (λ n. Appends old new (pbm_rows n (height w.raster) w.raster.rows)) w.denotes.width w.appends)) begins)
 
-      module _ (limit : ℕ) (large : h.yd ≤ limit) (in_new : Option (List ℕ)) (reads_old reads_new writes_old writes_new : ℕ) (flushed : Bool) where
-        abbrev Converted : Result (Unit {0}) Fault → Type 0
-        Converted answer = ToPbmAt h h.yd limit (between (Some (drop 20 bytes)) in_new reads_old reads_new) (delivery (between out_old out_new writes_old writes_new) flushed) answer
+  module _ {h : Fields} {limit reads reads' : ℕ} {left : Option (List ℕ)} {out : Delivery} (whole : DenotesAt h h.yd (drop 20 bytes ++ cut.more) raster) (large : h.yd ≤ limit) where
+    rows_of : (f : Fault) → ToPbmAt h h.yd limit (between (Some (drop 20 bytes)) left reads reads') out (Err f) → AppendsBeginning out.change.old.bytes out.change.new.bytes (pbm_text raster) →
+        f ≢ Write → f ≢ OutOfMemory → WritesFirstRows raster out.change.old.bytes out.change.new.bytes
+    rows_of Write c begins write memory = absurd (write refl)
+    rows_of OutOfMemory c begins write memory = absurd (memory refl)
+    rows_of TooManyRows c begins write memory = absurd (let high = c.too_high refl in omega (arith, high.0, large))
+    rows_of Read c begins write memory = (let unread = c.unread refl in of_rows whole unread.2 begins)
+    rows_of f c begins write memory = of_rows whole (c.broken (λ e. cc) write (λ e. cc) memory) begins
 
-        rows_of : (f : Fault) → Converted (Err f) → AppendsBeginning out_old out_new (pbm_text raster) → f ≢ Write → f ≢ OutOfMemory → WritesFirstRows raster out_old out_new
-        rows_of Write c begins write memory = absurd (write refl)
-        rows_of OutOfMemory c begins write memory = absurd (memory refl)
-        rows_of TooManyRows c begins write memory = absurd (let high = c.too_high refl in omega (arith, high.0, large))
-        rows_of Read c begins write memory = (let unread = c.unread refl in of_rows unread.0 Truncated unread.2 begins)
-        rows_of f c begins write memory = of_rows (drop 20 bytes) f (c.broken (λ e. absurd (let bot : ⊥ = cc in bot)) write (λ e. absurd (let bot : ⊥ = cc in bot)) memory) begins
+    rows_any : (f : Fault) → ToPbmAt h h.yd limit (between (Some (drop 20 bytes)) left reads reads') out (Err f) → AppendsBeginning out.change.old.bytes out.change.new.bytes (pbm_text raster) →
+        f ≢ Write → Keeps out.change.old.bytes out.change.new.bytes ⊎ WritesFirstRows raster out.change.old.bytes out.change.new.bytes
+    rows_any OutOfMemory c begins write = inl (let memory = c.no_memory refl in memory.1)
+    rows_any f c begins write = inr (rows_of f c begins write (λ e. cc))
 
-        rows_any : (f : Fault) → Converted (Err f) → AppendsBeginning out_old out_new (pbm_text raster) → f ≢ Write → Keeps out_old out_new ⊎ WritesFirstRows raster out_old out_new
-        rows_any OutOfMemory c begins write = inl (let memory = c.no_memory refl in memory.1)
-        rows_any f c begins write = inr (rows_of f c begins write (λ e. absurd (let bot : ⊥ = cc in bot)))
+    at_body : (answer : Result (Unit {0}) Fault) → ToPbmAt h h.yd limit (between (Some (drop 20 bytes)) left reads reads') out answer → WritesFirst raster bytes out.change.old.bytes out.change.new.bytes answer
+    at_body (Ok u) c =
+        let begins = front_begins whole c.front in
+        let all = of_raster whole c.whole begins in
+        record {
+          begins = begins;
+          whole = all;
+          rows = λ other. inr (length raster.rows, rw (take_all (length raster.rows) raster.rows (omega arith)) all);
+          some = λ fixed. tt;
+        }
+    at_body (Err f) c =
+        let begins = front_begins whole c.front in
+        record {
+          begins = begins;
+          whole = tt;
+          rows = λ other. rows_any f c begins (λ e. other (ap (λ (g : Fault). Err g) e));
+          some = λ fixed read write memory. rows_of f c begins write memory;
+        }
 
-        at_body : (answer : Result (Unit {0}) Fault) → Converted answer → WritesFirst raster bytes out_old out_new answer
-        at_body (Ok u) c = (let begins = front_begins in_new c.front in let all = of_raster (drop 20 bytes) c.whole begins in
-            record {
-              begins = begins;
-              whole = all;
-              rows = λ other. inr (length raster.rows, subst (λ rows. Appends out_old out_new (pbm_rows raster.width (height raster) rows)) (sym (take_all (length raster.rows) raster.rows (omega arith))) all);
-              some = λ fixed. tt;
-            })
-        at_body (Err f) c = (let begins = front_begins in_new c.front in
-            record {
-              begins = begins;
-              whole = tt;
-              rows = λ other. rows_any f c begins (λ e. other (ap (λ (g : Fault). Err g) e));
-              some = λ fixed read write memory. rows_of f c begins write memory;
-            })
+  module _ {limit reads reads' : ℕ} {left : Option (List ℕ)} {out : Delivery} {answer : Result (Unit {0}) Fault} (large : 2 ^ 32 ≤ limit + 1) where
+    once : ToPbmOnce limit (between (Some bytes) left reads reads') out answer → WritesFirst raster bytes out.change.old.bytes out.change.new.bytes answer
+    once o =
+        let split = splits headers bytes o.header o.body o.taken in
+        let tall = split.header_of.accepted.height_to in
+        at_body (body_denotes o.header split.header_of o.fixed) (omega arith) answer (rw split.body_is at o.converts)
 
-    module _ (limit : ℕ) (large : 2 ^ 32 ≤ limit + 1) (in_new again_old again_new : Option (List ℕ)) (untouched : Type 0) (reads_old reads_new again_reads_old again_reads_new writes_old writes_new : ℕ) (flushed : Bool) (answer : Result (Unit {0}) Fault) where
-      once : ToPbmOnce limit (between (Some bytes) in_new reads_old reads_new) (delivery (between out_old out_new writes_old writes_new) flushed) answer → WritesFirst raster bytes out_old out_new answer
-      once o =
-          let split = splits headers bytes o.header o.body o.taken in
-          let tall = split.header_of.accepted.height_to in
-          at_body o.header (body_denotes o.header split.header_of o.fixed) limit (omega arith) in_new reads_old reads_new writes_old writes_new flushed answer
-          (subst (λ b. ToPbmAt o.header o.header.yd limit (between b in_new reads_old reads_new) (delivery (between out_old out_new writes_old writes_new) flushed) answer) split.body_is o.converts)
-
-      -- the height may change after all
-      variable : (w : WantsReading (between (Some bytes) in_new reads_old reads_new) false (between out_old out_new writes_old writes_new) answer) → IsFixed bytes → VariableHeight ≢ Read → ⊥
-      variable w fixed other =
-          let same = headers.one bytes w.header fixed.header (splits headers bytes w.header in_new w.taken).header_of fixed.header_of in
-          true≢false (sym w.variable ∙ ap (λ (k : Fields). is_variable k) same ∙ fixed.height_is_fixed)
-
-      -- without a second reading
-      pub written : ToPbm limit (between (Some bytes) in_new reads_old reads_new) (second_reading false untouched (between again_old again_new again_reads_old again_reads_new)) (delivery (between out_old out_new writes_old writes_new) flushed) answer →
-          WritesFirst raster bytes out_old out_new answer
-      written c = elim c.went [
-        | inl refused ↦ unwritten answer refused.0.fault refused.0.answer_is (λ fixed other. stands in_new refused.0.fault reads_old reads_new fixed other refused.0.header) refused.0.nothing.kept
-        | inr (inl o) ↦ once o.0
-        | inr (inr (inl wants)) ↦ unwritten answer VariableHeight wants.0.answer_is (variable wants.0) wants.0.nothing.kept
-        | inr (inr (inr twice)) ↦ absurd (true≢false (sym twice.second))
-      ]
+    -- without a second reading
+    pub written : {untouched : Type 0} {again : Change} → ToPbm limit (between (Some bytes) left reads reads') (second_reading false untouched again) out answer →
+        WritesFirst raster bytes out.change.old.bytes out.change.new.bytes answer
+    written c = elim c.went [
+      | inl refused ↦ unwritten refused.0.answer_is (λ fixed other. stands refused.0.fault fixed other refused.0.header) refused.0.nothing.kept
+      | inr (inl o) ↦ once o.0
+      | inr (inr (inl wants)) ↦
+          -- the height may change after all
+          let w = wants.0 in
+          unwritten w.answer_is (λ fixed other.
+              let same = headers.one bytes w.header fixed.header (splits headers bytes w.header left w.taken).header_of fixed.header_of in
+              true≢false (sym w.variable ∙ ap (λ (k : Fields). is_variable k) same ∙ fixed.height_is_fixed)) w.nothing.kept
+      | inr (inr (inr twice)) ↦ absurd (true≢false (sym twice.second))
+    ]

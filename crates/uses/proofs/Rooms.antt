@@ -3,22 +3,29 @@ use Rattle.std.proofs.Common.{◌≡◌, ◌≤◌, ◌<◌, ◌+◌, ℕ, List,
 use Rattle.std.specs.Prelude.{IfErr, OnOk, is_ok, true}
 use Rattle.t85_core.specs.declared.fault.Fault.{Fault}
 use Rattle.t85_core.specs.declared.fault.Fault.TheVariants.{Write}
+use Rattle.uses.specs.declared.room.Room.{Room}
 use Rattle.pbm_core.specs.Device.{one_more}
 use Rattle.t85_core.specs.Failures.{CountsWrite, writes_after}
 use Rattle.t85_core.specs.Steps.MostBytes.{AppendsAtMost}
 
+-- A call that appended at most so many bytes to a room that has more.
+pub record IsRoomy (old new : Room) (most : ℕ) (answer : Result (Unit {0}) Fault) : Type 0 where
+  pub room : most + old.len < 8192
+  pub few : AppendsAtMost most (Some (take old.len old.bytes)) (Some (take new.len new.bytes))
+  pub unfailed : old.failures ≡ 0
+  pub counts : CountsWrite old.failures new.failures answer
+  pub fault : IfErr answer (λ f. f ≡ Write)
+
 -- it was not filled, and so did not fail
-pub unfilled : (answer : Result (Unit {0}) Fault) (len len' most failures failures' : ℕ) (old new : List ℕ) → length old ≡ 8192 → length new ≡ 8192 → len ≤ 8192 → len' ≤ 8192 → most + len < 8192 →
-    AppendsAtMost most (Some (take len old)) (Some (take len' new)) → failures ≡ 0 → CountsWrite failures failures' answer → IfErr answer (λ f. f ≡ Write) → (0 < failures' → len' ≡ 8192) → (is_ok answer ≡ true) × (failures' ≡ 0)
-unfilled (Ok u) len len' most failures failures' old new long long' within within' room few none counts err full = (refl, counts ∙ none)
-unfilled (Err f) len len' most failures failures' old new long long' within within' room few none counts err full =
-    let one : failures' ≡ 1 = subst (λ g. failures' ≡ writes_after g failures) err counts ∙ ap one_more none in
-    let filled : len' ≡ 8192 = full (omega (arith, one)) in
-    let grown : length (take len' new) ≡ length (take len old) + length few.bytes = ap length few.appended ∙ length-append (take len old) few.bytes in
-    let before : length (take len old) ≡ len = length-take-le len old (omega (arith, long, within)) in
-    let after : length (take len' new) ≡ len' = length-take-le len' new (omega (arith, long', within')) in
-    let most_is = few.few in
-    absurd (omega (arith, room, filled, grown, before, after, most_is))
+pub unfilled : {old new : Room} {most : ℕ} {answer : Result (Unit {0}) Fault} → IsRoomy old new most answer → (is_ok answer ≡ true) × (new.failures ≡ 0)
+unfilled {answer = Ok u} r = (refl, r.counts ∙ r.unfailed)
+unfilled {old} {new} {answer = Err f} r =
+    let one : new.failures ≡ 1 = subst (λ g. new.failures ≡ writes_after g old.failures) r.fault r.counts ∙ ap one_more r.unfailed in
+    let filled : new.len ≡ 8192 = new.full (omega (arith, one)) in
+    let grown = ap length r.few.appended ∙ length-append (take old.len old.bytes) r.few.bytes in
+    let before = length-take-le old.len old.bytes (omega (arith, old.sized, old.within)) in
+    let after = length-take-le new.len new.bytes (omega (arith, new.sized, new.within)) in
+    absurd (omega (arith, r.room, filled, grown, before, after, r.few.few))
 
 pub when_ok : (answer : Result (Unit {0}) Fault) {P : Type 0} → is_ok answer ≡ true → OnOk answer P → P
 when_ok (Ok u) is p = p

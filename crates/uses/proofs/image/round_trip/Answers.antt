@@ -10,7 +10,7 @@ use Rattle.t85_core.specs.ToJbg.{WritesStream}
 use Rattle.t85_core.specs.Outcome.{pbm_text}
 use Rattle.t85_core.specs.Jbg.{Settings}
 use Rattle.t85_core.specs.Options.{settings_of}
-use Rattle.t85_core.specs.ToPbm.{IsFixed, WritesDenoted, ToPbm, again_failures, delivery, second_reading}
+use Rattle.t85_core.specs.ToPbm.{IsFixed, WritesDenoted, Delivery, ToPbm, again_failures, second_reading}
 use Rattle.uses.specs.Image.{IsRawForm, WritesRawForm, IsOfImage}
 use Rattle.uses.specs.declared.held.Held.{Held}
 use Rattle.uses.proofs.Whole.{LineOrFault, from_empty, told}
@@ -37,26 +37,21 @@ module _ (s : Settings) (first : List ℕ) (old new : Option (List ℕ)) where
         let both = one_image bytes raster.width raster.rows [] read.raster.width read.raster.rows read.rest (subst (λ l. IsPbm l raster.width raster.rows []) (sym text) image) read.is in
         subst (λ l. Appends old new l) (sym (raw.2 ∙ ap (λ w. pbm w raster.rows) both.widths ∙ ap (λ rows. pbm read.raster.width rows) both.all_rows)) appends
 
-  came_back : OneImage → WrittenImageIsRead → (known : Option (List ℕ)) (room stream second : List ℕ) (len : ℕ) (answer : Result (Unit {0}) Fault) → len ≡ 0 → first ≡ stream → second ≡ stream
+  came_back : OneImage → WrittenImageIsRead → (known : Option (List ℕ)) {stream second : List ℕ} {len : ℕ} (room : List ℕ) (answer : Result (Unit {0}) Fault) → len ≡ 0 → first ≡ stream → second ≡ stream
       → IfSome known (λ bytes. WritesStream s bytes (Some (take len room)) (Some stream)) → OnOk answer (IsFixed first ⊎ (Some second ≡ Some first) → WritesDenoted first old new)
       → OnOk answer (IfSome known (λ bytes. WritesRawForm bytes old new))
-  came_back one_image is_read known room stream second len (Err fault) empty once twice read written = tt
-  came_back one_image is_read None room stream second len (Ok u) empty once twice read written = tt
-  came_back one_image is_read (Some bytes) room stream second len (Ok u) empty once twice read written =
-      same_raster one_image is_read bytes
-      (from_empty s bytes room stream first len empty once read)
-      (written (inr (ap Some (twice ∙ sym once))))
+  came_back one_image is_read known room (Err fault) empty once twice read written = tt
+  came_back one_image is_read None room (Ok u) empty once twice read written = tt
+  came_back one_image is_read (Some bytes) room (Ok u) empty once twice read written = same_raster one_image is_read bytes (from_empty room empty once read) (written (inr (ap Some (twice ∙ sym once))))
 
-  known_told : LineOrFault → HeaderLaws → (known : Option (List ℕ)) (room stream second : List ℕ) (len limit : ℕ) (in_new again_new : Option (List ℕ)) (untouched : Type 0) (again_reads writes_old writes_new : ℕ) (flushed : Bool) (answer : Result (Unit {0}) Fault)
-      → len ≡ 0 → first ≡ stream → second ≡ stream → 2 ^ 32 ≤ limit + 1 → again_reads ≡ 0 → IfSome known (λ bytes. WritesStream s bytes (Some (take len room)) (Some stream))
-      → ToPbm limit (between (Some first) in_new 0 0) (second_reading true untouched (between (Some second) again_new 0 again_reads)) (delivery (between old new writes_old writes_new) flushed) answer → IfErr answer (λ fault. IfSome known (λ bytes. IsOfImage fault))
-  known_told law headers None room stream second len limit in_new again_new untouched again_reads writes_old writes_new flushed (Ok u) empty once twice large none read converts = tt
-  known_told law headers None room stream second len limit in_new again_new untouched again_reads writes_old writes_new flushed (Err f) empty once twice large none read converts = tt
-  known_told law headers (Some bytes) room stream second len limit in_new again_new untouched again_reads writes_old writes_new flushed answer empty once twice large none read converts =
-      let written : WritesStream s bytes (Some []) (Some first) = from_empty s bytes room stream first len empty once read in
-      told law headers first written.raster (subst (λ text. Denotes text written.raster) (sym written.appends) written.denotes) limit large in_new again_new old new untouched writes_old writes_new flushed answer
-      (subst (λ reads. ToPbm limit (between (Some first) in_new 0 0) (second_reading true untouched (between (Some first) again_new 0 reads)) (delivery (between old new writes_old writes_new) flushed) answer) none
-      (subst (λ text. ToPbm limit (between (Some first) in_new 0 0) (second_reading true untouched (between (Some text) again_new 0 again_reads)) (delivery (between old new writes_old writes_new) flushed) answer) (twice ∙ sym once) converts))
+known_told : LineOrFault → HeaderLaws → (s : Settings) (known : Option (List ℕ)) {first stream : List ℕ} {len limit : ℕ} {left left' : Option (List ℕ)} {untouched : Type 0} {out : Delivery} (room : List ℕ) (answer : Result (Unit {0}) Fault)
+    → len ≡ 0 → first ≡ stream → 2 ^ 32 ≤ limit + 1 → IfSome known (λ bytes. WritesStream s bytes (Some (take len room)) (Some stream))
+    → ToPbm limit (between (Some first) left 0 0) (second_reading true untouched (between (Some first) left' 0 0)) out answer → IfErr answer (λ fault. IfSome known (λ bytes. IsOfImage fault))
+known_told law headers s None room (Ok u) empty once large read converts = tt
+known_told law headers s None room (Err f) empty once large read converts = tt
+known_told law headers s (Some bytes) {first} room answer empty once large read converts =
+    let written : WritesStream s bytes (Some []) (Some first) = from_empty room empty once read in
+    told law headers (subst (λ text. Denotes text written.raster) (sym written.appends) written.denotes) large converts
 
 never_failed : (again : Option Held) → again_failures (λ (held : Held). 0) again ≡ 0
 never_failed None = refl
@@ -68,14 +63,11 @@ returns-in_err-to_jbg-clause-told g c = let leaves = c.in_err-to_jbg.ensures.out
 pub returns-clause-again : goal.returns-clause-again
 returns-clause-again g c =
     came_back (settings_of c.args.options.now) c.written.result.now (g.W.Output.view c.args.output.now).contents (g.W.Output.view c.to_pbm.new.output).contents c.images.ensures.one_image c.images.ensures.written_image_is_read
-    (g.R.Input.view c.args.input.now).remaining c.new-stream.result.bytes.now (take c.to_jbg.new.output.len c.to_jbg.new.output.bytes.now) c.written-2.result.now c.new-stream.result.len c.to_pbm.result
-    c.new-stream.ensures.room.0 c.written.ensures c.written-2.ensures
+    (g.R.Input.view c.args.input.now).remaining c.new-stream.result.bytes.now c.to_pbm.result c.new-stream.ensures.room.0 c.written.ensures c.written-2.ensures
     c.in_ok-to_jbg.ensures.outcome.leaves.whole c.to_pbm.ensures.outcome.denoted
 
 pub returns-clause-told : goal.returns-clause-told
 returns-clause-told g c =
-    known_told (settings_of c.args.options.now) c.written.result.now (g.W.Output.view c.args.output.now).contents (g.W.Output.view c.to_pbm.new.output).contents c.lines.ensures.line_or_fault c.headers.ensures
-    (g.R.Input.view c.args.input.now).remaining c.new-stream.result.bytes.now (take c.to_jbg.new.output.len c.to_jbg.new.output.bytes.now) c.written-2.result.now c.new-stream.result.len 4294967295
-    _ _ _ _ _ _ _ c.to_pbm.result
-    c.new-stream.ensures.room.0 c.written.ensures c.written-2.ensures (omega arith) (never_failed c.to_pbm.new.again)
-    c.in_ok-to_jbg.ensures.outcome.leaves.whole c.to_pbm.ensures.outcome
+    let same = c.written-2.ensures ∙ sym c.written.ensures in
+    known_told c.lines.ensures.line_or_fault c.headers.ensures (settings_of c.args.options.now) (g.R.Input.view c.args.input.now).remaining c.new-stream.result.bytes.now c.to_pbm.result
+    c.new-stream.ensures.room.0 c.written.ensures (omega arith) c.in_ok-to_jbg.ensures.outcome.leaves.whole (rw (same, never_failed c.to_pbm.new.again) at c.to_pbm.ensures.outcome)

@@ -49,47 +49,40 @@ are_settings o = record {
 abbrev OneLine : Type 0
 OneLine = (bytes x y : List ℕ) → HasLine bytes x → HasLine bytes y → x ≡ y
 
-module _ (s : Settings) (accepted : AreSettings s) (first : List ℕ) (old new : Option (List ℕ)) where
-  the_line : OneLine → IsPlace start → EventsKeepPlace → OneCode → (bytes : List ℕ) → WritesStream s bytes (Some []) (Some first) → (text : List ℕ) × HasLine first text × Appends old new text → WritesLine s bytes old new
-  the_line one_line start_is_place keep one_code bytes w told = record {
-    raster = w.raster;
-    rest = w.rest;
-    is = w.is;
-    appends = subst (λ l. Appends old new l) same told.2;
-  } where
+module _ (one_line : OneLine) (start_is_place : IsPlace start) (keep : EventsKeepPlace) (one_code : OneCode) (s : Settings) (accepted : AreSettings s) where
+  the_line : {first bytes : List ℕ} {old new : Option (List ℕ)} → WritesStream s bytes (Some []) (Some first) → (text : List ℕ) × HasLine first text × Appends old new text → WritesLine s bytes old new
+  the_line {first} w told = record { raster = w.raster; rest = w.rest; is = w.is; appends = rw same at told.2 } where
     line : HasLine first (line_text (line_numbers s w.raster))
-    line = subst (λ l. HasLine l (line_text (line_numbers s w.raster))) (sym w.appends) (has_line start_is_place keep one_code s w.raster accepted w.proper w.denotes)
+    line = rw w.appends (has_line start_is_place keep one_code s w.raster accepted w.proper w.denotes)
 
     same : told.0 ≡ line_text (line_numbers s w.raster)
     same = one_line first told.0 (line_text (line_numbers s w.raster)) told.1 line
 
-  known_line : OneLine → IsPlace start → EventsKeepPlace → OneCode → (known : Option (List ℕ)) (room stream : List ℕ) (len : ℕ) (answer : Result (Unit {0}) Fault) → len ≡ 0 → first ≡ stream
+  known_line : (known old new : Option (List ℕ)) {first stream : List ℕ} {len : ℕ} (room : List ℕ) (answer : Result (Unit {0}) Fault) → len ≡ 0 → first ≡ stream
       → IfSome known (λ bytes. WritesStream s bytes (Some (take len room)) (Some stream)) → OnOk answer ((text : List ℕ) × HasLine first text × Appends old new text) → OnOk answer (IfSome known (λ bytes. WritesLine s bytes old new))
-  known_line one_line start_is_place keep one_code known room stream len (Err fault) empty same written told = tt
-  known_line one_line start_is_place keep one_code None room stream len (Ok u) empty same written told = tt
-  known_line one_line start_is_place keep one_code (Some bytes) room stream len (Ok u) empty same written told = the_line one_line start_is_place keep one_code bytes (from_empty s bytes room stream first len empty same written) told
+  known_line known old new room (Err fault) empty same written told = tt
+  known_line None old new room (Ok u) empty same written told = tt
+  known_line (Some bytes) old new room (Ok u) empty same written told = the_line (from_empty room empty same written) told
 
-known_told : LineOrFault → (s : Settings) (known : Option (List ℕ)) (room stream first : List ℕ) (len : ℕ) (answer : Result (Unit {0}) Fault) → len ≡ 0 → first ≡ stream
+known_told : LineOrFault → (s : Settings) (known : Option (List ℕ)) {first stream : List ℕ} {len : ℕ} (room : List ℕ) (answer : Result (Unit {0}) Fault) → len ≡ 0 → first ≡ stream
     → IfSome known (λ bytes. WritesStream s bytes (Some (take len room)) (Some stream)) → IfErr answer (λ f. f ≢ Read → f ≢ Write → StreamFault first f) → CountsRead 0 0 answer
     → IfErr answer (λ fault. IfSome known (λ _. IsOfImage fault))
-known_told law s None room stream first len (Ok u) empty same written refused counts = tt
-known_told law s None room stream first len (Err f) empty same written refused counts = tt
-known_told law s (Some bytes) room stream first len (Ok u) empty same written refused counts = tt
-known_told law s (Some bytes) room stream first len (Err Write) empty same written refused counts = tt
-known_told law s (Some bytes) room stream first len (Err Read) empty same written refused counts = absurd (omega (arith, counts))
-known_told law s (Some bytes) room stream first len (Err f) empty same written refused counts =
-    let w = from_empty s bytes room stream first len empty same written in
-    absurd (no_fault law first w.raster (subst (λ l. Denotes l w.raster) (sym w.appends) w.denotes) f (refused (λ e. absurd (let bot : ⊥ = cc in bot)) (λ e. absurd (let bot : ⊥ = cc in bot))))
+known_told law s None room (Ok u) empty same written refused counts = tt
+known_told law s None room (Err f) empty same written refused counts = tt
+known_told law s (Some bytes) room (Ok u) empty same written refused counts = tt
+known_told law s (Some bytes) room (Err Write) empty same written refused counts = tt
+known_told law s (Some bytes) room (Err Read) empty same written refused counts = absurd (omega (arith, counts))
+known_told law s (Some bytes) {first} room (Err f) empty same written refused counts =
+    let w : WritesStream s bytes (Some []) (Some first) = from_empty room empty same written in
+    absurd (no_fault law first w.raster (subst (λ l. Denotes l w.raster) (sym w.appends) w.denotes) f (refused (λ e. cc) (λ e. cc)))
 
 pub returns-clause-line : goal.returns-clause-line
 returns-clause-line g c =
-    known_line (settings_of c.args.options.now) (are_settings c.args.options.now) c.written.result.now (g.W.Output.view c.args.output.now).contents (g.W.Output.view c.info.new.output).contents
-    c.lines.ensures.one_line c.places.ensures.start_is_place c.places.ensures.events_keep_place c.codes.ensures.one_code
-    (g.R.Input.view c.args.input.now).remaining c.new-stream.result.bytes.now (take c.to_jbg.new.output.len c.to_jbg.new.output.bytes.now) c.new-stream.result.len c.info.result
+    known_line c.lines.ensures.one_line c.places.ensures.start_is_place c.places.ensures.events_keep_place c.codes.ensures.one_code (settings_of c.args.options.now) (are_settings c.args.options.now)
+    (g.R.Input.view c.args.input.now).remaining (g.W.Output.view c.args.output.now).contents (g.W.Output.view c.info.new.output).contents c.new-stream.result.bytes.now c.info.result
     c.new-stream.ensures.room.0 c.written.ensures c.in_ok-to_jbg.ensures.outcome.leaves.whole c.info.ensures.outcome.line
 
 pub returns-clause-told : goal.returns-clause-told
 returns-clause-told g c =
-    known_told c.lines.ensures.line_or_fault (settings_of c.args.options.now)
-    (g.R.Input.view c.args.input.now).remaining c.new-stream.result.bytes.now (take c.to_jbg.new.output.len c.to_jbg.new.output.bytes.now) c.written.result.now c.new-stream.result.len c.info.result
+    known_told c.lines.ensures.line_or_fault (settings_of c.args.options.now) (g.R.Input.view c.args.input.now).remaining c.new-stream.result.bytes.now c.info.result
     c.new-stream.ensures.room.0 c.written.ensures c.in_ok-to_jbg.ensures.outcome.leaves.whole c.info.ensures.outcome.refused c.info.ensures.outcome.reads

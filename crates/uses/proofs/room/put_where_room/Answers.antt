@@ -1,14 +1,17 @@
 use Rattle.std.proofs.Common.{◌≡◌, ◌∙◌, sym, true, false, arith}
 use Rattle.std.specs.Prelude.{is_ok}
-use Rattle.t85_core.specs.Steps.MostBytes.{most_row_bytes}
 use Rattle.uses.proofs.Rooms.{unfilled, when_ok}
 use Rattle.uses.proofs.room.put_where_room.Goals as goal
 
 -- no write failed
 went : (c : goal.After-is_ok) → (is_ok c.put_row.result ≡ true) × (c.put_row.new.output.failures ≡ 0)
-went c =
-    unfilled c.put_row.result c.args.room.now.len c.put_row.new.output.len (most_row_bytes c.args.encoder.now) c.args.room.now.failures c.put_row.new.output.failures c.args.room.now.bytes c.put_row.new.output.bytes c.args.room.now.sized c.put_row.new.output.sized c.args.room.now.within c.put_row.new.output.within
-    (let most = c.most_row_bytes.ensures in let left = c.left-left.ensures in omega (arith, most, left, c.if-most_row_bytes-left.false)) c.put_row.ensures.few c.requires.unfailed (c.put_row.ensures.writes c.requires.going).counts c.put_row.ensures.goes_on.4 c.put_row.new.output.full
+went c = unfilled {old = c.args.room.now} {new = c.put_row.new.output} (record {
+  room = let most = c.most_row_bytes.ensures in let left = c.left-left.ensures in omega (arith, most, left, c.if-most_row_bytes-left.false);
+  few = c.put_row.ensures.few;
+  unfailed = c.requires.unfailed;
+  counts = (c.put_row.ensures.writes c.requires.going).counts;
+  fault = c.put_row.ensures.goes_on.4;
+})
 
 pub returns-clause-put : goal.returns-clause-put
 returns-clause-put c is = when_ok c.put_row.result (went c).0 c.put_row.ensures.ok
