@@ -1,5 +1,6 @@
 -- The parts of the stream that is written for a raster.
-use Rattle.std.proofs.Common.{◌≡◌, ℕ, zero, suc, ◌+◌, ◌-◌, ◌*◌, ◌/◌, ◌<◌, ◌≤◌, ◌^◌, Bool, true, false, List, [], ◌∷◌, ◌++◌, length, map, drop, min, refl, sym, ◌∙◌, ap, subst, arith, Option, None, Some, append_assoc}
+use Rattle.std.proofs.Common.{◌≡◌, ℕ, zero, suc, ◌+◌, ◌-◌, ◌*◌, ◌/◌, ◌<◌, ◌≤◌, ◌^◌, Bool, true, false, List, [], ◌∷◌, ◌++◌, length, map, drop, min, refl, sym, ◌∙◌, ap}
+use Rattle.std.proofs.Common.{subst, arith, Option, None, Some, append_assoc}
 use Rattle.std.specs.Prelude.{slice_index_or, if◌then◌else◌, flat_map, unwrap_or, option_map, option_and_then, option_to_list, nat_lt, nat_le, find, count_by, sum_by, is_some, IfSome, ◌==◌}
 use Rattle.std.specs.Int.{bytes_high_first}
 use Rattle.std.specs.List.{AllByRecursion, list_all}
@@ -14,7 +15,8 @@ use Rattle.raster_core.specs.Lines.{Lines, numbers_from}
 use Rattle.raster_core.specs.Offset.{chosen_offset, best_offset, candidates, agreement}
 use Rattle.raster_core.specs.Raster.{Raster, IsRaster, height}
 use Rattle.t85_core.specs.Coding.{Coding, begun, events_of, learned_at, lines_of, place_of, rows_of}
-use Rattle.t85_core.specs.Grammar.{Segment, NewLength, Move, Comment, Stripe, IsBegun, AreStripes, GiveOnly, Parts, all_segments, comments_in, is_comment, is_move, lengths, marker_bytes, moves_in, segment_bytes, stripe_bytes, stripe_count}
+use Rattle.t85_core.specs.Grammar.{Segment, NewLength, Move, Comment, Stripe, IsBegun, AreStripes, GiveOnly, Parts, all_segments, comments_in, is_comment, is_move}
+use Rattle.t85_core.specs.Grammar.{lengths, marker_bytes, moves_in, segment_bytes, stripe_bytes, stripe_count}
 use Rattle.t85_core.specs.Denotes.{Denotes}
 use Rattle.t85_core.specs.Header.{Fields, HeaderOf, long_at}
 use Rattle.t85_core.specs.Height.{IsHeight}
@@ -48,7 +50,8 @@ chosen_within two_line most width stripe current =
       gains : (best : Option ℕ) → IfSome best (λ t. t ≤ most) →
           IfSome (option_and_then (λ t. if nat_lt (width * length stripe / 8) (agreement stripe t - agreement stripe current) then Some t else None) best) (λ t. t ≤ most)
       gains None within = tt
-      gains (Some t) within = elim (nat_lt (width * length stripe / 8) (agreement stripe t - agreement stripe current)) as (λ b. IfSome (if b then Some t else None) (λ t. t ≤ most)) [ true ↦ within | false ↦ tt ]
+      gains (Some t) within = elim (nat_lt (width * length stripe / 8) (agreement stripe t - agreement stripe current)) as
+          (λ b. IfSome (if b then Some t else None) (λ t. t ≤ most)) [ true ↦ within | false ↦ tt ]
 
 -- and so is one that is named or chosen
 moved_within : (named : Option ℕ) (most current : ℕ) (chosen : Option ℕ) → IfSome named (λ t. t ≤ most) → IfSome chosen (λ t. t ≤ most) → IfSome (moved_to named current chosen) (λ t. t ≤ most)
@@ -107,7 +110,8 @@ comment_begun h None small (x ∷ xs) are = are
 comment_begun h (Some text) small (x ∷ xs) are = (
   record {
     legal = (small, are.0.legal);
-    one_move = (let one : count_by is_move x.segments ≤ 1 = are.0.one_move in let more : count_by is_move (Comment text ∷ x.segments) ≡ 0 + count_by is_move x.segments = sum_by-cons _ (Comment text) x.segments in omega (arith, one, more));
+    one_move = (let one : count_by is_move x.segments ≤ 1 = are.0.one_move in let more : count_by is_move
+        (Comment text ∷ x.segments) ≡ 0 + count_by is_move x.segments = sum_by-cons _ (Comment text) x.segments in omega (arith, one, more));
     bytes = are.0.bytes;
   },
   are.1,
@@ -197,7 +201,8 @@ gives_none height' segments none = record {
 
 -- ---- the whole
 
-begun_move : (h : Fields) (choice : Option ℕ) (code : List ℕ) → 1 ≤ h.l0 → IfSome choice (λ t. t ≤ h.mx) → AllByRecursion (λ b. b < 256) code → IsBegun h (move_segments (option_map (λ t. (0, t)) choice)) code
+begun_move : (h : Fields) (choice : Option ℕ) (code : List ℕ) → 1 ≤ h.l0 → IfSome choice (λ t. t ≤ h.mx) → AllByRecursion (λ b. b < 256) code →
+    IsBegun h (move_segments (option_map (λ t. (0, t)) choice)) code
 begun_move h None code some within bytes = record { legal = tt; one_move = omega arith; bytes = bytes }
 begun_move h (Some t) code some within bytes = record { legal = ((some, within), tt); one_move = omega arith; bytes = bytes }
 
@@ -219,7 +224,9 @@ module _ (start_is_place : IsPlace start) (keep : EventsKeepPlace) (one_code : O
 
   begun_before : (i : ℕ) (code : List ℕ) → AllByRecursion (λ b. b < 256) code → IsBegun h (move_segments (move_before s (cut s raster) i)) code
   begun_before zero code bytes = begun_move h (first_choice s) code accepted.stripe_from (moved_within (named_for s 0) s.most_offset 0 None (accepted.named_to 0) tt) bytes
-  begun_before (suc i) code bytes = begun_move h (choice_after s (cut s raster) i (current_offset s (cut s raster) i)) code accepted.stripe_from (moved_within (named_for s (suc i)) s.most_offset (current_offset s (cut s raster) i) _ (accepted.named_to (suc i)) (chosen_within (cut s raster).mode.two_line s.most_offset raster.width (map (lines_of (cut s raster)) (rows_of (cut s raster) i)) (current_offset s (cut s raster) i))) bytes
+  begun_before (suc i) code bytes = begun_move h (choice_after s (cut s raster) i (current_offset s (cut s raster) i)) code accepted.stripe_from
+      (moved_within (named_for s (suc i)) s.most_offset (current_offset s (cut s raster) i) _ (accepted.named_to (suc i))
+      (chosen_within (cut s raster).mode.two_line s.most_offset raster.width (map (lines_of (cut s raster)) (rows_of (cut s raster) i)) (current_offset s (cut s raster) i))) bytes
 
   are : AreStripes h written
   are = all_mapped (λ x. IsBegun h x.segments x.code) (coded_stripe c) 0 n (λ i from to.
@@ -233,7 +240,8 @@ module _ (start_is_place : IsPlace start) (keep : EventsKeepPlace) (one_code : O
       omega (arith, length_mapped (coded_stripe c) 0 n, many)
 
   body_is : drop 20 (jbg s raster) ≡ flat_map stripe_bytes (with_comment s.comment written) ++ ending s (height raster)
-  body_is = ap (λ l. l ++ ending s (height raster)) (ap (λ l. flat_map segment_bytes (comments s.comment) ++ l) (sym (flat_map-map stripe_bytes (coded_stripe c) (numbers_from 0 n))) ∙ sym (comment_bytes s.comment written some))
+  body_is = ap (λ l. l ++ ending s (height raster))
+      (ap (λ l. flat_map segment_bytes (comments s.comment) ++ l) (sym (flat_map-map stripe_bytes (coded_stripe c) (numbers_from 0 n))) ∙ sym (comment_bytes s.comment written some))
 
   -- the parts of what stands after the header
   abbrev parts : Parts h (height raster) (drop 20 (jbg s raster))

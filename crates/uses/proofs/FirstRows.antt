@@ -1,5 +1,6 @@
 -- The output for a prefix of a stream.
-use Rattle.std.proofs.Common.{◌≡◌, ◌≢◌, ◌⊎◌, inl, inr, ℕ, Bool, false, List, [], ◌∷◌, ◌++◌, length, drop, take, Option, Some, None, Result, Ok, Err, refl, sym, ap, ◌∙◌, subst, append-nil, append_assoc, true≢false, ◌≤◌, ◌<◌, ◌+◌, ◌^◌, nat_lt, arith, true}
+use Rattle.std.proofs.Common.{◌≡◌, ◌≢◌, ◌⊎◌, inl, inr, ℕ, Bool, false, List, [], ◌∷◌, ◌++◌, length, drop, take, Option, Some, None, Result, Ok, Err, refl, sym, ap, ◌∙◌}
+use Rattle.std.proofs.Common.{subst, append-nil, append_assoc, true≢false, ◌≤◌, ◌<◌, ◌+◌, ◌^◌, nat_lt, arith, true}
 use Rattle.std.specs.Prelude.{flat_map}
 use Rattle.std.specs.List.{AllByRecursion}
 use Rattle.std.specs.Io.KnownBytes.{Appends, Keeps}
@@ -13,7 +14,7 @@ use Rattle.raster_core.specs.Packed.{packed_row, row_bytes}
 use Rattle.raster_core.specs.Lines.{numbers_from}
 use Rattle.raster_core.specs.Raster.{Raster, height}
 use Rattle.t85_core.specs.declared.fault.Fault.{Fault}
-use Rattle.t85_core.specs.declared.fault.Fault.TheVariants.{ShortHeader, VariableHeight, Truncated, Read, Write, OutOfMemory, TooManyRows}
+use Rattle.t85_core.specs.declared.fault.Fault.TheVariants.{ShortHeader, Read, Write, OutOfMemory, TooManyRows}
 use Rattle.t85_core.specs.Decode.{WritesImageFront, WritesRaster, WritesRows}
 use Rattle.t85_core.specs.Denotes.{Denotes, DenotesAt}
 use Rattle.t85_core.specs.Header.{Fields, HeaderOf, header_fault, is_variable}
@@ -66,7 +67,8 @@ begins_none (Some xs) (Some ys) text keeps = record { front = []; rest = text; t
 
 module _ (width height' : ℕ) (rows all : List (List Bool)) (wide : AllByRecursion (λ row. length row ≡ width) rows) (all_wide : AllByRecursion (λ row. length row ≡ width) all) where
   -- rows were written, and they are a beginning of an image
-  are_first : (old new : Option (List ℕ)) → Appends old new (pbm_rows width height' rows) → AppendsBeginning old new (pbm_rows width height' all) → Appends old new (pbm_rows width height' (take (length rows) all))
+  are_first : (old new : Option (List ℕ)) → Appends old new (pbm_rows width height' rows) → AppendsBeginning old new (pbm_rows width height' all) →
+      Appends old new (pbm_rows width height' (take (length rows) all))
   are_first None new appends begins = tt
   are_first (Some xs) None appends begins = absurd appends
   are_first (Some xs) (Some ys) appends begins = appends ∙ ap (λ l. xs ++ (header_text width height' ++ l)) same where
@@ -169,7 +171,8 @@ module _ (law : CodeDenotes) (line_law : LineOrFault) (headers : HeaderLaws) (ra
     rows_any OutOfMemory c begins write = inl (let memory = c.no_memory refl in memory.1)
     rows_any f c begins write = inr (rows_of f c begins write (λ e. cc))
 
-    at_body : (answer : Result (Unit {0}) Fault) → ToPbmAt h h.yd limit (between (Some (drop 20 bytes)) left reads reads') out answer → WritesFirst raster bytes out.change.old.bytes out.change.new.bytes answer
+    at_body : (answer : Result (Unit {0}) Fault) → ToPbmAt h h.yd limit (between (Some (drop 20 bytes)) left reads reads') out answer →
+        WritesFirst raster bytes out.change.old.bytes out.change.new.bytes answer
     at_body (Ok u) c =
         let begins = front_begins whole c.front in
         let all = of_raster whole c.whole begins in
@@ -205,7 +208,7 @@ module _ (law : CodeDenotes) (line_law : LineOrFault) (headers : HeaderLaws) (ra
           -- the height may change after all
           let w = wants.0 in
           unwritten w.answer_is (λ fixed other.
-              let same = headers.one bytes w.header fixed.header (splits headers bytes w.header left w.taken).header_of fixed.header_of in
-              true≢false (sym w.variable ∙ ap (λ (k : Fields). is_variable k) same ∙ fixed.height_is_fixed)) w.nothing.kept
+          let same = headers.one bytes w.header fixed.header (splits headers bytes w.header left w.taken).header_of fixed.header_of in
+          true≢false (sym w.variable ∙ ap (λ (k : Fields). is_variable k) same ∙ fixed.height_is_fixed)) w.nothing.kept
       | inr (inr (inr twice)) ↦ absurd (true≢false (sym twice.second))
     ]

@@ -1,5 +1,6 @@
 -- Rows of a stream that comes in pieces.
-use Rattle.std.proofs.Common.{◌≡◌, ◌≢◌, ℕ, ◌+◌, ◌≤◌, Bool, true, false, Result, Ok, Err, List, [], ◌∷◌, ◌++◌, length, take, drop, refl, sym, ap, ◌∙◌, subst, append_assoc, append-nil, length-drop, arith}
+use Rattle.std.proofs.Common.{◌≡◌, ◌≢◌, ℕ, ◌+◌, ◌≤◌, Bool, true, false, Result, Ok, Err, List, [], ◌∷◌, ◌++◌, length, take, drop, refl, sym, ap, ◌∙◌, subst, append_assoc}
+use Rattle.std.proofs.Common.{append-nil, length-drop, arith}
 use Rattle.std.specs.Prelude.{flat_map, OnErr}
 use Rattle.std.proofs.Math.Seq.{take-add}
 use Rattle.std.proofs.lemmas.Grind.{flat_map-append}
@@ -10,7 +11,7 @@ use Rattle.t85_core.specs.declared.pieces.Outcome.{Outcome}
 use Rattle.t85_core.specs.declared.pieces.Outcome.TheVariants as outcome
 use Rattle.t85_core.specs.Header.{Fields}
 use Rattle.t85_core.specs.Pieces.{stream_of, row_held, HasDecoded, HandsOut, HoldsImage, StreamGoesOn, Call, IsCall, bytes_taken, given_with, row_given, decoder_after}
-use Rattle.uses.specs.Pieces.{rows_told, rows_counted, WereMade, SaysOfRows, PieceRead, TextRead, SomeRead, gathered}
+use Rattle.uses.specs.Pieces.{rows_told, rows_counted, WereMade, SaysOfRows, PieceRead, TextRead, SomeRead, Gathered, gathered}
 
 pub on_err : {T E : Type 0} (r : Result T E) {P : Type 0} → P → OnErr r P
 on_err (Ok x) p = tt
@@ -72,10 +73,10 @@ none_so_far d piece held = record {
   many = refl;
   within = omega arith;
   same = refl;
-  goes_on = λ text out has. subst (λ z. HasDecoded d z (out ++ [])) (sym (append-nil text)) (subst (HasDecoded d text) (sym (append-nil out)) has);
+  goes_on = λ text out has. simp append-nil has;
 }
 
-module _ (old now : PieceView) (piece : List ℕ) (taken : ℕ) (held held' : List ℕ) (count : ℕ) (so_far : RowsSoFar old now piece taken held held' count) where
+module _ {old now : PieceView} {piece : List ℕ} {taken : ℕ} {held held' : List ℕ} {count : ℕ} (so_far : RowsSoFar old now piece taken held held' count) where
   pub some_came : SomeRead old (gathered held held')
   some_came = record { calls = so_far.calls; made = so_far.made; appended = so_far.appended }
 
@@ -107,16 +108,10 @@ module _ (old now : PieceView) (piece : List ℕ) (taken : ℕ) (held held' : Li
     within = (let all = so_far.within in let e : length call.piece ≡ length (drop taken piece) = ap (λ l. length l) at in omega (arith, few, all, e, length-drop taken piece))
 
     taken_more : (text : List ℕ) → (text ++ take taken piece) ++ bytes_taken call ≡ text ++ take (taken + call.taken) piece
-    taken_more text =
-        append_assoc text (take taken piece) (bytes_taken call)
-        ∙ ap (λ z. text ++ (take taken piece ++ take call.taken z)) at
-        ∙ ap (λ z. text ++ z) (sym (take-add taken call.taken piece))
+    taken_more text = rw (append_assoc, at, ← take-add taken call.taken piece)
 
     all_come : (text : List ℕ) → (text ++ take taken piece) ++ call.piece ≡ text ++ piece
-    all_come text =
-        append_assoc text (take taken piece) call.piece
-        ∙ ap (λ z. text ++ (take taken piece ++ z)) at
-        ∙ ap (λ z. text ++ z) (take-append-drop taken piece)
+    all_come text = rw (append_assoc, at, take-append-drop taken piece)
 
     -- the rows with that of the call
     rows_with : (row : List ℕ) → row_given call ≡ row → (front : List ℕ) → (front ++ flat_map row_given so_far.calls) ++ row ≡ front ++ flat_map row_given longer
@@ -146,7 +141,8 @@ module _ (old now : PieceView) (piece : List ℕ) (taken : ℕ) (held held' : Li
       rows : (front : List ℕ) → (front ++ flat_map row_given so_far.calls) ++ row_held call.new ≡ front ++ flat_map row_given longer
       rows = rows_with (row_held call.new) (ap (λ o. given_with o (row_held call.new)) e)
 
-    pub last_came : (limit : ℕ) → call.answer ≢ outcome.Row → (call.is_all ≡ true → call.answer ≢ outcome.More) → PieceRead old (call_told piece call.is_all (taken + call.taken) call.answer call.new) limit (gathered held held')
+    pub last_came : (limit : ℕ) → call.answer ≢ outcome.Row → (call.is_all ≡ true → call.answer ≢ outcome.More) →
+        PieceRead old (call_told piece call.is_all (taken + call.taken) call.answer call.new) limit (gathered held held')
     last_came limit other ends = record {
       calls = longer;
       made = made;
@@ -183,45 +179,58 @@ tells_on h new outcome.More come more out t other = absurd (other refl)
 tells_on h new (outcome.Done height) come more out t other = λ rest _. subst (λ z. HoldsImage h z height out) (sym (append_assoc come more rest)) (t (more ++ rest) (λ e. cc))
 tells_on h new (outcome.Broken fault) come more out t other = λ rest _. subst (λ z. HandsOut h z new.height fault out) (sym (append_assoc come more rest)) (t (more ++ rest) (λ e. cc))
 
-module _ (old mid : PieceView) (first second : List ℕ) (limit taken : ℕ) (held held' : List ℕ) where
-  split : take taken first ++ (drop taken first ++ second) ≡ first ++ second
-  split = sym (append_assoc (take taken first) (drop taken first) second) ∙ ap (λ z. z ++ second) (take-append-drop taken first)
+-- the first piece was enough
+pub first_told : {old mid : PieceView} {first : List ℕ} {taken limit : ℕ} {answer : Outcome} {rows : Gathered} (second : List ℕ) →
+    PieceRead old (call_told first false taken answer mid) limit rows → answer ≢ outcome.More →
+    TextRead old mid (first ++ second) limit answer rows
+first_told {old} {mid} {first} {answer = answer} second p other = record {
+  calls = p.calls;
+  made = p.made;
+  appended = p.appended;
+  full = λ e. (let all = p.full e in omega (arith, all));
+  ends = other;
+  tells = λ text out has.
+      subst (λ z. SaysOfRows (stream_of old) true mid answer z (out ++ flat_map row_given p.calls)) (append_assoc text first second)
+      (tells_on (stream_of old) mid answer (text ++ first) second (out ++ flat_map row_given p.calls) (p.tells text out has) other);
+}
 
-  -- the first piece was enough
-  pub first_told : (answer : Outcome) → PieceRead old (call_told first false taken answer mid) limit (gathered held held') → answer ≢ outcome.More → TextRead old mid (first ++ second) limit answer (gathered held held')
-  first_told answer p other = record {
-    calls = p.calls;
-    made = p.made;
-    appended = p.appended;
-    full = λ e. (let all = p.full e in omega (arith, all));
-    ends = other;
-    tells = λ text out has.
-        subst (λ z. SaysOfRows (stream_of old) true mid answer z (out ++ flat_map row_given p.calls)) (append_assoc text first second)
-        (tells_on (stream_of old) mid answer (text ++ first) second (out ++ flat_map row_given p.calls) (p.tells text out has) other);
-  }
+-- two pieces, one after the other
+abbrev joined : {old : PieceView} {whole : Call} {limit : ℕ} {held held' held'' : List ℕ} → PieceRead old whole limit (gathered held held') →
+    SomeRead whole.new (gathered held' held'') → SomeRead old (gathered held held'')
+joined {old} {held = held} p q = record {
+  calls = p.calls ++ q.calls;
+  made = made_append old p.calls q.calls p.made (subst (λ d. WereMade d q.calls) p.after q.made);
+  appended = q.appended ∙ ap (λ z. z ++ flat_map row_given q.calls) p.appended ∙ rows_append held p.calls q.calls;
+}
 
-  -- memory ran out in the second piece
-  pub second_short : (answer : Outcome) → PieceRead old (call_told first false taken answer mid) limit (gathered held held') → (held'' : List ℕ) → SomeRead mid (gathered held' held'') → SomeRead old (gathered held held'')
-  second_short answer p held'' q = record {
-    calls = p.calls ++ q.calls;
-    made = made_append old p.calls q.calls p.made (subst (λ d. WereMade d q.calls) p.after q.made);
-    appended = q.appended ∙ ap (λ z. z ++ flat_map row_given q.calls) p.appended ∙ rows_append held p.calls q.calls;
-  }
+-- memory ran out in the second piece
+pub second_short : {old mid : PieceView} {first : List ℕ} {taken limit : ℕ} {answer : Outcome} {held held' held'' : List ℕ} →
+    PieceRead old (call_told first false taken answer mid) limit (gathered held held') → SomeRead mid (gathered held' held'') →
+    SomeRead old (gathered held held'')
+second_short p q = joined p q
 
-  -- the first needed more, and the second was enough
-  pub second_told : (new : PieceView) (rest : List ℕ) (answer : Outcome) (more : ℕ) (held'' : List ℕ) → PieceRead old (call_told first false taken outcome.More mid) limit (gathered held held') → stream_of mid ≡ stream_of old →
-      rest ≡ drop taken first ++ second → PieceRead mid (call_told rest true more answer new) limit (gathered held' held'') → TextRead old new (first ++ second) limit answer (gathered held held'')
-  second_told new rest answer more held'' p same rest_is q = record {
-    calls = p.calls ++ q.calls;
-    made = made_append old p.calls q.calls p.made (subst (λ d. WereMade d q.calls) p.after q.made);
-    appended = q.appended ∙ ap (λ z. z ++ flat_map row_given q.calls) p.appended ∙ rows_append held p.calls q.calls;
-    full = λ e. (let all = q.full e in omega (arith, all, count_append p.calls q.calls));
-    ends = q.ends refl;
-    tells = λ text out has.
-        subst (λ (z : Fields). SaysOfRows z true new answer (text ++ (first ++ second)) (out ++ flat_map row_given (p.calls ++ q.calls))) same
-        (subst (λ z. SaysOfRows (stream_of mid) true new answer z (out ++ flat_map row_given (p.calls ++ q.calls))) (whole text)
-        (subst (SaysOfRows (stream_of mid) true new answer ((text ++ take taken first) ++ rest)) (rows_append out p.calls q.calls)
-        (q.tells (text ++ take taken first) (out ++ flat_map row_given p.calls) (p.goes_on tt text out has))));
-  } where
+-- the first needed more, and the second was enough
+pub second_told : {old mid new : PieceView} {first rest : List ℕ} {taken limit more : ℕ} {answer : Outcome} {held held' held'' : List ℕ} (second : List ℕ) →
+    PieceRead old (call_told first false taken outcome.More mid) limit (gathered held held') →
+    stream_of mid ≡ stream_of old → rest ≡ drop taken first ++ second → PieceRead mid (call_told rest true more answer new) limit (gathered held' held'') →
+    TextRead old new (first ++ second) limit answer (gathered held held'')
+second_told {old} {mid} {new} {first} {rest} {taken} {answer = answer} second p same rest_is q =
+    let both = joined p (record { calls = q.calls; made = q.made; appended = q.appended }) in
+    record {
+      calls = both.calls;
+      made = both.made;
+      appended = both.appended;
+      full = λ e. (let all = q.full e in omega (arith, all, count_append p.calls q.calls));
+      ends = q.ends refl;
+      tells = λ text out has.
+          subst (λ (z : Fields). SaysOfRows z true new answer (text ++ (first ++ second)) (out ++ flat_map row_given (p.calls ++ q.calls))) same
+          (subst (λ z. SaysOfRows (stream_of mid) true new answer z (out ++ flat_map row_given (p.calls ++ q.calls))) (whole text)
+          (subst (SaysOfRows (stream_of mid) true new answer ((text ++ take taken first) ++ rest)) (rows_append out p.calls q.calls)
+          (q.tells (text ++ take taken first) (out ++ flat_map row_given p.calls) (p.goes_on tt text out has))));
+    }
+  where
+    split : take taken first ++ (drop taken first ++ second) ≡ first ++ second
+    split = sym (append_assoc (take taken first) (drop taken first) second) ∙ ap (λ z. z ++ second) (take-append-drop taken first)
+
     whole : (text : List ℕ) → (text ++ take taken first) ++ rest ≡ text ++ (first ++ second)
     whole text = append_assoc text (take taken first) rest ∙ ap (λ z. text ++ (take taken first ++ z)) rest_is ∙ ap (λ z. text ++ z) split

@@ -1,5 +1,5 @@
 -- Pixels on their way into a code, and out of it.
-use Rattle.std.proofs.Common.{◌≡◌, ℕ, ◌+◌, ◌<◌, ◌≤◌, Bool, List, [], ◌∷◌, ◌++◌, length, get_or, drop, Result, Ok, Err, false, refl, sym, ap, ◌∙◌, subst, arith, append-nil, append_assoc, add-one}
+use Rattle.std.proofs.Common.{◌≡◌, ℕ, ◌+◌, ◌<◌, ◌≤◌, Bool, List, [], ◌∷◌, ◌++◌, length, get_or, drop, Result, Ok, Err, false, refl, sym, ap, ◌∙◌, subst, append-nil, append_assoc, add-one}
 use Rattle.std.specs.Prelude.{is_err}
 use Rattle.std.proofs.lemmas.List.{drop_all}
 use Rattle.std.proofs.Math.Seq.{drop-cons}
@@ -28,19 +28,29 @@ at_place p learned = record { place = p; learned = learned }
 abbrev pub LeadsOn : List Estimate → List Context → List Bool → ℕ → Place → List Estimate → Type 0
 LeadsOn before contexts pixels i p learned = after (at_place p learned) (events (drop i contexts) (drop i pixels)) ≡ end_of before contexts pixels
 
-module _ (before : List Estimate) (contexts : List Context) (pixels : List Bool) (i : ℕ) (p : Place) (learned : List Estimate) (cx : Context) (pixel : Bool) where
-  pub one_left : i < length contexts → i < length pixels → cx ≡ get_or contexts i cx → pixel ≡ get_or pixels i false →
-      events (drop i contexts) (drop i pixels) ≡ record { context = cx.number; pixel = pixel } ∷ events (drop (i + 1) contexts) (drop (i + 1) pixels)
-  one_left in_contexts in_pixels is_cx is_pixel =
-      let c : drop i contexts ≡ cx ∷ drop (i + 1) contexts = rw (add-one, drop-cons contexts i cx, ← is_cx) in
-      let x : drop i pixels ≡ pixel ∷ drop (i + 1) pixels = rw (add-one, drop-cons pixels i false, ← is_pixel) in
-      rw (c, x)
+-- the context and the pixel at this place
+pub record IsPixel (contexts : List Context) (pixels : List Bool) (i : ℕ) (cx : Context) (pixel : Bool) : Type 0 where
+  pub in_contexts : i < length contexts
+  pub in_pixels : i < length pixels
+  pub is_cx : cx ≡ get_or contexts i cx
+  pub is_pixel : pixel ≡ get_or pixels i false
 
-  pub leads_on : i < length contexts → i < length pixels → cx ≡ get_or contexts i cx → pixel ≡ get_or pixels i false → (learned' : List Estimate) → learned' ≡ (step (at_place p learned) cx.number pixel).learned →
-      LeadsOn before contexts pixels i p learned → LeadsOn before contexts pixels (i + 1) (step (at_place p learned) cx.number pixel).place learned'
-  leads_on in_contexts in_pixels is_cx is_pixel learned' taught leads =
-      subst (λ l. after (at_place (step (at_place p learned) cx.number pixel).place l) (events (drop (i + 1) contexts) (drop (i + 1) pixels)) ≡ end_of before contexts pixels) (sym taught)
-      (rw (one_left in_contexts in_pixels is_cx is_pixel) at leads)
+one_left : {contexts : List Context} {pixels : List Bool} {i : ℕ} {cx : Context} {pixel : Bool} → IsPixel contexts pixels i cx pixel →
+    events (drop i contexts) (drop i pixels) ≡ record { context = cx.number; pixel = pixel } ∷ events (drop (i + 1) contexts) (drop (i + 1) pixels)
+one_left {contexts} {pixels} {i} {cx} {pixel} at =
+    let h = at.in_contexts in
+    let k = at.in_pixels in
+    let c : drop i contexts ≡ cx ∷ drop (i + 1) contexts = rw (add-one, drop-cons contexts i cx, ← at.is_cx) in
+    let x : drop i pixels ≡ pixel ∷ drop (i + 1) pixels = rw (add-one, drop-cons pixels i false, ← at.is_pixel) in
+    rw (c, x)
+
+leads_on : (before : List Estimate) {contexts : List Context} {pixels : List Bool} {i : ℕ} {cx : Context} {pixel : Bool} (p : Place) (learned learned' : List Estimate) →
+    IsPixel contexts pixels i cx pixel →
+    learned' ≡ (step (at_place p learned) cx.number pixel).learned → LeadsOn before contexts pixels i p learned →
+    LeadsOn before contexts pixels (i + 1) (step (at_place p learned) cx.number pixel).place learned'
+leads_on before {contexts} {pixels} {i} {cx} {pixel} p learned learned' at taught leads =
+    subst (λ l. after (at_place (step (at_place p learned) cx.number pixel).place l) (events (drop (i + 1) contexts) (drop (i + 1) pixels)) ≡ end_of before contexts pixels)
+    (sym taught) (rw (one_left at) at leads)
 
 -- after the last pixel nothing is left
 pub led : (before : List Estimate) (contexts : List Context) (pixels : List Bool) (i : ℕ) (p : Place) (learned : List Estimate) → length contexts ≤ i → LeadsOn before contexts pixels i p learned →
@@ -69,19 +79,18 @@ took_all [] from to same = ap (λ (c : Code). c.bytes.items) (sym same) ∙ sym 
 took_all (byte ∷ bytes) from to t = took_all bytes t.0 to t.2 ∙ ap (λ l. l ++ bytes) t.1 ∙ append_assoc from.bytes.items (byte ∷ []) bytes
 
 -- a pixel more was put
-pub coded_on : (before : List Estimate) (contexts : List Context) (pixels : List Bool) (i : ℕ) (p : Place) (learned learned' : List Estimate) (cx : Context) (pixel : Bool) (from to : Code) (encoder : Encoder) (result : Result (Unit {0}) CoderFault)
-    → i < length contexts → i < length pixels → cx ≡ get_or contexts i cx → pixel ≡ get_or pixels i false → is_err result ≡ false
+pub coded_on : (before : List Estimate) {contexts : List Context} {pixels : List Bool} {i : ℕ} {p : Place} {learned learned' : List Estimate} {cx : Context} {pixel : Bool}
+    {from to : Code} {encoder : Encoder}
+    {result : Result (Unit {0}) CoderFault} → IsPixel contexts pixels i cx pixel → is_err result ≡ false
     → Put (sink_at pushes from from.bytes.items) (at_place p learned) cx.number pixel (encoder_state to encoder learned') result → LeadsOn before contexts pixels i p learned
     → (q : Place) × EncoderIsAt encoder q to.bytes.items × LeadsOn before contexts pixels (i + 1) q learned'
-coded_on before contexts pixels i p learned learned' cx pixel from to encoder (Err e) in_contexts in_pixels is_cx is_pixel went put leads = absurd (let bot : ⊥ = cc in bot)
-coded_on before contexts pixels i p learned learned' cx pixel from to encoder (Ok u) in_contexts in_pixels is_cx is_pixel went put leads = (
-  (step (at_place p learned) cx.number pixel).place,
-  subst (λ bytes. EncoderIsAt encoder (step (at_place p learned) cx.number pixel).place bytes) (sym (took_all put.more from to put.writes.ok)) put.codes,
-  leads_on before contexts pixels i p learned cx pixel in_contexts in_pixels is_cx is_pixel learned' put.taught leads,
-)
+coded_on before {result = Err e} at went put leads = absurd (let bot : ⊥ = cc in bot)
+coded_on before {p = p} {learned} {learned'} {cx} {pixel} {from} {to} {encoder} {result = Ok u} at went put leads =
+    ((step (at_place p learned) cx.number pixel).place, rw (took_all put.more from to put.writes.ok) put.codes, leads_on before p learned learned' at put.taught leads)
 
 -- the code was ended
-pub ended : (p : Place) (from to : Code) (result : Result (Unit {0}) CoderFault) → OneCode → IsPlace p → is_err result ≡ false → Finish (sink_at pushes from from.bytes.items) p to result → to.bytes.items ≡ stuffed (code_of p)
+pub ended : (p : Place) (from to : Code) (result : Result (Unit {0}) CoderFault) → OneCode → IsPlace p → is_err result ≡ false →
+    Finish (sink_at pushes from from.bytes.items) p to result → to.bytes.items ≡ stuffed (code_of p)
 ended p from to (Err e) one_code place went finish = absurd (let bot : ⊥ = cc in bot)
 ended p from to (Ok u) one_code place went finish =
     let code = (one_code p place).only finish.code finish.is in
@@ -116,12 +125,14 @@ given_by (Fault ∷ answers) from to (x ∷ code) gives held closed bytes =
 
 -- a pixel more was decoded, and it is the one that was put
 module _ (start_is_place : IsPlace start) (keep : EventsKeepPlace) (one_code : OneCode) (inverse : CodeLiesInAll) (only_pixel : OnlyPixel) where
-  pub decoded_on : (before : List Estimate) (contexts : List Context) (i : ℕ) (p : Place) (learned learned' : List Estimate) (cx : Context) (found : Bool) (first from to : Stuffed) (decoder : Decoder) (answers : List Pulled)
-      → i < length contexts → cx ≡ get_or contexts i cx → (n : Next (source_at Pull from answers) (at_place p learned) cx.number (decoder_state to decoder learned') (Ok found)) → IsPlace p → Gives Pull first (answers ++ n.more) to
-      → (pixels : List Bool) → length pixels ≡ length contexts → first.rest.now ≡ code_for before contexts pixels → LeadsOn before contexts pixels i p learned
+  pub decoded_on : (before : List Estimate) {contexts : List Context} {i : ℕ} {p : Place} {learned learned' : List Estimate} {cx : Context} {found : Bool} (first : Stuffed)
+      {from to : Stuffed} {decoder : Decoder} {answers : List Pulled} (pixels : List Bool)
+      → IsPixel contexts pixels i cx (get_or pixels i false) →
+      (n : Next (source_at Pull from answers) (at_place p learned) cx.number (decoder_state to decoder learned') (Ok found)) → IsPlace p → Gives Pull first (answers ++ n.more) to
+      → first.rest.now ≡ code_for before contexts pixels → LeadsOn before contexts pixels i p learned
       → (found ≡ get_or pixels i false) × LeadsOn before contexts pixels (i + 1) (step (at_place p learned) cx.number found).place learned'
-  decoded_on before contexts i p learned learned' cx found first from to decoder answers within is_cx n place gives pixels long held leads =
-      (same, leads_on before contexts pixels i p learned cx found within in_pixels is_cx same learned' n.taught leads) where
+  decoded_on before {contexts} {i} {p} {learned} {learned'} {cx} {found} first {to = to} {answers = answers} pixels at n place gives held leads =
+      (same, leads_on before p learned learned' here n.taught leads) where
         last : State
         last = end_of before contexts pixels
 
@@ -131,9 +142,6 @@ module _ (start_is_place : IsPlace start) (keep : EventsKeepPlace) (one_code : O
         is_code : IsCode last.place code
         is_code = (one_code last.place (end_is_place start_is_place keep before contexts pixels)).is
 
-        in_pixels : i < length pixels
-        in_pixels = omega arith
-
         pixel : Bool
         pixel = get_or pixels i false
 
@@ -141,7 +149,7 @@ module _ (start_is_place : IsPlace start) (keep : EventsKeepPlace) (one_code : O
         later = events (drop (i + 1) contexts) (drop (i + 1) pixels)
 
         rest : after (step (at_place p learned) cx.number pixel) later ≡ last
-        rest = rw (one_left before contexts pixels i p learned cx pixel within in_pixels is_cx refl) at leads
+        rest = rw (one_left at) at leads
 
         lies : Lies code (step (at_place p learned) cx.number pixel).place
         lies = (inverse (at_place p learned) (record { context = cx.number; pixel = pixel } ∷ []) later code place (subst (λ (s : State). IsCode s.place code) (sym rest) is_code)).0
@@ -151,3 +159,6 @@ module _ (start_is_place : IsPlace start) (keep : EventsKeepPlace) (one_code : O
 
         same : found ≡ pixel
         same = only_pixel code (at_place p learned) cx.number pixel found lies (n.inside code agrees).1
+
+        here : IsPixel contexts pixels i cx found
+        here = record { in_contexts = at.in_contexts; in_pixels = at.in_pixels; is_cx = at.is_cx; is_pixel = same }

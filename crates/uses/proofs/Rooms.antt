@@ -1,5 +1,5 @@
 -- A write to room that is not filled.
-use Rattle.std.proofs.Common.{◌≡◌, ◌≤◌, ◌<◌, ◌+◌, ℕ, List, length, take, refl, ap, ◌∙◌, subst, arith, length-append, length-take-le, Some, Result, Ok, Err}
+use Rattle.std.proofs.Common.{◌≡◌, ◌<◌, ◌+◌, ℕ, length, take, refl, ap, ◌∙◌, subst, arith, length-append, length-take-le, Some, Result, Ok, Err}
 use Rattle.std.specs.Prelude.{IfErr, OnOk, is_ok, true}
 use Rattle.t85_core.specs.declared.fault.Fault.{Fault}
 use Rattle.t85_core.specs.declared.fault.Fault.TheVariants.{Write}

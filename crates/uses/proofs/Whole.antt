@@ -1,15 +1,13 @@
 -- A stream that denotes a raster is never rejected.
-use Rattle.std.proofs.Common.{◌≡◌, ◌≢◌, ◌≤◌, ◌+◌, inl, inr, ℕ, Bool, true, false, List, [], ◌++◌, length, drop, take, nat_lt, Option, Some, None, Result, Ok, Err, refl, sym, ap, ◌∙◌, subst, append-nil, arith, true≢false, ◌^◌}
+use Rattle.std.proofs.Common.{◌≡◌, ◌≤◌, ◌+◌, inl, inr, ℕ, Bool, true, false, List, [], ◌++◌, length, drop, nat_lt, Option, Some, None, Result, Ok, Err, refl}
+use Rattle.std.proofs.Common.{sym, ap, ◌∙◌, append-nil, arith, true≢false, ◌^◌}
 use Rattle.std.specs.Prelude.{IfErr}
 use Rattle.std.proofs.lemmas.Bool.Decides.{nat_tests}
 use Rattle.t85_core.specs.Change.{between}
-use Rattle.pbm_core.specs.declared.fault.PbmFault.{PbmFault}
 use Rattle.t85_core.specs.declared.fault.Fault.{Fault}
 use Rattle.t85_core.specs.declared.fault.Fault.TheVariants.{ShortHeader, Read, Write, OutOfMemory, AnnouncedLow, TooManyRows, Pbm}
 use Rattle.t85_core.specs.Decode.{FindHeight}
 use Rattle.t85_core.specs.Denotes.{Denotes}
-use Rattle.t85_core.specs.ToJbg.{WritesStream}
-use Rattle.t85_core.specs.Jbg.{Settings}
 use Rattle.t85_core.specs.Header.{Fields, HeaderOf, header_fault}
 use Rattle.t85_core.specs.Height.{IsHeight, StreamFault}
 use Rattle.t85_core.specs.Laws.{HeaderLaws}
@@ -30,10 +28,6 @@ some_same f g e = cc
 unread : (f : Fault) → 0 ≡ reads_after f 0 → counted_as ShortHeader f ≡ f
 unread Read counts = absurd (omega (arith, counts))
 unread f counts = refl
-
--- what was written into an empty room
-pub from_empty : {s : Settings} {bytes first stream : List ℕ} {len : ℕ} (room : List ℕ) → len ≡ 0 → first ≡ stream → WritesStream s bytes (Some (take len room)) (Some stream) → WritesStream s bytes (Some []) (Some first)
-from_empty {s} {bytes} {stream = stream} room empty same written = rw same (subst (λ n. WritesStream s bytes (Some (take n room)) (Some stream)) empty written)
 
 -- a stream that denotes a raster has no fault
 pub no_fault : LineOrFault → (bytes : List ℕ) (raster : Raster) → Denotes bytes raster → (f : Fault) → StreamFault bytes f → ⊥
@@ -93,7 +87,8 @@ module _ (law : LineOrFault) (headers : HeaderLaws) {bytes : List ℕ} {raster :
         ReadsAgain h height limit (between (Some bytes) left' 0 0) out answer → IfErr answer IsOfImage
     again_told {h} {body} {left' = left'} takes finds again = elim again [
       | inl refused ↦ absurd (header_stands refused.fault refused.header)
-      | inr (inl changed) ↦ absurd (changed.differs (headers.one bytes changed.other h (splits headers bytes changed.other left' changed.taken).header_of (splits headers bytes h body takes).header_of))
+      | inr (inl changed) ↦ absurd (changed.differs
+          (headers.one bytes changed.other h (splits headers bytes changed.other left' changed.taken).header_of (splits headers bytes h body takes).header_of))
       | inr (inr converts) ↦ at_body converts.taken (rw (splits headers bytes h body takes).body_is at finds.found) finds.to converts.converts
     ]
 

@@ -11,9 +11,8 @@ loop-cx-preserved c =
     let contexts = c.args.contexts.now in
     let next = c.in-Ok.ensures.next a.0 a.2 a.3 in
     let gives = c.pulls_join.ensures (record { rest = c.args.code }) c.loop-cx.source c.next.new.source a.2 next.more a.4 next.gives in
-    let on = decoded_on c.places.ensures.start_is_place c.places.ensures.events_keep_place c.codes.ensures.one_code c.inverse.ensures c.one_pixel.ensures.only_pixel
-    c.args.learned.now contexts i a.0 c.loop-cx.learned c.next.new.learned c.cx-item.result c.in-Ok.pixel (record { rest = c.args.code }) c.loop-cx.source c.next.new.source c.next.new.self a.2
-    (omega arith) c.cx-item.is next a.1 gives in
+    let on = decoded_on c.places.ensures.start_is_place c.places.ensures.events_keep_place c.codes.ensures.one_code
+    c.inverse.ensures c.one_pixel.ensures.only_pixel c.args.learned.now (record { rest = c.args.code }) in
     record {
       going = search rules;
       along = (
@@ -24,9 +23,9 @@ loop-cx-preserved c =
         gives,
         λ pixels long held.
             (let so_far = a.5 pixels long held in
-            let more = on pixels long held so_far.1 in
-            let grown : c.push.new.self.items ≡ c.loop-cx.pixels.items ++ c.in-Ok.pixel ∷ [] = search rules in
             let within : i < length pixels = omega arith in
+            let more = on pixels (record { in_contexts = omega arith; in_pixels = within; is_cx = c.cx-item.is; is_pixel = refl }) next a.1 gives held so_far.1 in
+            let grown : c.push.new.self.items ≡ c.loop-cx.pixels.items ++ c.in-Ok.pixel ∷ [] = search rules in
             (grown ∙ rw (so_far.0, more.0, add-one, take-suc pixels i false) refl, more.1)),
       );
     }

@@ -1,4 +1,4 @@
-use Rattle.std.proofs.Common.{rules, ◌≡◌, ◌<◌, ◌≤◌, length, get_or, arith, refl, ap, ◌∙◌, subst, sym}
+use Rattle.std.proofs.Common.{rules, ◌≡◌, ◌<◌, ◌≤◌, length, arith, refl, ap, ◌∙◌, subst, sym}
 use Rattle.std.specs.Prelude.{is_err, false}
 use Rattle.qm_core.specs.Code.{code_of, stuffed}
 use Rattle.qm_core.specs.Place.{State, IsPlace}
@@ -17,8 +17,7 @@ loop-i-preserved c =
       unfailed = search rules;
       events = search rules;
       going = search rules;
-      along = coded_on c.args.learned.now c.args.contexts.now c.args.pixels.now c.loop-i.i a.0 c.loop-i.learned c.put.new.learned c.index-contexts-i.result (get_or c.args.pixels.now c.loop-i.i false)
-          c.loop-i.code c.put.new.out c.put.new.self c.put.result in_contexts in_pixels c.index-contexts-i.is refl went put a.2;
+      along = coded_on c.args.learned.now {cx = c.index-contexts-i.result} (record { in_contexts = in_contexts; in_pixels = in_pixels; is_cx = c.index-contexts-i.is; is_pixel = refl }) went put a.2;
     }
 
 pub returns-clause-code : goal.returns-clause-code

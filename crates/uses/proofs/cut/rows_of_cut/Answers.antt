@@ -11,8 +11,10 @@ use Rattle.uses.proofs.Whole.{LineOrFault}
 use Rattle.uses.proofs.cut.rows_of_cut.Goals as goal
 
 -- where the bytes are known
-known : CodeDenotes → LineOrFault → HeaderLaws → (bytes : Option (List ℕ)) {limit reads reads' : ℕ} {left : Option (List ℕ)} {untouched : Type 0} {again : Change} {out : Delivery} {answer : Result (Unit {0}) Fault} → 2 ^ 32 ≤ limit + 1
-    → ToPbm limit (between bytes left reads reads') (second_reading false untouched again) out answer → IfSome bytes (λ bytes. (raster : Raster) → Begins raster bytes → WritesFirst raster bytes out.change.old.bytes out.change.new.bytes answer)
+known : CodeDenotes → LineOrFault → HeaderLaws →
+    (bytes : Option (List ℕ)) {limit reads reads' : ℕ} {left : Option (List ℕ)} {untouched : Type 0} {again : Change} {out : Delivery} {answer : Result (Unit {0}) Fault} → 2 ^ 32 ≤ limit + 1
+    → ToPbm limit (between bytes left reads reads') (second_reading false untouched again) out answer →
+    IfSome bytes (λ bytes. (raster : Raster) → Begins raster bytes → WritesFirst raster bytes out.change.old.bytes out.change.new.bytes answer)
 known law line_law headers None large c = tt
 known law line_law headers (Some bytes) large c = λ raster cut. written law line_law headers raster bytes cut large c
 

@@ -1,4 +1,4 @@
-use Rattle.std.proofs.Common.{rules, ◌≡◌, ◌≤◌, ◌+◌, ◌^◌, Bool, true, arith, ◌⊎◌, inr, ℕ, List, [], ◌++◌, length, append-nil, take, Option, Some, None, Result, Ok, Err, refl, sym, ap, ◌∙◌, subst}
+use Rattle.std.proofs.Common.{rules, ◌≡◌, ◌≤◌, ◌+◌, ◌^◌, true, arith, ◌⊎◌, inr, ℕ, List, [], ◌++◌, length, append-nil, Option, Some, None, Result, Ok, Err, refl, sym, ap, ◌∙◌, subst}
 use Rattle.std.specs.Prelude.{OnOk, IfErr, IfSome}
 use Rattle.std.specs.Io.KnownBytes.{Appends}
 use Rattle.t85_core.specs.Change.{between}
@@ -13,7 +13,7 @@ use Rattle.t85_core.specs.Options.{settings_of}
 use Rattle.t85_core.specs.ToPbm.{IsFixed, WritesDenoted, Delivery, ToPbm, again_failures, second_reading}
 use Rattle.uses.specs.Image.{IsRawForm, WritesRawForm, IsOfImage}
 use Rattle.uses.specs.declared.held.Held.{Held}
-use Rattle.uses.proofs.Whole.{LineOrFault, from_empty, told}
+use Rattle.uses.proofs.Whole.{LineOrFault, told}
 use Rattle.uses.proofs.image.round_trip.Goals as goal
 
 module _ (s : Settings) (first : List ℕ) (old new : Option (List ℕ)) where
@@ -37,21 +37,20 @@ module _ (s : Settings) (first : List ℕ) (old new : Option (List ℕ)) where
         let both = one_image bytes raster.width raster.rows [] read.raster.width read.raster.rows read.rest (subst (λ l. IsPbm l raster.width raster.rows []) (sym text) image) read.is in
         subst (λ l. Appends old new l) (sym (raw.2 ∙ ap (λ w. pbm w raster.rows) both.widths ∙ ap (λ rows. pbm read.raster.width rows) both.all_rows)) appends
 
-  came_back : OneImage → WrittenImageIsRead → (known : Option (List ℕ)) {stream second : List ℕ} {len : ℕ} (room : List ℕ) (answer : Result (Unit {0}) Fault) → len ≡ 0 → first ≡ stream → second ≡ stream
-      → IfSome known (λ bytes. WritesStream s bytes (Some (take len room)) (Some stream)) → OnOk answer (IsFixed first ⊎ (Some second ≡ Some first) → WritesDenoted first old new)
-      → OnOk answer (IfSome known (λ bytes. WritesRawForm bytes old new))
-  came_back one_image is_read known room (Err fault) empty once twice read written = tt
-  came_back one_image is_read None room (Ok u) empty once twice read written = tt
-  came_back one_image is_read (Some bytes) room (Ok u) empty once twice read written = same_raster one_image is_read bytes (from_empty room empty once read) (written (inr (ap Some (twice ∙ sym once))))
+  came_back : OneImage → WrittenImageIsRead → (known : Option (List ℕ)) {second : List ℕ} (answer : Result (Unit {0}) Fault) → second ≡ first →
+      IfSome known (λ bytes. WritesStream s bytes (Some []) (Some first))
+      → OnOk answer (IsFixed first ⊎ (Some second ≡ Some first) → WritesDenoted first old new) → OnOk answer (IfSome known (λ bytes. WritesRawForm bytes old new))
+  came_back one_image is_read known (Err fault) same read written = tt
+  came_back one_image is_read None (Ok u) same read written = tt
+  came_back one_image is_read (Some bytes) (Ok u) same read written = same_raster one_image is_read bytes read (written (inr (ap Some same)))
 
-known_told : LineOrFault → HeaderLaws → (s : Settings) (known : Option (List ℕ)) {first stream : List ℕ} {len limit : ℕ} {left left' : Option (List ℕ)} {untouched : Type 0} {out : Delivery} (room : List ℕ) (answer : Result (Unit {0}) Fault)
-    → len ≡ 0 → first ≡ stream → 2 ^ 32 ≤ limit + 1 → IfSome known (λ bytes. WritesStream s bytes (Some (take len room)) (Some stream))
+known_told : LineOrFault → HeaderLaws → (s : Settings) (known : Option (List ℕ)) {first : List ℕ} {limit : ℕ} {left left' : Option (List ℕ)} {untouched : Type 0} {out : Delivery}
+    (answer : Result (Unit {0}) Fault)
+    → 2 ^ 32 ≤ limit + 1 → IfSome known (λ bytes. WritesStream s bytes (Some []) (Some first))
     → ToPbm limit (between (Some first) left 0 0) (second_reading true untouched (between (Some first) left' 0 0)) out answer → IfErr answer (λ fault. IfSome known (λ bytes. IsOfImage fault))
-known_told law headers s None room (Ok u) empty once large read converts = tt
-known_told law headers s None room (Err f) empty once large read converts = tt
-known_told law headers s (Some bytes) {first} room answer empty once large read converts =
-    let written : WritesStream s bytes (Some []) (Some first) = from_empty room empty once read in
-    told law headers (subst (λ text. Denotes text written.raster) (sym written.appends) written.denotes) large converts
+known_told law headers s None (Ok u) large read converts = tt
+known_told law headers s None (Err f) large read converts = tt
+known_told law headers s (Some bytes) {first} answer large read converts = told law headers {bytes = first} {raster = read.raster} (rw read.appends read.denotes) large converts
 
 never_failed : (again : Option Held) → again_failures (λ (held : Held). 0) again ≡ 0
 never_failed None = refl
@@ -62,12 +61,13 @@ returns-in_err-to_jbg-clause-told g c = let leaves = c.in_err-to_jbg.ensures.out
 
 pub returns-clause-again : goal.returns-clause-again
 returns-clause-again g c =
-    came_back (settings_of c.args.options.now) c.written.result.now (g.W.Output.view c.args.output.now).contents (g.W.Output.view c.to_pbm.new.output).contents c.images.ensures.one_image c.images.ensures.written_image_is_read
-    (g.R.Input.view c.args.input.now).remaining c.new-stream.result.bytes.now c.to_pbm.result c.new-stream.ensures.room.0 c.written.ensures c.written-2.ensures
-    c.in_ok-to_jbg.ensures.outcome.leaves.whole c.to_pbm.ensures.outcome.denoted
+    let read = rw (c.new-stream.ensures.room.0, ← c.written.ensures) at c.in_ok-to_jbg.ensures.outcome.leaves.whole in
+    came_back (settings_of c.args.options.now) c.written.result.now (g.W.Output.view c.args.output.now).contents
+    (g.W.Output.view c.to_pbm.new.output).contents c.images.ensures.one_image c.images.ensures.written_image_is_read
+    (g.R.Input.view c.args.input.now).remaining c.to_pbm.result (c.written-2.ensures ∙ sym c.written.ensures) read c.to_pbm.ensures.outcome.denoted
 
 pub returns-clause-told : goal.returns-clause-told
 returns-clause-told g c =
-    let same = c.written-2.ensures ∙ sym c.written.ensures in
-    known_told c.lines.ensures.line_or_fault c.headers.ensures (settings_of c.args.options.now) (g.R.Input.view c.args.input.now).remaining c.new-stream.result.bytes.now c.to_pbm.result
-    c.new-stream.ensures.room.0 c.written.ensures (omega arith) c.in_ok-to_jbg.ensures.outcome.leaves.whole (rw (same, never_failed c.to_pbm.new.again) at c.to_pbm.ensures.outcome)
+    let read = rw (c.new-stream.ensures.room.0, ← c.written.ensures) at c.in_ok-to_jbg.ensures.outcome.leaves.whole in
+    known_told c.lines.ensures.line_or_fault c.headers.ensures (settings_of c.args.options.now) (g.R.Input.view c.args.input.now).remaining c.to_pbm.result (omega arith) read
+    (rw (c.written-2.ensures ∙ sym c.written.ensures, never_failed c.to_pbm.new.again) at c.to_pbm.ensures.outcome)

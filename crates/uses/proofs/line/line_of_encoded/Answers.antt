@@ -1,4 +1,4 @@
-use Rattle.std.proofs.Common.{◌≡◌, ◌≢◌, ◌<◌, ◌≤◌, ◌^◌, ℕ, zero, suc, List, [], length, take, Option, Some, None, Result, Ok, Err, sym, ap, subst, arith}
+use Rattle.std.proofs.Common.{◌≡◌, ◌≢◌, ◌<◌, ◌≤◌, ◌^◌, ℕ, zero, suc, List, [], length, Option, Some, None, Result, Ok, Err, ap, arith}
 use Rattle.std.specs.Prelude.{OnOk, IfErr, IfSome, option_map, unwrap_or, ◌==◌}
 use Rattle.std.specs.Borrow.{Bor}
 use Rattle.std.specs.Option.{option_map_or}
@@ -8,7 +8,6 @@ use Rattle.qm_core.specs.Place.{IsPlace, start}
 use Rattle.t85_core.specs.declared.fault.Fault.{Fault}
 use Rattle.t85_core.specs.declared.fault.Fault.TheVariants.{Read, Write}
 use Rattle.t85_core.specs.declared.options.Options.{Options}
-use Rattle.t85_core.specs.Denotes.{Denotes}
 use Rattle.t85_core.specs.ToJbg.{WritesStream}
 use Rattle.t85_core.specs.Height.{StreamFault}
 use Rattle.t85_core.specs.Info.{HasLine, line_text}
@@ -18,7 +17,7 @@ use Rattle.t85_core.specs.Failures.{CountsRead}
 use Rattle.uses.specs.Image.{IsOfImage}
 use Rattle.uses.specs.Line.{line_numbers, WritesLine}
 use Rattle.uses.proofs.EncodedParts.{has_line}
-use Rattle.uses.proofs.Whole.{LineOrFault, from_empty, no_fault}
+use Rattle.uses.proofs.Whole.{LineOrFault, no_fault}
 use Rattle.uses.proofs.line.line_of_encoded.Goals as goal
 
 -- options are accepted
@@ -58,31 +57,28 @@ module _ (one_line : OneLine) (start_is_place : IsPlace start) (keep : EventsKee
     same : told.0 ≡ line_text (line_numbers s w.raster)
     same = one_line first told.0 (line_text (line_numbers s w.raster)) told.1 line
 
-  known_line : (known old new : Option (List ℕ)) {first stream : List ℕ} {len : ℕ} (room : List ℕ) (answer : Result (Unit {0}) Fault) → len ≡ 0 → first ≡ stream
-      → IfSome known (λ bytes. WritesStream s bytes (Some (take len room)) (Some stream)) → OnOk answer ((text : List ℕ) × HasLine first text × Appends old new text) → OnOk answer (IfSome known (λ bytes. WritesLine s bytes old new))
-  known_line known old new room (Err fault) empty same written told = tt
-  known_line None old new room (Ok u) empty same written told = tt
-  known_line (Some bytes) old new room (Ok u) empty same written told = the_line (from_empty room empty same written) told
+  known_line : (known old new : Option (List ℕ)) (first : List ℕ) (answer : Result (Unit {0}) Fault) → IfSome known (λ bytes. WritesStream s bytes (Some []) (Some first))
+      → OnOk answer ((text : List ℕ) × HasLine first text × Appends old new text) → OnOk answer (IfSome known (λ bytes. WritesLine s bytes old new))
+  known_line known old new first (Err fault) written told = tt
+  known_line None old new first (Ok u) written told = tt
+  known_line (Some bytes) old new first (Ok u) written told = the_line written told
 
-known_told : LineOrFault → (s : Settings) (known : Option (List ℕ)) {first stream : List ℕ} {len : ℕ} (room : List ℕ) (answer : Result (Unit {0}) Fault) → len ≡ 0 → first ≡ stream
-    → IfSome known (λ bytes. WritesStream s bytes (Some (take len room)) (Some stream)) → IfErr answer (λ f. f ≢ Read → f ≢ Write → StreamFault first f) → CountsRead 0 0 answer
-    → IfErr answer (λ fault. IfSome known (λ _. IsOfImage fault))
-known_told law s None room (Ok u) empty same written refused counts = tt
-known_told law s None room (Err f) empty same written refused counts = tt
-known_told law s (Some bytes) room (Ok u) empty same written refused counts = tt
-known_told law s (Some bytes) room (Err Write) empty same written refused counts = tt
-known_told law s (Some bytes) room (Err Read) empty same written refused counts = absurd (omega (arith, counts))
-known_told law s (Some bytes) {first} room (Err f) empty same written refused counts =
-    let w : WritesStream s bytes (Some []) (Some first) = from_empty room empty same written in
-    absurd (no_fault law first w.raster (subst (λ l. Denotes l w.raster) (sym w.appends) w.denotes) f (refused (λ e. cc) (λ e. cc)))
+known_told : LineOrFault → (s : Settings) (known : Option (List ℕ)) (first : List ℕ) (answer : Result (Unit {0}) Fault) → IfSome known (λ bytes. WritesStream s bytes (Some []) (Some first))
+    → IfErr answer (λ f. f ≢ Read → f ≢ Write → StreamFault first f) → CountsRead 0 0 answer → IfErr answer (λ fault. IfSome known (λ _. IsOfImage fault))
+known_told law s None first (Ok u) written refused counts = tt
+known_told law s None first (Err f) written refused counts = tt
+known_told law s (Some bytes) first (Ok u) written refused counts = tt
+known_told law s (Some bytes) first (Err Write) written refused counts = tt
+known_told law s (Some bytes) first (Err Read) written refused counts = absurd (omega (arith, counts))
+known_told law s (Some bytes) first (Err f) w refused counts = absurd (no_fault law first w.raster (rw w.appends w.denotes) f (refused (λ e. cc) (λ e. cc)))
 
 pub returns-clause-line : goal.returns-clause-line
 returns-clause-line g c =
     known_line c.lines.ensures.one_line c.places.ensures.start_is_place c.places.ensures.events_keep_place c.codes.ensures.one_code (settings_of c.args.options.now) (are_settings c.args.options.now)
-    (g.R.Input.view c.args.input.now).remaining (g.W.Output.view c.args.output.now).contents (g.W.Output.view c.info.new.output).contents c.new-stream.result.bytes.now c.info.result
-    c.new-stream.ensures.room.0 c.written.ensures c.in_ok-to_jbg.ensures.outcome.leaves.whole c.info.ensures.outcome.line
+    (g.R.Input.view c.args.input.now).remaining (g.W.Output.view c.args.output.now).contents (g.W.Output.view c.info.new.output).contents c.written.result.now c.info.result
+    (rw (c.new-stream.ensures.room.0, ← c.written.ensures) at c.in_ok-to_jbg.ensures.outcome.leaves.whole) c.info.ensures.outcome.line
 
 pub returns-clause-told : goal.returns-clause-told
 returns-clause-told g c =
-    known_told c.lines.ensures.line_or_fault (settings_of c.args.options.now) (g.R.Input.view c.args.input.now).remaining c.new-stream.result.bytes.now c.info.result
-    c.new-stream.ensures.room.0 c.written.ensures c.in_ok-to_jbg.ensures.outcome.leaves.whole c.info.ensures.outcome.refused c.info.ensures.outcome.reads
+    known_told c.lines.ensures.line_or_fault (settings_of c.args.options.now) (g.R.Input.view c.args.input.now).remaining c.written.result.now c.info.result
+    (rw (c.new-stream.ensures.room.0, ← c.written.ensures) at c.in_ok-to_jbg.ensures.outcome.leaves.whole) c.info.ensures.outcome.refused c.info.ensures.outcome.reads

@@ -19,5 +19,6 @@ returns c =
       appended = t.appended;
       full = t.full;
       ends = t.ends;
-      says = subst (λ h. SaysOfRows h true (decoder_over c.rows_of_two.new.decoder c.rows_of_two.new.window c.rows_of_two.new.learned) answer body (flat_map row_given t.calls)) (ap fields_of c.start-decoder.ensures.stream) (t.tells [] [] c.start-decoder.ensures.none);
+      says = subst (λ h. SaysOfRows h true (decoder_over c.rows_of_two.new.decoder c.rows_of_two.new.window c.rows_of_two.new.learned) answer body (flat_map row_given t.calls))
+          (ap fields_of c.start-decoder.ensures.stream) (t.tells [] [] c.start-decoder.ensures.none);
     }) c.rows_of_two.ensures.read

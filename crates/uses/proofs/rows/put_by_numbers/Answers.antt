@@ -14,7 +14,8 @@ returns-in-Ok-clause-put g c =
       c.put_row.new.self,
       c.numbers-in-Ok.ensures,
       λ image rows origin so.
-          subst (λ z. Stands image (rows ++ pixels_of z.width c.args.row.now ∷ []) (view_of c.put_row.new.self c.put_row.new.learning) (held c.put_row.new.window) origin (g.W.Output.view c.put_row.new.output).contents) c.in_ok-again.ensures.size
+          subst (λ z. Stands image (rows ++ pixels_of z.width c.args.row.now ∷ []) (view_of c.put_row.new.self c.put_row.new.learning) (held c.put_row.new.window) origin
+          (g.W.Output.view c.put_row.new.output).contents) c.in_ok-again.ensures.size
           (c.in-Ok.ensures.ok image rows origin
           (subst (λ v. Stands image rows v (held c.args.window.now) origin (g.W.Output.view c.args.output.now).contents) (sym same) so)),
     )

@@ -24,7 +24,10 @@ returns-clause-whole g c =
     let first_wide = ap (λ z. z.width) c.in_ok-encoder.ensures.begins.3 in
     let second_wide = ap (λ z. z.width) (c.in_ok-put_row.ensures.goes_on.3 ∙ c.in_ok-encoder.ensures.begins.3) in
     let one = c.in_ok-put_row.ensures.ok (image_of s c.args.size.width c.args.size.height) [] (here (g.W.Output.view c.args.output.now).contents) c.in_ok-encoder.ensures.begun in
-    let two = c.in_ok-put_row-2.ensures.ok (image_of s c.args.size.width c.args.size.height) (pixels_of c.in_ok-encoder.encoder.size.width c.args.first.now ∷ []) (here (g.W.Output.view c.args.output.now).contents) one in
-    subst (λ w. Appends (g.W.Output.view c.args.output.now).contents (g.W.Output.view c.finish.new.output).contents (jbg s (raster_of c.args.size.width (pixels_of w c.args.first.now ∷ pixels_of c.args.size.width c.args.second.now ∷ [])))) first_wide
-    (subst (λ w. Appends (g.W.Output.view c.args.output.now).contents (g.W.Output.view c.finish.new.output).contents (jbg s (raster_of c.args.size.width (pixels_of c.in_ok-encoder.encoder.size.width c.args.first.now ∷ pixels_of w c.args.second.now ∷ [])))) second_wide
+    let two = c.in_ok-put_row-2.ensures.ok (image_of s c.args.size.width c.args.size.height) (pixels_of c.in_ok-encoder.encoder.size.width c.args.first.now ∷ [])
+    (here (g.W.Output.view c.args.output.now).contents) one in
+    subst (λ w. Appends (g.W.Output.view c.args.output.now).contents (g.W.Output.view c.finish.new.output).contents
+    (jbg s (raster_of c.args.size.width (pixels_of w c.args.first.now ∷ pixels_of c.args.size.width c.args.second.now ∷ [])))) first_wide
+    (subst (λ w. Appends (g.W.Output.view c.args.output.now).contents (g.W.Output.view c.finish.new.output).contents
+    (jbg s (raster_of c.args.size.width (pixels_of c.in_ok-encoder.encoder.size.width c.args.first.now ∷ pixels_of w c.args.second.now ∷ [])))) second_wide
     (here_sent _ _ _ (all (image_of s c.args.size.width c.args.size.height) _ (here (g.W.Output.view c.args.output.now).contents) two)))) c.finish.ensures.ok
