@@ -8,7 +8,7 @@ use std::process::ExitCode;
 
 /// Opens the files, and does the job.
 fn perform(rt: &HostRuntime, job: &Job) -> ExitCode {
-    let _places = Places::take(rt);
+    let _places = Places::open(rt);
     let mut files = match open(rt, job) {
         Ok(files) => files,
         Err(code) => return code,

@@ -44,7 +44,11 @@ pub decimal_reads : (text : Text) → ReadsOne (λ u (r : Result ℕ (Unit {0}))
 decimal_reads text = go (fits (without_leading_plus text)) refl
   where
     go : (b : Bool) → fits (without_leading_plus text) ≡ b → ReadsOne (λ u (r : Result ℕ (Unit {0})). ParsesUnsigned 32 10 u r) text (decimal text)
-    go false t = rw t (tt, λ h. let no = digits_pass (without_leading_plus text) h.0.1 in let bad : fits (without_leading_plus text) ≡ true = rw (lt-ltb 0 (length (without_leading_plus text)) h.0.0, no, lt-ltb (digits_value 10 (without_leading_plus text)) (2 ^ 32) h.1) refl in absurd (true≢false (sym bad ∙ t)))
+    go false t = rw t (
+      tt,
+      λ h. let no = digits_pass (without_leading_plus text) h.0.1 in let bad : fits (without_leading_plus text) ≡ true = rw
+          (lt-ltb 0 (length (without_leading_plus text)) h.0.0, no, lt-ltb (digits_value 10 (without_leading_plus text)) (2 ^ 32) h.1) refl in absurd (true≢false (sym bad ∙ t)),
+    )
     go true t =
         let outer = both _ _ t in
         let inner = both _ _ outer.0 in

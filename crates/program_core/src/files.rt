@@ -134,8 +134,8 @@ pub struct Places {
 
 impl Places {
     /// Opens files in the free places.
-    pub fn take(rt: &HostRuntime) -> Places {
-        let first = take_place(rt);
+    pub fn open(rt: &HostRuntime) -> Places {
+        let first = open_place(rt);
         if first.is_none() {
             return Places {
                 first,
@@ -145,14 +145,14 @@ impl Places {
         }
         Places {
             first,
-            second: take_place(rt),
-            third: take_place(rt),
+            second: open_place(rt),
+            third: open_place(rt),
         }
     }
 }
 
 /// A file at the lowest free descriptor, if that is a standard stream's. Reading it returns nothing, and writing fails.
-fn take_place(rt: &HostRuntime) -> Option<File> {
+fn open_place(rt: &HostRuntime) -> Option<File> {
     let file = match fs::open(rt, "/dev/null") {
         Ok(file) => file,
         Err(_) => fs::open(rt, "/").ok()?,

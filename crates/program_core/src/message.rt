@@ -25,14 +25,14 @@ pub(crate) fn report<M: Output>(program: &str, outcome: Result<(), Fault>, messa
     match outcome {
         Ok(()) => 0,
         Err(fault) => {
-            tell(program, fault, messages);
+            write_line(program, fault, messages);
             1
         }
     }
 }
 
 /// Writes a program's line about an error, in one write if the output accepts it.
-fn tell<M: Output>(program: &str, fault: Fault, messages: &mut M)
+fn write_line<M: Output>(program: &str, fault: Fault, messages: &mut M)
     ensures { length program.now ≤ 24 →
         TellsFault program.now (M.view messages.old) (M.view messages.new) }
 {

@@ -187,12 +187,12 @@ impl Decoder {
         match self.heard {
             Heard::More => match source.pull() {
                 Pulled::Byte(byte) => {
-                    self.take(byte);
+                    self.append(byte);
                     Ok(())
                 }
                 Pulled::End => {
                     self.heard = Heard::Ended;
-                    self.take(0);
+                    self.append(0);
                     Ok(())
                 }
                 Pulled::Fault => {
@@ -201,7 +201,7 @@ impl Decoder {
                 }
             },
             Heard::Ended => {
-                self.take(0);
+                self.append(0);
                 Ok(())
             }
             Heard::Stopped => Err(Stop),
@@ -209,7 +209,7 @@ impl Decoder {
     }
 
     /// Appends a byte to the bits available.
-    fn take(&mut self, byte: u8)
+    fn append(&mut self, byte: u8)
         requires few { self.old.bits < 16 }
         requires going { self.old.heard ≢ Stopped }
         ensures heard { self.new.heard ≡ self.old.heard }

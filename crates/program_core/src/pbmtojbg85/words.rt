@@ -85,7 +85,7 @@ pub(super) fn comment_bytes(comment: &Option<String>) -> Option<&[u8]>
 }
 
 /// The number for an option with a default.
-fn given(matches: &ArgMatches<'_>, id: &str) -> u32
+fn number_or_default(matches: &ArgMatches<'_>, id: &str) -> u32
     requires { is_some (number_in id.now (rows_of (found_of matches.now))) ≡ true }
     ensures { number_in id.now (rows_of (found_of matches.now)) ≡ Some result }
 {
@@ -98,9 +98,9 @@ fn job_of(alloc: Global, matches: &ArgMatches<'_>) -> Result<Job, LineFault>
     ensures values { IfOk result (IsEncodeJobOf (rows_of (found_of matches.now))) }
     ensures fault { IfErr result (IsOptionFault (rows_of (found_of matches.now))) }
 {
-    let p = given(matches, "options");
-    let s = given(matches, "stripe");
-    let m = given(matches, "move");
+    let p = number_or_default(matches, "options");
+    let s = number_or_default(matches, "stripe");
+    let m = number_or_default(matches, "move");
     let announced = number(matches, "announced");
     let reset = flag(matches, "reset");
     let comment = text(alloc, matches, "comment")?;

@@ -1,6 +1,6 @@
 use Rattle.std.proofs.Common.{◌≡◌, ◌∙◌}
 use Rattle.program_core.specs.Message.{fault_line}
-use Rattle.program_core.proofs.message.tell.Goals as goal
+use Rattle.program_core.proofs.message.write_line.Goals as goal
 
 pub returns : goal.returns
 returns g c short =
