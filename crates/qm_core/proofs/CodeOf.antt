@@ -6,6 +6,7 @@ use Rattle.std.proofs.lemmas.Nat.{pow_pos, pow-add}
 use Rattle.std.proofs.Math.Nat.{div-add-mod, pow-suc, pow-le-pow_right, lt_of_mul-lt-mul_right, le_of_mul-le-mul_right, mul-le-mul_right, mul_assoc}
 use Rattle.qm_core.specs.Place.{Place, IsPlace}
 use Rattle.qm_core.specs.Code.{IsBytes, IsTrimmed, IsChosen, IsCode, number, wanted_bytes, multiple_from, chosen_within, chosen, fraction_bytes, code_of}
+use Rattle.qm_core.proofs.Aligned.{power_at, split}
 use Rattle.qm_core.proofs.Decided.{number-cons}
 use Rattle.qm_core.proofs.Inside.{pow-256}
 
@@ -27,51 +28,45 @@ zero_of u unit v h e =
     let none : u ≡ 0 = omega (arith, small) in
     e ∙ ap (λ z. z * unit) none ∙ (let z : 0 * unit ≡ 0 = omega arith in z)
 
+-- one digit more, with the remainder r
+more_digits : {v unit d r : ℕ} {bs : List ℕ} → v ≢ 0 → v < unit → unit * d + r ≡ v * 256 → Fraction r unit bs → Fraction v unit (d ∷ bs)
+more_digits {v} {unit} {d} {r} {bs} n h split f =
+    let less : d * unit < 256 * unit = omega (arith, split, h) in
+    let a : number (d ∷ bs) * unit ≡ (d * 256 ^ length bs + number bs) * unit = ap (λ z. z * unit) (number-cons d bs) in
+    let b : v * 256 ^ suc (length bs) ≡ v * (256 ^ length bs * 256) = ap (λ z. v * z) (pow-suc 256 (length bs)) in
+    let c : (unit * d + r) * 256 ^ length bs ≡ (v * 256) * 256 ^ length bs = ap (λ z. z * 256 ^ length bs) split in
+    record {
+      bytes = (lt_of_mul-lt-mul_right unit less, f.bytes);
+      trimmed = trimmed_cons d bs f.trimmed (λ nil z. n (omega (arith, split, f.none nil, ap (λ y. unit * y) z)));
+      value = omega (arith, a, b, c, f.value);
+      none = λ nil. absurd (let bot : ⊥ = cc in bot);
+    }
+
+-- what is left of the value is a multiple of the unit, too
+left : (v unit d r K u : ℕ) → 0 < unit → unit * d + r ≡ v * 256 → (v * 256) * K ≡ u * unit → r * K ≡ (u - d * K) * unit
+left v unit d r K u some split e =
+    let parts : (unit * d + r) * K ≡ u * unit = ap (λ z. z * K) split ∙ e in
+    let less : (d * K) * unit ≤ u * unit = omega (arith, parts) in
+    let enough : d * K ≤ u = le_of_mul-le-mul_right less some in
+    let back : u ≡ (u - d * K) + d * K = omega (arith, enough) in
+    let whole : u * unit ≡ ((u - d * K) + d * K) * unit = ap (λ z. z * unit) back in
+    times_left (u - d * K) (parts ∙ whole) where
+      times_left : (z : ℕ) → (unit * d + r) * K ≡ (z + d * K) * unit → r * K ≡ z * unit
+      times_left z e = omega (arith, e)
+
 fraction : (k v unit u : ℕ) → 0 < unit → v < unit → v * 256 ^ k ≡ u * unit → Fraction v unit (fraction_bytes k v unit)
 fraction zero v unit u some h e =
     let e1 : v ≡ u * unit = omega (arith, e) in
     let z : v ≡ 0 = zero_of u unit v h e1 in
     record { bytes = tt; trimmed = tt; value = omega (arith, z); none = λ _. z }
-fraction (suc k) v unit u some h e = went (cases_eq v 0) (λ r z lt g. fraction k r unit z some lt g) where
-  went : (v ≡ 0) ⊎ (v ≢ 0) → ((r z : ℕ) → r < unit → r * 256 ^ k ≡ z * unit → Fraction r unit (fraction_bytes k r unit)) → Fraction v unit (fraction_bytes (suc k) v unit)
-  went (inl z) further =
-      let t : nat_eq v 0 ≡ true = grind (arith, nat_tests) in
-      subst (Fraction v unit) (sym (ap (λ b. cond b [] ((v * 256 / unit) ∷ fraction_bytes k (v * 256 % unit) unit)) t))
-      (record { bytes = tt; trimmed = tt; value = omega (arith, z); none = λ _. z })
+fraction (suc k) v unit u some h e = went (cases_eq v 0) (λ z g. fraction k (v * 256 % unit) unit z some (omega (arith, some)) g) where
+  went : (v ≡ 0) ⊎ (v ≢ 0) → ((z : ℕ) → (v * 256 % unit) * 256 ^ k ≡ z * unit → Fraction (v * 256 % unit) unit (fraction_bytes k (v * 256 % unit) unit)) → Fraction v unit (fraction_bytes (suc k) v unit)
+  went (inl z) further = let t : nat_eq v 0 ≡ true = grind (arith, nat_tests) in rw t (record { bytes = tt; trimmed = tt; value = omega (arith, z); none = λ _. z })
   went (inr n) further =
       let t : nat_eq v 0 ≡ false = grind (arith, nat_tests) in
-      let d : ℕ = v * 256 / unit in
-      let r : ℕ = v * 256 % unit in
-      let split : unit * (v * 256 / unit) + v * 256 % unit ≡ v * 256 = div-add-mod (v * 256) unit in
-      let small : v * 256 % unit < unit = omega (arith, some) in
-      let dl : (v * 256 / unit) * unit < 256 * unit = omega (arith, split, h) in
-      let d_small : v * 256 / unit < 256 = lt_of_mul-lt-mul_right unit dl in
-      let whole : (v * 256) * 256 ^ k ≡ u * unit = let p : 256 ^ suc k ≡ 256 ^ k * 256 = pow-suc 256 k in let q : v * 256 ^ suc k ≡ v * (256 ^ k * 256) = ap (λ z. v * z) p in omega (arith, e, q) in
-      let parts : (unit * (v * 256 / unit) + v * 256 % unit) * 256 ^ k ≡ u * unit = ap (λ z. z * 256 ^ k) split ∙ whole in
-      let le : ((v * 256 / unit) * 256 ^ k) * unit ≤ u * unit = omega (arith, parts) in
-      let le' : (v * 256 / unit) * 256 ^ k ≤ u = le_of_mul-le-mul_right le some in
-      let back : u ≡ (u - (v * 256 / unit) * 256 ^ k) + (v * 256 / unit) * 256 ^ k = omega (arith, le') in
-      let back' : u * unit ≡ ((u - (v * 256 / unit) * 256 ^ k) + (v * 256 / unit) * 256 ^ k) * unit = ap (λ z. z * unit) back in
-      let left : (v * 256 % unit) * 256 ^ k ≡ (u - (v * 256 / unit) * 256 ^ k) * unit = times_left unit (v * 256 / unit) (v * 256 % unit) (256 ^ k) (u - (v * 256 / unit) * 256 ^ k) (parts ∙ back') in
-      let f = further (v * 256 % unit) (u - (v * 256 / unit) * 256 ^ k) small left in
-      subst (Fraction v unit) (sym (ap (λ b. cond b [] ((v * 256 / unit) ∷ fraction_bytes k (v * 256 % unit) unit)) t))
-      (record {
-        bytes = (d_small, f.bytes);
-        trimmed = trimmed_cons (v * 256 / unit) (fraction_bytes k (v * 256 % unit) unit) f.trimmed (λ nil z. let r0 : v * 256 % unit ≡ 0 = f.none nil in let s : unit *
-            (v * 256 / unit) ≡ 0 = ap (λ y. unit * y) z ∙ (let y : unit * 0 ≡ 0 = omega arith in y) in n (omega (arith, split, r0, s)));
-        value = joined (v * 256 / unit) (v * 256 % unit) (fraction_bytes k (v * 256 % unit) unit) split f.value;
-        none = λ nil. absurd (let bot : ⊥ = cc in bot);
-      })
-    where
-      times_left : (unit d r K z : ℕ) → (unit * d + r) * K ≡ (z + d * K) * unit → r * K ≡ z * unit
-      times_left unit d r K z e = omega (arith, e)
-
-      joined : (d r : ℕ) (bs : List ℕ) → unit * d + r ≡ v * 256 → number bs * unit ≡ r * 256 ^ length bs → number (d ∷ bs) * unit ≡ v * 256 ^ suc (length bs)
-      joined d r bs split e =
-          let a : number (d ∷ bs) * unit ≡ (d * 256 ^ length bs + number bs) * unit = ap (λ z. z * unit) (number-cons d bs) in
-          let b : v * 256 ^ suc (length bs) ≡ v * (256 ^ length bs * 256) = ap (λ z. v * z) (pow-suc 256 (length bs)) in
-          let c : (unit * d + r) * 256 ^ length bs ≡ (v * 256) * 256 ^ length bs = ap (λ z. z * 256 ^ length bs) split in
-          omega (arith, a, b, c, e)
+      let split = div-add-mod (v * 256) unit in
+      let q : v * 256 ^ suc k ≡ v * (256 ^ k * 256) = ap (λ z. v * z) (pow-suc 256 k) in
+      rw t (more_digits n h split (further _ (left v unit (v * 256 / unit) (v * 256 % unit) (256 ^ k) u some split (omega (arith, e, q)))))
 
 -- ---- the chosen number
 
@@ -95,11 +90,6 @@ multiple_least t low w h =
     let lt' : (low + 2 ^ t - 1) / 2 ^ t < w + 1 = lt_of_mul-lt-mul_right (2 ^ t) lt in
     mul-le-mul_right (2 ^ t) (let le : (low + 2 ^ t - 1) / 2 ^ t ≤ w = omega (arith, lt') in le)
 
-power_split : (q t s : ℕ) → t ≤ s → q * 2 ^ s ≡ (q * 2 ^ (s - t)) * 2 ^ t
-power_split q t s h =
-    let e : s ≡ (s - t) + t = omega arith in
-    ap (λ n. q * n) (ap (λ n. 2 ^ n) e ∙ pow-add 2 (s - t) t) ∙ sym (mul_assoc q (2 ^ (s - t)) (2 ^ t))
-
 chosen_to : (top : ℕ) (p : Place) → 0 < p.size → ChosenTo top p (chosen_within top p)
 chosen_to zero p some = record {
   from = omega arith;
@@ -110,16 +100,14 @@ chosen_to (suc top) p some = went (cases_lt (multiple_from (suc top) p.low) (p.l
   went : (multiple_from (suc top) p.low < p.low + p.size) ⊎ (p.low + p.size ≤ multiple_from (suc top) p.low) → ChosenTo top p (chosen_within top p) → ChosenTo (suc top) p (chosen_within (suc top) p)
   went (inl less) c =
       let t : nat_lt (multiple_from (suc top) p.low) (p.low + p.size) ≡ true = lt-ltb _ _ less in
-      subst (ChosenTo (suc top) p) (sym (ap (λ b. cond b (multiple_from (suc top) p.low) (chosen_within top p)) t))
-      (record {
+      rw t (record {
         from = multiple_above (suc top) p.low;
         below = less;
-        even = λ t w le _ _. ((p.low + 2 ^ suc top - 1) / 2 ^ suc top * 2 ^ (suc top - t), power_split ((p.low + 2 ^ suc top - 1) / 2 ^ suc top) t (suc top) le);
+        even = λ t w le _ _. ((p.low + 2 ^ suc top - 1) / 2 ^ suc top * 2 ^ (suc top - t), split ((p.low + 2 ^ suc top - 1) / 2 ^ suc top) (suc top) t le);
       })
   went (inr more) c =
       let t : nat_lt (multiple_from (suc top) p.low) (p.low + p.size) ≡ false = le-ltb _ _ more in
-      subst (ChosenTo (suc top) p) (sym (ap (λ b. cond b (multiple_from (suc top) p.low) (chosen_within top p)) t))
-      (record { from = c.from; below = c.below; even = λ t w le from to. up t w le from to (cases_lt t (suc top)) })
+      rw t (record { from = c.from; below = c.below; even = λ t w le from to. up t w le from to (cases_lt t (suc top)) })
     where
       up : (t w : ℕ) → t ≤ suc top → p.low ≤ w * 2 ^ t → w * 2 ^ t < p.low + p.size → (t < suc top) ⊎ (suc top ≤ t) → (u : ℕ) × (chosen_within top p ≡ u * 2 ^ t)
       up t w le from to (inl below) = c.even t w (omega (arith, below)) from to
@@ -130,7 +118,7 @@ chosen_to (suc top) p some = went (cases_lt (multiple_from (suc top) p.low) (p.l
           absurd (let least = multiple_least (suc top) p.low w from' in omega (arith, least, to', more))
 
 power_two : (n : ℕ) → 2 ^ (17 + n) ≡ 2 * 2 ^ (16 + n)
-power_two n = let e : 17 + n ≡ suc (16 + n) = omega arith in ap (λ k. 2 ^ k) e ∙ pow-suc 2 (16 + n) ∙ (let c : 2 ^ (16 + n) * 2 ≡ 2 * 2 ^ (16 + n) = omega arith in c)
+power_two n = power_at 1 (16 + n) (17 + n) (omega arith)
 
 pub chosen-IsChosen : (p : Place) → IsPlace p → IsChosen p (chosen p)
 chosen-IsChosen p h =
@@ -160,7 +148,7 @@ chosen-IsChosen p h =
 divides : (n v : ℕ) → v * 256 ^ wanted_bytes n ≡ (v * 2 ^ (8 * wanted_bytes n - (16 + n))) * 2 ^ (16 + n)
 divides n v =
     let le : 16 + n ≤ 8 * wanted_bytes n = omega arith in
-    ap (λ z. v * z) (pow-256 (wanted_bytes n)) ∙ power_split v (16 + n) (8 * wanted_bytes n) le
+    ap (λ z. v * z) (pow-256 (wanted_bytes n)) ∙ split v (8 * wanted_bytes n) (16 + n) le
 
 pub code_of-IsCode : (p : Place) → IsPlace p → IsCode p (code_of p)
 code_of-IsCode p h =

@@ -55,10 +55,9 @@ within_is zero v p h c none =
     absurd (no_neighbours 0 p.low p none from (omega (arith, h.large)))
 within_is (suc top) v p h c none = went (cases_lt (multiple_from (suc top) p.low) (p.low + p.size)) (λ k. within_is top v p h c k) where
   went : (multiple_from (suc top) p.low < p.low + p.size) ⊎ (p.low + p.size ≤ multiple_from (suc top) p.low) → (NoMultiple (suc top) p → chosen_within top p ≡ v) → chosen_within (suc top) p ≡ v
-  went (inl less) further = ap (λ b. cond b (multiple_from (suc top) p.low) (chosen_within top p)) (lt-ltb _ _ less) ∙ same_multiple (suc top) v p c none less
+  went (inl less) further = rw (lt-ltb _ _ less) (same_multiple (suc top) v p c none less)
   went (inr more) further =
-      ap (λ b. cond b (multiple_from (suc top) p.low) (chosen_within top p)) (le-ltb _ _ more)
-      ∙ further (λ w from to. let least = multiple_least (suc top) p.low w from in omega (arith, least, to, more))
+      rw (le-ltb _ _ more) (further (λ w from to. let least = multiple_least (suc top) p.low w from in omega (arith, least, to, more)))
 
 large_power : (p : Place) → IsPlace p → p.low + p.size < 2 ^ (18 + p.doublings)
 large_power p h =

@@ -51,17 +51,21 @@ unstuffed (f ∷ fs) (c ∷ cs) more e = went (nat_eq f 255) (nat_eq c 255) refl
 
 -- ---- the counts
 
+-- the parts of a list, and of it when stuffed
+parts : {xs : List ℕ} (front rest : List ℕ) → xs ≡ front ++ rest → (length xs ≡ length front + length rest) × (length (stuffed xs) ≡ length (stuffed front) + length (stuffed rest))
+parts front rest e = (ap length e ∙ length-append front rest, ap (λ z. length (stuffed z)) e ∙ ap length (stuffed-append front rest) ∙ length-append (stuffed front) (stuffed rest))
+
 pub few_pushed : (e e' : Encoder) (s : State) (events : List Event) (pushed more : List ℕ) → EncoderIsAt e s.place pushed → EncoderIsAt e' (after s events).place (pushed ++ more) →
     length more + 2 * waiting_bytes e' ≤ 2 * waiting_bytes e + 4 * length events
 few_pushed e e' s events pushed more at at' =
     let u = unstuffed at.front at'.front more (ap (λ z. z ++ more) (sym at.is) ∙ at'.is) in
     let short = stuffed_short u.0 in
     let long : length more ≡ length (stuffed u.0) = ap length u.2 in
-    let split : length at'.front ≡ length at.front + length u.0 = ap length u.1 ∙ length-append at.front u.0 in
+    let split = parts at.front u.0 u.1 in
     let a = length-append at.front (run_bytes e.tail.zeros e.tail.held e.tail.ones) in
     let b = length-append at'.front (run_bytes e'.tail.zeros e'.tail.held e'.tail.ones) in
     let doubled = events_double events s in
-    omega (arith, short, long, split, a, b, doubled, at.digits.count, at'.digits.count)
+    omega (arith, short, long, split.0, a, b, doubled, at.digits.count, at'.digits.count)
 
 code_few : (e : Encoder) (s : State) (events : List Event) (pushed : List ℕ) → EncoderIsAt e s.place pushed →
     length (stuffed (code_of (after s events).place)) ≤ length pushed + (2 * waiting_bytes e + 4 * length events)
@@ -73,22 +77,20 @@ code_few e s events pushed at =
     let front = encoder_front e at in
     let r = front_begins s.place code front.front is.bytes (after-inside events s code here (code-Lies (after s events).place code is)) front.begins in
     let few : length code ≤ wanted_bytes (after s events).place.doublings = fraction_short _ _ _ in
-    let split : length code ≡ length front.front + length r.0 = ap length r.1 ∙ length-append front.front r.0 in
-    let parts : length (stuffed code) ≡ length (stuffed front.front) + length (stuffed r.0) = ap (λ z. length (stuffed z)) r.1 ∙ ap length (stuffed-append front.front r.0)
-    ∙ length-append (stuffed front.front) (stuffed r.0) in
+    let split = parts front.front r.0 r.1 in
     let same : length pushed ≡ length (stuffed front.front) = ap length front.is in
     let short = stuffed_short r.0 in
     let u = unstuffed at.front front.front [] (append-nil (stuffed at.front) ∙ sym at.is ∙ front.is) in
-    let all : length front.front ≡ length at.front + length u.0 = ap length u.1 ∙ length-append at.front u.0 in
+    let all = parts at.front u.0 u.1 in
     let a = length-append at.front (run_bytes e.tail.zeros e.tail.held e.tail.ones) in
     let doubled = events_double events s in
-    omega (arith, few, split, parts, same, short, all, a, doubled, at.digits.count)
+    omega (arith, few, split.0, split.1, same, short, all.0, a, doubled, at.digits.count)
 
 pub few_to_end : (e : Encoder) (s : State) (events : List Event) (pushed code : List ℕ) → EncoderIsAt e s.place pushed → IsCode (after s events).place code →
     length (stuffed code) ≤ length pushed + (2 * waiting_bytes e + 4 * length events)
 few_to_end e s events pushed code at is =
     let there : IsPlace (after s events).place = after-IsPlace events s (is_place e at) in
-    subst (λ c. length (stuffed c) ≤ length pushed + (2 * waiting_bytes e + 4 * length events)) (sym (code_is (after s events).place code there is)) (code_few e s events pushed at)
+    rw (code_is (after s events).place code there is) (code_few e s events pushed at)
 
 pub few_in_front : (e : Encoder) (s : State) (events : List Event) (pushed front : List ℕ) → EncoderIsAt e s.place pushed → IsStuffedFront front (after s events).place →
     length front ≤ length pushed + (2 * waiting_bytes e + 4 * length events)
@@ -97,7 +99,6 @@ few_in_front e s events pushed front at begins =
     let code = code_of (after s events).place in
     let is = code_of-IsCode (after s events).place there in
     let r = front_begins (after s events).place code begins.front is.bytes (code-Lies (after s events).place code is) begins.begins in
-    let parts : length (stuffed code) ≡ length (stuffed begins.front) + length (stuffed r.0) = ap (λ z. length (stuffed z)) r.1 ∙ ap length (stuffed-append begins.front r.0)
-    ∙ length-append (stuffed begins.front) (stuffed r.0) in
+    let split = parts begins.front r.0 r.1 in
     let same : length front ≡ length (stuffed begins.front) = ap length begins.is in
-    omega (arith, parts, same, code_few e s events pushed at)
+    omega (arith, split.1, same, code_few e s events pushed at)
