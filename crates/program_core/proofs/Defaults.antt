@@ -166,13 +166,12 @@ module _ (built : Command) (a : Arg) (no_groups : groups_of built ≡ []) (named
   number_at v any =
       let s = same any.0 any.1 any.2 any.3 any.4.0 in
       let is_q : parser_of any.1 ≡ q = ap parser_of_value (s.parser q by) in
-      decimal_given any.1.ignore_case v.now (subst (λ (w : ValueParser). Accepts any.1.ignore_case w v.now) is_q any.4.1)
+      decimal_given any.1.ignore_case v.now (rw is_q at any.4.1)
 
   numbers : (e : Entry) → e.0.now ≡ a.id.now → EntryPasses built e → All (λ v. is_some (decimal (without_minus v.now)) ≡ true) e.1.vals.items
   numbers e key pass = elim pass.0 [
     | inl g ↦ absurd (no_group e key pass g)
-    | inr all ↦ λ i v lt. number_at (slice_index_or e.1.vals.items i v)
-        (subst (λ (w : Text). PassesArg built w (slice_index_or e.1.vals.items i v).now) key (all i v lt))
+    | inr all ↦ λ i v lt. number_at (slice_index_or e.1.vals.items i v) (rw key at (all i v lt))
   ]
 
   entry_given : a.action ≡ Some Set → a.val_delim ≡ None → 1 ≤ least_values a → (x : MatchedArg)
@@ -181,7 +180,7 @@ module _ (built : Command) (a : Arg) (no_groups : groups_of built ≡ []) (named
   entry_given set delim least x got =
       let e = got.0 in
       let key : e.0.now ≡ a.id.now = (bytes_eq-Decides e.0.now a.id.now).0 got.2 in
-      subst (λ (y : MatchedArg). is_some (option_and_then decimal (option_map (λ s. read_as y.reading s.now) (slice_get y.vals.items 0))) ≡ true) got.1
+      rw (← got.1)
       (first_given e.1 e.1.vals.items refl (filled set delim least e key got.3) (reads e key got.3) (numbers e key got.3))
 
   found_given : a.action ≡ Some Set → a.val_delim ≡ None → 1 ≤ least_values a → (f : Found) → ValuesPass built f
@@ -243,12 +242,12 @@ module _ (c : Command) (m : ArgMatches) (p : IsParsedFrom c m) (is : app_of c �
       let by : a.value_parser ≡ Some q = ap (λ (x : Rule). x.parser) r in
       let unique : (j : ℕ) (e : Arg) → j < length (args_of c) → bytes_eq (slice_index_or (args_of c) j e).id.now a.id.now ≡ true → j ≡ k =
       λ j e below same. lone_is (λ (x : Rule). bytes_eq x.id id) rules k lone j (rule_of e) (subst (λ n. j < n) count below)
-      (subst (λ (w : Text). bytes_eq w id ≡ true) (ap (λ (x : Rule). x.id) (here e j below)) (subst (λ (w : Text). bytes_eq (slice_index_or (args_of c) j e).id.now w ≡ true) id_is same)) in
+      (rw (ap (λ (x : Rule). x.id) (here e j below), id_is) at same) in
       let not_auto : IsAuto a → ⊥ = λ auto. elim auto [ inl h ↦ differ id (codes "help") no_help (sym id_is ∙ h) | inr h ↦ differ id (codes "version") no_version (sym id_is ∙ h) ] in
       let same = same_rules_by_id c m p k d low unique not_auto in
       let present = default_present c m p plain k d low (ifs, has_defaults) in
       let parsed = p.parsed (p.from.globals ∙ plain) in
-      subst (λ (w : Text). is_some (option_and_then decimal (one_text (found_of m) w)) ≡ true) id_is
+      rw (← id_is)
       (found_given p.built a no_groups (λ empty. differ id [] some (sym id_is ∙ empty)) by same set delim least (found_of m) parsed.values
       (matched_of (found_of m) a.id.now) refl
       (found_some (found_of m).entries.items a.id.now present.0 present.1 present.2))

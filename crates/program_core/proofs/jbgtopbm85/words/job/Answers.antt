@@ -19,5 +19,4 @@ unfolding decode_matches
 returns-clause-values g c =
     let is : app_of c.in_ok-command.command ≡ decode_command = c.in_ok-command.ensures in
     let words = map g.S.AsStr.text c.args.words.now in
-    subst (λ (rows : List Row). IsDecodeJobOf rows c.in_ok-job.job)
-    (c.in_ok-matches.ensures.rows (ap is_simple is) ∙ ap (λ (a : App). matches_of a words) is) c.in_ok-job.ensures
+    rw (c.in_ok-matches.ensures.rows (ap is_simple is) ∙ ap (λ (a : App). matches_of a words) is) at c.in_ok-job.ensures

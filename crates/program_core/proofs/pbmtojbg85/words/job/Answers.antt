@@ -35,8 +35,7 @@ unfolding encode_matches
 returns-clause-values g c =
     let is : app_of c.in_ok-command.command ≡ encode_command = c.in_ok-command.ensures in
     let words = map g.S.AsStr.text c.args.words.now in
-    subst (λ (rows : List Row). IfOk c.job_of.result (IsEncodeJobOf rows))
-    (c.in_ok-matches.ensures.rows (ap is_simple is) ∙ ap (λ (a : App). matches_of a words) is) c.job_of.ensures.values
+    rw (c.in_ok-matches.ensures.rows (ap is_simple is) ∙ ap (λ (a : App). matches_of a words) is) at c.job_of.ensures.values
 
 pub returns-clause-fault : goal.returns-clause-fault
 unfolding encode_matches
