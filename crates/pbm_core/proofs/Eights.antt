@@ -111,7 +111,7 @@ byte_small : (row : List Bool) (k : ℕ) → byte_at row k < 256
 byte_small row k =
     let bits : List Bool = map (λ x. slice_index_or row x false) (numbers_from (8 * k) 8) in
     let long : length bits ≡ 8 = length_numbers (λ x. slice_index_or row x false) (8 * k) 8 in
-    subst (λ n. binary bits < 2 ^ n) long (binary_small bits)
+    rw (← long) (binary_small bits)
 
 packed_small : (row : List Bool) (k : ℕ) → slice_index (packed_row row) k < 256
 packed_small row k = went (cases_lt k (bytes_of_row (length row))) where

@@ -25,7 +25,7 @@ none_held bytes at end e = let n : end - at ≡ 0 = omega arith in ap (λ k. tak
 pub keeps_refilled : (a b : Option (List ℕ)) (held buf : List ℕ) (n : ℕ) → held ≡ [] → Consumes a b (take n buf) → Keeps (prepend_known held a) (prepend_known (bytes_between buf 0 n) b)
 keeps_refilled a b held buf n e p =
     let same : n ≡ n - 0 = omega arith in
-    subst (λ k. Keeps (prepend_known held a) (prepend_known (take k buf) b)) same (keeps_refill a b held (take n buf) e p)
+    rw (← same) (keeps_refill a b held (take n buf) e p)
 
 consumes_held : (k : ℕ) (held : List ℕ) (a : Option (List ℕ)) → Consumes (prepend_known held a) (prepend_known (drop k held) a) (take k held)
 consumes_held k held None = tt
@@ -40,7 +40,7 @@ held_after bytes at count end h =
 pub some_taken : (bytes : List ℕ) (at count end : ℕ) (a : Option (List ℕ)) → at + count ≤ end →
     Consumes (prepend_known (bytes_between bytes at end) a) (prepend_known (bytes_between bytes (at + count) end) a) (take count (bytes_between bytes at end))
 some_taken bytes at count end a fits =
-    subst (λ z. Consumes (prepend_known (bytes_between bytes at end) a) (prepend_known z a) (take count (bytes_between bytes at end))) (sym (held_after bytes at count end fits))
+    rw (held_after bytes at count end fits)
     (consumes_held count (bytes_between bytes at end) a)
 
 -- the end of the input, if no byte is buffered

@@ -16,7 +16,7 @@ use Rattle.pbm_core.proofs.Judged.{white_test, white-true, white-not}
 
 -- pixels, and then more pixels
 pub pixels-append : (xs ys : List ℕ) (row more : List Bool) → ArePixels xs row → ArePixels ys more → ArePixels (xs ++ ys) (row ++ more)
-pixels-append xs ys [] more p q = subst (λ z. ArePixels (z ++ ys) more) (sym p) q
+pixels-append xs ys [] more p q = rw p q
 pixels-append xs ys (black ∷ row) more p q = (p.0, p.1 ++ ys, ap (λ z. z ++ ys) p.2 ∙ append_assoc p.0 (digit_of black ∷ p.1) ys, p.3, pixels-append p.1 ys row more p.4 q)
 
 -- so many pixels came, and then fewer than there are still to come

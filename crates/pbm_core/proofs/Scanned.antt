@@ -32,7 +32,7 @@ scans-white given pixels b s white = record {
 
 pub scans-digit : (given : List ℕ) (pixels : List Bool) (b : ℕ) (black : Bool) → Scans given pixels → b ≡ digit_of black → ArePixels (given ++ b ∷ []) (pixels ++ black ∷ [])
 scans-digit given pixels b black s is =
-    subst (λ z. ArePixels z (pixels ++ black ∷ [])) (sym (ap (λ z. z ++ b ∷ []) s.given_are ∙ append_assoc s.digits s.space (b ∷ [])))
+    rw (ap (λ z. z ++ b ∷ []) s.given_are ∙ append_assoc s.digits s.space (b ∷ []))
     (pixels-append s.digits (s.space ++ b ∷ []) pixels (black ∷ []) s.are_pixels (s.space, [], ap (λ n. s.space ++ n ∷ []) is, s.is_space, refl))
 
 -- eight digits at the beginning
@@ -41,7 +41,7 @@ pub finds_eight : (bytes digits : List ℕ) (count : ℕ) → count ≡ 8 → 8 
 finds_eight bytes digits count is long same None make = tt
 finds_eight bytes digits count is long same (Some byte) make = record {
   within = long;
-  make = subst (λ n. MakeByte n (take 8 bytes) byte) (sym is) (subst (λ z. MakeByte 8 z byte) same make);
+  make = rw is (rw (← same) make);
 }
 
 pub reads_pixels : {old new : InputView} {count byte : ℕ} {F : List ℕ → PbmFault → Type 0} → TakesPixels count old new byte → Reads old new (Ok byte) (MakeByte count) F

@@ -39,10 +39,10 @@ bit_of : (bits : List Bool) (i k : ℕ) → k + i + 1 ≡ length bits → (bit_a
 bit_of [] i k e = absurd (omega (arith, e))
 bit_of (true ∷ bits) zero k e =
     let at : length bits ≡ k = omega (arith, e) in
-    subst (λ n. (bit_at (2 ^ length bits + binary bits) n == 1) ≡ true) at (ap (λ b. b == 1) (top_bit (length bits) (binary bits) (binary_small bits)))
+    rw (← at) (ap (λ b. b == 1) (top_bit (length bits) (binary bits) (binary_small bits)))
 bit_of (false ∷ bits) zero k e =
     let at : length bits ≡ k = omega (arith, e) in
-    subst (λ n. (bit_at (binary bits) n == 1) ≡ false) at (ap (λ b. b == 1) (bit_at_above (binary bits) (length bits) (length bits) (binary_small bits) (omega arith)))
+    rw (← at) (ap (λ b. b == 1) (bit_at_above (binary bits) (length bits) (length bits) (binary_small bits) (omega arith)))
 bit_of (true ∷ bits) (suc i) k e =
     let d : ℕ = length bits - k - 1 in
     let sum : length bits ≡ k + 1 + d = omega (arith, e) in
@@ -105,7 +105,7 @@ written_image_is_read width rows rest a b c d each =
     record {
       form = Raw;
       body = body;
-      header = subst (λ z. HasHeader z Raw width (length rows) body) (sym (append_assoc (header_text width (length rows)) (flat_map packed_row rows) rest))
+      header = rw (append_assoc (header_text width (length rows)) (flat_map packed_row rows) rest)
           (written_is_read width (length rows) body a b c d);
       holds = record { front = flat_map packed_row rows; bytes_are = refl; are_rows = packed_rows width rows each };
     }

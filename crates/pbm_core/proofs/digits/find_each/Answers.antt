@@ -35,7 +35,7 @@ returns-then-left-eq0 c =
         pixels = pixels;
         many = many;
         byte_is = byte_shifted pixels (c.bytes.made * 2 + c.from.result) c.args.count (omega (arith, made, v.made, c.from.ensures, bool_weight c.in-Some.black)) many c.requires.few;
-        are_pixels = subst (λ z. ArePixels z pixels) (sym more) (scans-digit (take end bytes) v.pixels _ c.in-Some.black v.scans c.in-Some.ensures.some);
+        are_pixels = rw more (scans-digit (take end bytes) v.pixels _ c.in-Some.black v.scans c.in-Some.ensures.some);
       };
     }
 
@@ -52,7 +52,7 @@ bytes-preserved-else-left-eq0 c =
       some = omega (arith, v.some, c.if-left-eq0.false);
       many = omega (arith, length_push v.pixels c.in-Some.black, v.many, v.some);
       made = omega (arith, binary_push v.pixels c.in-Some.black, v.made, c.from.ensures, bool_weight c.in-Some.black);
-      scans = subst (λ z. Scans z pixels) (sym more) (scans-all _ _ (scans-digit (take end bytes) v.pixels _ c.in-Some.black v.scans c.in-Some.ensures.some));
+      scans = rw more (scans-all _ _ (scans-digit (take end bytes) v.pixels _ c.in-Some.black v.scans c.in-Some.ensures.some));
     }
 
 pub bytes-preserved : goal.bytes-preserved
@@ -68,5 +68,5 @@ bytes-preserved c =
       some = v.some;
       many = v.many;
       made = v.made;
-      scans = subst (λ z. Scans z v.pixels) (sym more) (scans-white (take end bytes) v.pixels _ v.scans white);
+      scans = rw more (scans-white (take end bytes) v.pixels _ v.scans white);
     }
