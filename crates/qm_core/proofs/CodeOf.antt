@@ -113,8 +113,8 @@ chosen_to (suc top) p some = went (cases_lt (multiple_from (suc top) p.low) (p.l
       up t w le from to (inl below) = c.even t w (omega (arith, below)) from to
       up t w le from to (inr ge) =
           let same : t ≡ suc top = omega (arith, le, ge) in
-          let from' : p.low ≤ w * 2 ^ suc top = subst (λ z. p.low ≤ w * 2 ^ z) same from in
-          let to' : w * 2 ^ suc top < p.low + p.size = subst (λ z. w * 2 ^ z < p.low + p.size) same to in
+          let from' : p.low ≤ w * 2 ^ suc top = rw (← same) from in
+          let to' : w * 2 ^ suc top < p.low + p.size = rw (← same) to in
           absurd (let least = multiple_least (suc top) p.low w from' in omega (arith, least, to', more))
 
 power_two : (n : ℕ) → 2 ^ (17 + n) ≡ 2 * 2 ^ (16 + n)

@@ -85,7 +85,7 @@ chosen_is p v h c = went (cases_lt 0 p.low) where
   went (inr none) = let z : p.low ≡ 0 = omega (arith, none) in zero_chosen p (chosen p) h (chosen-IsChosen p h) z ∙ sym (zero_chosen p v h c z)
   went (inl some) =
       let e : suc (17 + p.doublings) ≡ 18 + p.doublings = omega arith in
-      within_is (17 + p.doublings) v p h c (subst (λ t. NoMultiple t p) (sym e) none)
+      within_is (17 + p.doublings) v p h c (rw e none)
     where
       none : NoMultiple (18 + p.doublings) p
       none w from to =

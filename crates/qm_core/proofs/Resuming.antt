@@ -12,7 +12,7 @@ use Rattle.qm_core.specs.declared.decoder.Decoder.{Decoder}
 bytes_kept : (answers : List Pulled) → IsClosed answers → bytes_of (before_fault answers) ≡ bytes_of answers
 bytes_kept [] h = refl
 bytes_kept (Byte b ∷ answers) h = ap (λ l. b ∷ l) (bytes_kept answers h)
-bytes_kept (End ∷ answers) h = subst (λ r. bytes_of (before_fault r) ≡ bytes_of r) (sym h) refl
+bytes_kept (End ∷ answers) h = rw h refl
 bytes_kept (Fault ∷ answers) h = sym (ap bytes_of h)
 
 closed_kept : (answers : List Pulled) → IsClosed answers → IsClosed (before_fault answers)

@@ -17,4 +17,4 @@ pub returns-clause-other : goal.returns-clause-other
 returns-clause-other c = λ is. ap (λ l. get_or l c.args.cell 0) (table c) ∙ (cost_at c.args.pixel c.args.cell (omega arith) ∙ ap (λ b. cond b (128 * (row_at (c.args.cell / 2)).size) 0x800000) is)
 
 pub returns-clause-most : goal.returns-clause-most
-returns-clause-most c = subst (λ l. get_or l c.args.cell 0 ≤ 0x800000) (sym (table c)) (cost_most c.args.pixel c.args.cell (omega arith))
+returns-clause-most c = rw (table c) (cost_most c.args.pixel c.args.cell (omega arith))
