@@ -32,9 +32,9 @@ zero_of u unit v h e =
 more_digits : {v unit d r : ℕ} {bs : List ℕ} → v ≢ 0 → v < unit → unit * d + r ≡ v * 256 → Fraction r unit bs → Fraction v unit (d ∷ bs)
 more_digits {v} {unit} {d} {r} {bs} n h split f =
     let less : d * unit < 256 * unit = omega (arith, split, h) in
-    let a : number (d ∷ bs) * unit ≡ (d * 256 ^ length bs + number bs) * unit = ap (λ z. z * unit) (number-cons d bs) in
-    let b : v * 256 ^ suc (length bs) ≡ v * (256 ^ length bs * 256) = ap (λ z. v * z) (pow-suc 256 (length bs)) in
-    let c : (unit * d + r) * 256 ^ length bs ≡ (v * 256) * 256 ^ length bs = ap (λ z. z * 256 ^ length bs) split in
+    let a = ap (λ z. z * unit) (number-cons d bs) in
+    let b = ap (λ z. v * z) (pow-suc 256 (length bs)) in
+    let c = ap (λ z. z * 256 ^ length bs) split in
     record {
       bytes = (lt_of_mul-lt-mul_right unit less, f.bytes);
       trimmed = trimmed_cons d bs f.trimmed (λ nil z. n (omega (arith, split, f.none nil, ap (λ y. unit * y) z)));
@@ -45,11 +45,11 @@ more_digits {v} {unit} {d} {r} {bs} n h split f =
 -- what is left of the value is a multiple of the unit, too
 left : (v unit d r K u : ℕ) → 0 < unit → unit * d + r ≡ v * 256 → (v * 256) * K ≡ u * unit → r * K ≡ (u - d * K) * unit
 left v unit d r K u some split e =
-    let parts : (unit * d + r) * K ≡ u * unit = ap (λ z. z * K) split ∙ e in
+    let parts = ap (λ z. z * K) split ∙ e in
     let less : (d * K) * unit ≤ u * unit = omega (arith, parts) in
     let enough : d * K ≤ u = le_of_mul-le-mul_right less some in
     let back : u ≡ (u - d * K) + d * K = omega (arith, enough) in
-    let whole : u * unit ≡ ((u - d * K) + d * K) * unit = ap (λ z. z * unit) back in
+    let whole = ap (λ z. z * unit) back in
     times_left (u - d * K) (parts ∙ whole) where
       times_left : (z : ℕ) → (unit * d + r) * K ≡ (z + d * K) * unit → r * K ≡ z * unit
       times_left z e = omega (arith, e)
@@ -65,7 +65,7 @@ fraction (suc k) v unit u some h e = went (cases_eq v 0) (λ z g. fraction k (v 
   went (inr n) further =
       let t : nat_eq v 0 ≡ false = grind (arith, nat_tests) in
       let split = div-add-mod (v * 256) unit in
-      let q : v * 256 ^ suc k ≡ v * (256 ^ k * 256) = ap (λ z. v * z) (pow-suc 256 k) in
+      let q = ap (λ z. v * z) (pow-suc 256 k) in
       rw t (more_digits n h split (further _ (left v unit (v * 256 / unit) (v * 256 % unit) (256 ^ k) u some split (omega (arith, e, q)))))
 
 -- ---- the chosen number
@@ -78,14 +78,14 @@ record ChosenTo (top : ℕ) (p : Place) (v : ℕ) : Type 0 where
 pub multiple_above : (t low : ℕ) → low ≤ multiple_from t low
 multiple_above t low =
     let some : 0 < 2 ^ t = pow_pos t in
-    let e : 2 ^ t * ((low + 2 ^ t - 1) / 2 ^ t) + (low + 2 ^ t - 1) % 2 ^ t ≡ low + 2 ^ t - 1 = div-add-mod (low + 2 ^ t - 1) (2 ^ t) in
+    let e = div-add-mod (low + 2 ^ t - 1) (2 ^ t) in
     let r : (low + 2 ^ t - 1) % 2 ^ t < 2 ^ t = omega (arith, some) in
     omega (arith, e, r, some)
 
 pub multiple_least : (t low w : ℕ) → low ≤ w * 2 ^ t → multiple_from t low ≤ w * 2 ^ t
 multiple_least t low w h =
     let some : 0 < 2 ^ t = pow_pos t in
-    let e : 2 ^ t * ((low + 2 ^ t - 1) / 2 ^ t) + (low + 2 ^ t - 1) % 2 ^ t ≡ low + 2 ^ t - 1 = div-add-mod (low + 2 ^ t - 1) (2 ^ t) in
+    let e = div-add-mod (low + 2 ^ t - 1) (2 ^ t) in
     let lt : ((low + 2 ^ t - 1) / 2 ^ t) * 2 ^ t < (w + 1) * 2 ^ t = omega (arith, e, h, some) in
     let lt' : (low + 2 ^ t - 1) / 2 ^ t < w + 1 = lt_of_mul-lt-mul_right (2 ^ t) lt in
     mul-le-mul_right (2 ^ t) (let le : (low + 2 ^ t - 1) / 2 ^ t ≤ w = omega (arith, lt') in le)

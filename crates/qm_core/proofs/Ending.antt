@@ -20,7 +20,7 @@ use Rattle.qm_core.specs.declared.sink.CodeSink.{Ghosts}
 pub front_place : {c : List ℕ} {p : Place} → IsFront c p → 0x8000 ≤ p.size → p.size ≤ 0x10000 → IsPlace p
 front_place {c} {p} f large small =
     let n : number c + 1 ≤ 256 ^ length c = (let l = number_lt 256 c f.bytes in omega arith) in
-    let m : (number c + 1) * 2 ^ (16 + p.doublings) ≤ 256 ^ length c * 2 ^ (16 + p.doublings) = mul-le-mul_right (2 ^ (16 + p.doublings)) n in
+    let m = mul-le-mul_right (2 ^ (16 + p.doublings)) n in
     let e : (p.low + p.size) * 256 ^ length c ≤ 2 ^ (16 + p.doublings) * 256 ^ length c = omega (arith, f.up_to, m) in
     record { large = large; small = small; within = le_of_mul-le-mul_right e (one-le-pow (length c) 256 (omega arith)) }
 

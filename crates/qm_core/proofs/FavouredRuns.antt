@@ -82,7 +82,7 @@ is_run s event count h =
     let large = r.large in
     record {
       quiet = λ k l.
-          let m : k * upper_size s.learned event.context ≤ count * upper_size s.learned event.context = mul-le-mul_right (upper_size s.learned event.context) l in
+          let m = mul-le-mul_right (upper_size s.learned event.context) l in
           ap (λ t. t.place.doublings) (run_is k s event (record { favoured = r.favoured; large = omega (arith, m) }));
       taught = ap (λ t. t.learned) (after_run s event count h);
     }
@@ -91,12 +91,12 @@ is_run s event count h =
 module _ (s : State) (event : Event) (count : ℕ) {e : Estimate} (is : e ≡ estimate_of s.learned event.context) where
   pub no_room : s.place.size < 0x8000 + count * (row_at e.row).size → has_room s event count ≡ false
   no_room l =
-      let q : (row_at e.row).size ≡ upper_size s.learned event.context = ap (λ x. (row_at x.row).size) is in
+      let q = ap (λ x. (row_at x.row).size) is in
       rw (lt-ltb s.place.size (0x8000 + count * upper_size s.learned event.context) (rw q at l)) (and-false _)
 
   pub room : not (beq event.pixel e.pixel) ≡ false → 0x8000 + count * (row_at e.row).size ≤ s.place.size → has_room s event count ≡ true
   room h l =
-      let q : (row_at e.row).size ≡ upper_size s.learned event.context = ap (λ x. (row_at x.row).size) is in
+      let q = ap (λ x. (row_at x.row).size) is in
       let same : same event.pixel (estimate_of s.learned event.context).pixel ≡ true = rw is at (agree event.pixel e.pixel h) in
       rw (same, le-ltb s.place.size (0x8000 + count * upper_size s.learned event.context) (rw q at l)) refl
 

@@ -64,8 +64,8 @@ large_power p h =
     let two : 0 < 2 = omega arith in
     let e : 18 + p.doublings ≡ suc (17 + p.doublings) = omega arith in
     let e' : 17 + p.doublings ≡ suc (16 + p.doublings) = omega arith in
-    let a : 2 ^ (18 + p.doublings) ≡ 2 ^ (17 + p.doublings) * 2 = ap (λ k. 2 ^ k) e ∙ pow-suc 2 (17 + p.doublings) in
-    let b : 2 ^ (17 + p.doublings) ≡ 2 ^ (16 + p.doublings) * 2 = ap (λ k. 2 ^ k) e' ∙ pow-suc 2 (16 + p.doublings) in
+    let a = ap (λ k. 2 ^ k) e ∙ pow-suc 2 (17 + p.doublings) in
+    let b = ap (λ k. 2 ^ k) e' ∙ pow-suc 2 (16 + p.doublings) in
     let some : 0 < 2 ^ (16 + p.doublings) = pow_pos (16 + p.doublings) in
     omega (arith, h.within, a, b, some)
 

@@ -60,7 +60,7 @@ pub few_pushed : (e e' : Encoder) (s : State) (events : List Event) (pushed more
 few_pushed e e' s events pushed more at at' =
     let u = unstuffed at.front at'.front more (ap (λ z. z ++ more) (sym at.is) ∙ at'.is) in
     let short = stuffed_short u.0 in
-    let long : length more ≡ length (stuffed u.0) = ap length u.2 in
+    let long = ap length u.2 in
     let split = parts at.front u.0 u.1 in
     let a = length-append at.front (run_bytes e.tail.zeros e.tail.held e.tail.ones) in
     let b = length-append at'.front (run_bytes e'.tail.zeros e'.tail.held e'.tail.ones) in
@@ -78,7 +78,7 @@ code_few e s events pushed at =
     let r = front_begins s.place code front.front is.bytes (after-inside events s code here (code-Lies (after s events).place code is)) front.begins in
     let few : length code ≤ wanted_bytes (after s events).place.doublings = fraction_short _ _ _ in
     let split = parts front.front r.0 r.1 in
-    let same : length pushed ≡ length (stuffed front.front) = ap length front.is in
+    let same = ap length front.is in
     let short = stuffed_short r.0 in
     let u = unstuffed at.front front.front [] (append-nil (stuffed at.front) ∙ sym at.is ∙ front.is) in
     let all = parts at.front u.0 u.1 in
@@ -100,5 +100,5 @@ few_in_front e s events pushed front at begins =
     let is = code_of-IsCode (after s events).place there in
     let r = front_begins (after s events).place code begins.front is.bytes (code-Lies (after s events).place code is) begins.begins in
     let split = parts begins.front r.0 r.1 in
-    let same : length front ≡ length (stuffed begins.front) = ap length begins.is in
+    let same = ap length begins.is in
     omega (arith, split.1, same, code_few e s events pushed at)
