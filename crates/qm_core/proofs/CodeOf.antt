@@ -24,7 +24,7 @@ trimmed_cons d (b ∷ bs) t h = t
 zero_of : (u unit v : ℕ) → v < unit → v ≡ u * unit → v ≡ 0
 zero_of u unit v h e =
     let lt : u * unit < 1 * unit = omega (arith, h, e) in
-    let small : u < 1 = lt_of_mul-lt-mul_right unit lt in
+    let small = lt_of_mul-lt-mul_right unit lt in
     let none : u ≡ 0 = omega (arith, small) in
     e ∙ ap (λ z. z * unit) none ∙ (let z : 0 * unit ≡ 0 = omega arith in z)
 
@@ -47,7 +47,7 @@ left : (v unit d r K u : ℕ) → 0 < unit → unit * d + r ≡ v * 256 → (v *
 left v unit d r K u some split e =
     let parts = ap (λ z. z * K) split ∙ e in
     let less : (d * K) * unit ≤ u * unit = omega (arith, parts) in
-    let enough : d * K ≤ u = le_of_mul-le-mul_right less some in
+    let enough = le_of_mul-le-mul_right less some in
     let back : u ≡ (u - d * K) + d * K = omega (arith, enough) in
     let whole = ap (λ z. z * unit) back in
     times_left (u - d * K) (parts ∙ whole) where
@@ -57,7 +57,7 @@ left v unit d r K u some split e =
 fraction : (k v unit u : ℕ) → 0 < unit → v < unit → v * 256 ^ k ≡ u * unit → Fraction v unit (fraction_bytes k v unit)
 fraction zero v unit u some h e =
     let e1 : v ≡ u * unit = omega (arith, e) in
-    let z : v ≡ 0 = zero_of u unit v h e1 in
+    let z = zero_of u unit v h e1 in
     record { bytes = tt; trimmed = tt; value = omega (arith, z); none = λ _. z }
 fraction (suc k) v unit u some h e = went (cases_eq v 0) (λ z g. fraction k (v * 256 % unit) unit z some (omega (arith, some)) g) where
   went : (v ≡ 0) ⊎ (v ≢ 0) → ((z : ℕ) → (v * 256 % unit) * 256 ^ k ≡ z * unit → Fraction (v * 256 % unit) unit (fraction_bytes k (v * 256 % unit) unit)) → Fraction v unit (fraction_bytes (suc k) v unit)
@@ -77,17 +77,17 @@ record ChosenTo (top : ℕ) (p : Place) (v : ℕ) : Type 0 where
 
 pub multiple_above : (t low : ℕ) → low ≤ multiple_from t low
 multiple_above t low =
-    let some : 0 < 2 ^ t = pow_pos t in
+    let some = pow_pos t in
     let e = div-add-mod (low + 2 ^ t - 1) (2 ^ t) in
     let r : (low + 2 ^ t - 1) % 2 ^ t < 2 ^ t = omega (arith, some) in
     omega (arith, e, r, some)
 
 pub multiple_least : (t low w : ℕ) → low ≤ w * 2 ^ t → multiple_from t low ≤ w * 2 ^ t
 multiple_least t low w h =
-    let some : 0 < 2 ^ t = pow_pos t in
+    let some = pow_pos t in
     let e = div-add-mod (low + 2 ^ t - 1) (2 ^ t) in
     let lt : ((low + 2 ^ t - 1) / 2 ^ t) * 2 ^ t < (w + 1) * 2 ^ t = omega (arith, e, h, some) in
-    let lt' : (low + 2 ^ t - 1) / 2 ^ t < w + 1 = lt_of_mul-lt-mul_right (2 ^ t) lt in
+    let lt' = lt_of_mul-lt-mul_right (2 ^ t) lt in
     mul-le-mul_right (2 ^ t) (let le : (low + 2 ^ t - 1) / 2 ^ t ≤ w = omega (arith, lt') in le)
 
 chosen_to : (top : ℕ) (p : Place) → 0 < p.size → ChosenTo top p (chosen_within top p)
@@ -131,16 +131,16 @@ chosen-IsChosen p h =
         let c = chosen_to (17 + p.doublings) p (omega (arith, h.large)) in
         let two : 0 < 2 = omega arith in
         let le : 17 + p.doublings ≤ t = omega (arith, beyond) in
-        let q : 2 ^ (17 + p.doublings) ≤ 2 ^ t = pow-le-pow_right two le in
+        let q = pow-le-pow_right two le in
         let d = power_two p.doublings in
-        let some : 0 < 2 ^ (16 + p.doublings) = pow_pos (16 + p.doublings) in
+        let some = pow_pos (16 + p.doublings) in
         let small : w * 2 ^ t < 1 * 2 ^ t = omega (arith, to, h.within, q, d, some) in
-        let w1 : w < 1 = lt_of_mul-lt-mul_right (2 ^ t) small in
+        let w1 = lt_of_mul-lt-mul_right (2 ^ t) small in
         let w0 : w ≡ 0 = omega (arith, w1) in
         let low0 : p.low ≡ 0 = omega (arith, from, ap (λ n. n * 2 ^ t) w0) in
         let e = c.even (17 + p.doublings) 0 (omega arith) (omega (arith, low0)) (omega (arith, h.large)) in
         let less : e.0 * 2 ^ (17 + p.doublings) < 1 * 2 ^ (17 + p.doublings) = omega (arith, e.1, c.below, h.within, d, some) in
-        let u1 : e.0 < 1 = lt_of_mul-lt-mul_right (2 ^ (17 + p.doublings)) less in
+        let u1 = lt_of_mul-lt-mul_right (2 ^ (17 + p.doublings)) less in
         let u0 : e.0 ≡ 0 = omega (arith, u1) in
         (0, e.1 ∙ ap (λ n. n * 2 ^ (17 + p.doublings)) u0 ∙ (let z : 0 * 2 ^ (17 + p.doublings) ≡ 0 * 2 ^ t = omega arith in z))
 

@@ -28,8 +28,8 @@ front_place {c} {p} f large small =
 pub is_place : (e : Encoder) {p : Place} {pushed : List ℕ} → EncoderIsAt e p pushed → IsPlace p
 is_place e at =
     let size = at.digits.size in
-    let large : 0x40_0000 ≤ e.span = e.large in
-    let small : e.span ≤ 0x80_0000 = e.small in
+    let large = e.large in
+    let small = e.small in
     front_place (encoder_front e at).begins (omega (arith, size)) (omega (arith, size))
 
 pub finish_after : {S : Type 0} {sink : Ghosts S} {a b c : S} {pushed : List ℕ} {p : Place} {e : Encoder} {u : Unit {0}} {q : Result (Unit {0}) CoderFault}

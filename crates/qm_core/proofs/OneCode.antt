@@ -27,10 +27,10 @@ no_neighbours : (t q : ℕ) (p : Place) → NoMultiple (suc t) p → p.low ≤ q
 no_neighbours t q p none from to = went (halves q) where
   went : ((r : ℕ) × (q ≡ 2 * r)) ⊎ ((r : ℕ) × (q + 1 ≡ 2 * r)) → ⊥
   went (inl e) =
-      let same : e.0 * 2 ^ suc t ≡ q * 2 ^ t = double_power e.0 t ∙ ap (λ z. z * 2 ^ t) (sym e.1) in
+      let same = double_power e.0 t ∙ ap (λ z. z * 2 ^ t) (sym e.1) in
       none e.0 (omega (arith, same, from)) (omega (arith, same, to))
   went (inr e) =
-      let same : e.0 * 2 ^ suc t ≡ (q + 1) * 2 ^ t = double_power e.0 t ∙ ap (λ z. z * 2 ^ t) (sym e.1) in
+      let same = double_power e.0 t ∙ ap (λ z. z * 2 ^ t) (sym e.1) in
       none e.0 (omega (arith, same, from)) (omega (arith, same, to))
 
 same_multiple : (t v : ℕ) (p : Place) → IsChosen p v → NoMultiple (suc t) p → multiple_from t p.low < p.low + p.size → multiple_from t p.low ≡ v
@@ -46,7 +46,7 @@ same_multiple t v p c none less = went (c.most_even t ((p.low + 2 ^ t - 1) / 2 ^
       let q : ℕ = (p.low + 2 ^ t - 1) / 2 ^ t in
       let above = multiple_above t p.low in
       let le : multiple_from t p.low ≤ e.0 * 2 ^ t = multiple_least t p.low e.0 (omega (arith, c.from, e.1)) in
-      let le' : (p.low + 2 ^ t - 1) / 2 ^ t ≤ e.0 = le_of_mul-le-mul_right le (pow_pos t) in
+      let le' = le_of_mul-le-mul_right le (pow_pos t) in
       decide ((p.low + 2 ^ t - 1) / 2 ^ t) e.0 le' above e.1 (cases_lt ((p.low + 2 ^ t - 1) / 2 ^ t) e.0)
 
 within_is : (top v : ℕ) (p : Place) → IsPlace p → IsChosen p v → NoMultiple (suc top) p → chosen_within top p ≡ v
@@ -66,7 +66,7 @@ large_power p h =
     let e' : 17 + p.doublings ≡ suc (16 + p.doublings) = omega arith in
     let a = ap (λ k. 2 ^ k) e ∙ pow-suc 2 (17 + p.doublings) in
     let b = ap (λ k. 2 ^ k) e' ∙ pow-suc 2 (16 + p.doublings) in
-    let some : 0 < 2 ^ (16 + p.doublings) = pow_pos (16 + p.doublings) in
+    let some = pow_pos (16 + p.doublings) in
     omega (arith, h.within, a, b, some)
 
 -- 0 is chosen where it is there
@@ -75,7 +75,7 @@ zero_chosen p v h c z =
     let e = c.most_even (18 + p.doublings) 0 (omega (arith, z)) (omega (arith, h.large)) in
     let big = large_power p h in
     let less : e.0 * 2 ^ (18 + p.doublings) < 1 * 2 ^ (18 + p.doublings) = omega (arith, e.1, c.below, big) in
-    let u : e.0 < 1 = lt_of_mul-lt-mul_right (2 ^ (18 + p.doublings)) less in
+    let u = lt_of_mul-lt-mul_right (2 ^ (18 + p.doublings)) less in
     let u0 : e.0 ≡ 0 = omega (arith, u) in
     e.1 ∙ ap (λ k. k * 2 ^ (18 + p.doublings)) u0 ∙ (let n : 0 * 2 ^ (18 + p.doublings) ≡ 0 = omega arith in n)
 
@@ -91,7 +91,7 @@ chosen_is p v h c = went (cases_lt 0 p.low) where
       none w from to =
           let big = large_power p h in
           let less : w * 2 ^ (18 + p.doublings) < 1 * 2 ^ (18 + p.doublings) = omega (arith, to, big) in
-          let u : w < 1 = lt_of_mul-lt-mul_right (2 ^ (18 + p.doublings)) less in
+          let u = lt_of_mul-lt-mul_right (2 ^ (18 + p.doublings)) less in
           let u0 : w ≡ 0 = omega (arith, u) in
           let n : w * 2 ^ (18 + p.doublings) ≡ 0 = ap (λ k. k * 2 ^ (18 + p.doublings)) u0 ∙ (let n : 0 * 2 ^ (18 + p.doublings) ≡ 0 = omega arith in n) in
           omega (arith, from, n, some)
@@ -103,7 +103,7 @@ code_is p b h c =
     let le = shortest_lem p b (code_of p) c (code-Lies p (code_of p) d) in
     let ge = shortest_lem p (code_of p) b d (code-Lies p b c) in
     let l : length b ≡ length (code_of p) = omega (arith, le, ge) in
-    let v : c.value.0 ≡ d.value.0 = sym (chosen_is p c.value.0 h c.value.1) ∙ chosen_is p d.value.0 h d.value.1 in
+    let v = sym (chosen_is p c.value.0 h c.value.1) ∙ chosen_is p d.value.0 h d.value.1 in
     let e : number b * 2 ^ (16 + p.doublings) ≡ number (code_of p) * 2 ^ (16 + p.doublings) =
     c.value.2 ∙ ap (λ z. z * 256 ^ length b) v ∙ ap (λ z. d.value.0 * 256 ^ z) l ∙ sym d.value.2 in
     same_number b (code_of p) c.bytes d.bytes l (eq_of_mul-eq-mul_right (2 ^ (16 + p.doublings)) (pow_pos (16 + p.doublings)) (number b) (number (code_of p)) e)

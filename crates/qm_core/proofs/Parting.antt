@@ -40,17 +40,17 @@ taken {s} {cx} {e} {code} {span} {entry} {o = o} is cut part =
           let l = part.lower_is below in
           elim (cases_lt (span - entry) entry) [
             | inl exchanged ↦
-                let g : o ≡ true = l.2 ∙ lt-ltb (span - entry) entry exchanged in
+                let g = l.2 ∙ lt-ltb (span - entry) entry exchanged in
                 rw (l.0, l.1, g) (record { part = lower_part s.place (upper e); takes = other_lower is (omega arith); registers = λ b r. registers_lower (upper e) size r })
             | inr straight ↦
-                let g : o ≡ false = l.2 ∙ le-ltb (span - entry) entry straight in
+                let g = l.2 ∙ le-ltb (span - entry) entry straight in
                 rw (l.0, l.1, g) (record { part = lower_part s.place (upper e); takes = favoured_lower is (omega arith) (omega arith); registers = λ b r. registers_lower (upper e) size r })
           ]
       | inr above ↦
           let u = part.upper_is above in
           elim (cases_lt (span - entry) entry) [
             | inl exchanged ↦
-                let g : o ≡ false = u.2 ∙ ap not (lt-ltb (span - entry) entry exchanged) in
+                let g = u.2 ∙ ap not (lt-ltb (span - entry) entry exchanged) in
                 rw (u.0, u.1, g) (record {
                   part = upper_part s.place (upper e);
                   takes = favoured_upper is (omega arith) (omega arith);
@@ -58,7 +58,7 @@ taken {s} {cx} {e} {code} {span} {entry} {o = o} is cut part =
                       (upper e) size above cut.less r;
                 })
             | inr straight ↦
-                let g : o ≡ true = u.2 ∙ ap not (le-ltb (span - entry) entry straight) in
+                let g = u.2 ∙ ap not (le-ltb (span - entry) entry straight) in
                 rw (u.0, u.1, g) (record { part = upper_part s.place (upper e); takes = other_upper is (omega arith); registers = λ b r. registers_upper (upper e) size above cut.less r })
           ]
     ]

@@ -44,7 +44,7 @@ same_kept (Fault ∷ answers) c h = absurd (h refl)
 pub stands_again : {d d' : Decoder} {p : Place} {answers : List Pulled} → d.heard ≡ Stopped → d'.heard ≡ More → d'.code ≡ d.code → d'.span ≡ d.span → d'.bits ≡ d.bits →
     DecoderIsAt d p answers → DecoderIsAt d' p (before_fault answers)
 stands_again {answers = answers} stopped more code span bits s =
-    let heard : heard_of answers ≡ Stopped = sym s.heard ∙ stopped in
+    let heard = sym s.heard ∙ stopped in
     let same = bytes_kept answers s.closed in
     let kept = few_kept answers in
     let few = s.few in

@@ -32,16 +32,16 @@ unstuffed (f ∷ fs) (c ∷ cs) more e = went (nat_eq f 255) (nat_eq c 255) refl
       (stuffed fs ++ more ≡ stuffed cs → (rest : List ℕ) × (cs ≡ fs ++ rest) × (more ≡ stuffed rest)) → (rest : List ℕ) × (c ∷ cs ≡ f ∷ (fs ++ rest)) × (more ≡ stuffed rest)
   went true true ft ct e further =
       let r = further (let same : stuffed fs ++ more ≡ stuffed cs = cc in same) in
-      let one : c ≡ f = eqb-true c 255 ct ∙ sym (eqb-true f 255 ft) in
+      let one = eqb-true c 255 ct ∙ sym (eqb-true f 255 ft) in
       let tail = r.1 in
       (r.0, (let all : c ∷ cs ≡ f ∷ (fs ++ r.0) = cc in all), r.2)
   went true false ft ct e further =
       let first : 255 ≡ c = cc in
-      let same : true ≡ false = subst (λ n. nat_eq n 255 ≡ false) (sym first) ct in
+      let same = subst (λ n. nat_eq n 255 ≡ false) (sym first) ct in
       cc
   went false true ft ct e further =
       let first : f ≡ 255 = cc in
-      let same : true ≡ false = subst (λ n. nat_eq n 255 ≡ false) first ft in
+      let same = subst (λ n. nat_eq n 255 ≡ false) first ft in
       cc
   went false false ft ct e further =
       let r = further (let same : stuffed fs ++ more ≡ stuffed cs = cc in same) in
@@ -70,8 +70,8 @@ few_pushed e e' s events pushed more at at' =
 code_few : (e : Encoder) (s : State) (events : List Event) (pushed : List ℕ) → EncoderIsAt e s.place pushed →
     length (stuffed (code_of (after s events).place)) ≤ length pushed + (2 * waiting_bytes e + 4 * length events)
 code_few e s events pushed at =
-    let here : IsPlace s.place = is_place e at in
-    let there : IsPlace (after s events).place = after-IsPlace events s here in
+    let here = is_place e at in
+    let there = after-IsPlace events s here in
     let code = code_of (after s events).place in
     let is = code_of-IsCode (after s events).place there in
     let front = encoder_front e at in
@@ -89,13 +89,13 @@ code_few e s events pushed at =
 pub few_to_end : (e : Encoder) (s : State) (events : List Event) (pushed code : List ℕ) → EncoderIsAt e s.place pushed → IsCode (after s events).place code →
     length (stuffed code) ≤ length pushed + (2 * waiting_bytes e + 4 * length events)
 few_to_end e s events pushed code at is =
-    let there : IsPlace (after s events).place = after-IsPlace events s (is_place e at) in
+    let there = after-IsPlace events s (is_place e at) in
     rw (code_is (after s events).place code there is) (code_few e s events pushed at)
 
 pub few_in_front : (e : Encoder) (s : State) (events : List Event) (pushed front : List ℕ) → EncoderIsAt e s.place pushed → IsStuffedFront front (after s events).place →
     length front ≤ length pushed + (2 * waiting_bytes e + 4 * length events)
 few_in_front e s events pushed front at begins =
-    let there : IsPlace (after s events).place = after-IsPlace events s (is_place e at) in
+    let there = after-IsPlace events s (is_place e at) in
     let code = code_of (after s events).place in
     let is = code_of-IsCode (after s events).place there in
     let r = front_begins (after s events).place code begins.front is.bytes (code-Lies (after s events).place code is) begins.begins in

@@ -22,7 +22,7 @@ room_of : (low span bits byte : ℕ) → byte ≤ 1 → low ≤ (1 * 2 ^ (bits +
 room_of low span bits byte small below left =
     let two : 0 < 2 = omega arith in
     let e : bits + 7 + byte ≤ bits + 8 = omega arith in
-    let m : 2 ^ (bits + 7 + byte) ≤ 2 ^ (bits + 8) = pow-le-pow_right two e in
+    let m = pow-le-pow_right two e in
     omega (arith, m)
 
 pub invariant_of-result-2-clause-room : goal.invariant_of-result-2-clause-room
