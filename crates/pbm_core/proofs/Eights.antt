@@ -55,7 +55,7 @@ white_after k (suc n) = white_after (k + 1) n
 
 weighed : (b : Bool) (bits z : List Bool) (n d : ℕ) → length z ≡ n → n ≡ length bits + d → binary z ≡ binary bits * 2 ^ d → binary (b ∷ z) ≡ binary (b ∷ bits) * 2 ^ d
 weighed true bits z n d long sum e =
-    let split : 2 ^ length z ≡ 2 ^ length bits * 2 ^ d = ap (λ m. 2 ^ m) (long ∙ sum) ∙ pow-add 2 (length bits) d in
+    let split = ap (λ m. 2 ^ m) (long ∙ sum) ∙ pow-add 2 (length bits) d in
     ap (λ p. p + binary z) split ∙ ap (λ r. 2 ^ length bits * 2 ^ d + r) e ∙ sym (add-mul (2 ^ length bits) (binary bits) (2 ^ d))
 weighed false bits z n d long sum e = e
 
@@ -63,7 +63,7 @@ padded : (bits : List Bool) (n : ℕ) → length bits ≤ n → binary (map (λ 
 padded [] n h = white_after 0 n ∙ (let e : 0 ≡ 0 * 2 ^ (n - 0) = omega arith in e)
 padded (b ∷ bits) zero h = absurd (omega arith)
 padded (b ∷ bits) (suc n) h =
-    let z : List Bool = map (λ x. get_or bits x false) (numbers_from 0 n) in
+    let z = map (λ x. get_or bits x false) (numbers_from 0 n) in
     let tail : map (λ x. get_or (b ∷ bits) x false) (numbers_from 1 n) ≡ z = map_from (λ x. get_or (b ∷ bits) x false) (λ x. get_or bits x false) 1 0 n
     (λ x. let e : 1 + x ≡ suc x = omega arith in ap (λ i. get_or (b ∷ bits) i false) e) in
     let less : length bits ≤ n = omega (arith, h) in
@@ -109,8 +109,8 @@ enough width = grind arith
 
 byte_small : (row : List Bool) (k : ℕ) → byte_at row k < 256
 byte_small row k =
-    let bits : List Bool = map (λ x. slice_index_or row x false) (numbers_from (8 * k) 8) in
-    let long : length bits ≡ 8 = length_numbers (λ x. slice_index_or row x false) (8 * k) 8 in
+    let bits = map (λ x. slice_index_or row x false) (numbers_from (8 * k) 8) in
+    let long = length_numbers (λ x. slice_index_or row x false) (8 * k) 8 in
     rw (← long) (binary_small bits)
 
 packed_small : (row : List Bool) (k : ℕ) → slice_index (packed_row row) k < 256
@@ -118,7 +118,7 @@ packed_small row k = went (cases_lt k (bytes_of_row (length row))) where
   went : (k < bytes_of_row (length row)) ⊎ (bytes_of_row (length row) ≤ k) → slice_index (packed_row row) k < 256
   went (inl inside) =
       let e : 0 + k ≡ k = omega arith in
-      let value : slice_index (packed_row row) k ≡ byte_at row k = get_numbers (λ j. byte_at row j) 0 0 (bytes_of_row (length row)) k inside ∙ ap (byte_at row) e in
+      let value = get_numbers (λ j. byte_at row j) 0 0 (bytes_of_row (length row)) k inside ∙ ap (byte_at row) e in
       omega (arith, value, byte_small row k)
   went (inr past) =
       let value : slice_index (packed_row row) k ≡ 0 = get_or_past (packed_row row) k 0 (omega (arith, length-packed_row row, past)) in

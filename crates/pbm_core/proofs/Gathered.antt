@@ -19,11 +19,11 @@ IsBinaryDigit b = (48 ≤ b) × (b ≤ 49)
 -- the last byte of a word that has the bits of a digit, and the bytes before it
 last_digit : (v b mask blank : ℕ) → b < 256 → bit_and (v * 256 + b) mask ≡ blank → mask % 2 ^ 8 ≡ 254 → blank % 2 ^ 8 ≡ 48 → IsBinaryDigit b × (bit_and v (mask / 2 ^ 8) ≡ blank / 2 ^ 8)
 last_digit v b mask blank small e m z =
-    let low : (v * 256 + b) % 2 ^ 8 ≡ b = mod-mul-add v 256 b small in
-    let high : (v * 256 + b) / 2 ^ 8 ≡ v = div-mul-add v 256 b small in
-    let both : 48 ≡ bit_and b 254 = sym z ∙ ap (λ x. x % 2 ^ 8) (sym e) ∙ and_mod (v * 256 + b) mask 8 ∙ ap (λ x. bit_and x (mask % 2 ^ 8)) low ∙ ap (bit_and b) m in
-    let high_bits : bit_and b 254 ≡ b / 2 % 128 * 2 = and_high b 7 1 in
-    let rest : bit_and v (mask / 2 ^ 8) ≡ blank / 2 ^ 8 = ap (λ x. bit_and x (mask / 2 ^ 8)) (sym high) ∙ sym (and_shr (v * 256 + b) mask 8) ∙ ap (λ x. x / 2 ^ 8) e in
+    let low = mod-mul-add v 256 b small in
+    let high = div-mul-add v 256 b small in
+    let both = sym z ∙ ap (λ x. x % 2 ^ 8) (sym e) ∙ and_mod (v * 256 + b) mask 8 ∙ ap (λ x. bit_and x (mask % 2 ^ 8)) low ∙ ap (bit_and b) m in
+    let high_bits = and_high b 7 1 in
+    let rest = ap (λ x. bit_and x (mask / 2 ^ 8)) (sym high) ∙ sym (and_shr (v * 256 + b) mask 8) ∙ ap (λ x. x / 2 ^ 8) e in
     ((omega (arith, both, high_bits, small), omega (arith, both, high_bits, small)), rest)
 
 -- a word of eight bytes
@@ -111,7 +111,7 @@ as_eight xs long = absurd (omega arith)
 -- eight pixels fill a byte
 byte_alone : (bits : List Bool) → length bits ≡ 8 → binary bits ≡ byte_at bits 0
 byte_alone bits long =
-    let power : 2 ^ length bits ≡ 256 = ap (λ n. 2 ^ n) long in
+    let power = ap (λ n. 2 ^ n) long in
     let small : binary bits < 256 = omega (arith, binary_small bits, power) in
     let alone : binary bits ≡ binary bits * 1 % 256 = omega (arith, small) in
     alone ∙ byte_shifted bits (binary bits) 8 refl long (omega arith)
@@ -121,7 +121,7 @@ pub eight_made : {w a b c d e f g h : ℕ} → IsWord w a b c d e f g h → bit_
     → MakeByte 8 (a ∷ b ∷ c ∷ d ∷ e ∷ f ∷ g ∷ h ∷ []) ((w - 0x3030303030303030) * 0x0102040810204080 % 2 ^ 64 / 2 ^ 56)
 eight_made {w} {a} {b} {c} {d} {e} {f} {g} {h} word same =
     let p = (are_eight word same).all in
-    let bits : List Bool = map (λ b. b == 49) (a ∷ b ∷ c ∷ d ∷ e ∷ f ∷ g ∷ h ∷ []) in
+    let bits = map (λ b. b == 49) (a ∷ b ∷ c ∷ d ∷ e ∷ f ∷ g ∷ h ∷ []) in
     let made = gather word (digit_over p.0) (digit_over p.1) (digit_over p.2) (digit_over p.3) (digit_over p.4) (digit_over p.5) (digit_over p.6) (digit_over p.7) in
     record {
       pixels = bits;

@@ -115,10 +115,10 @@ outcome Plain width bytes = plain width bytes
 row_outcome : (form : Form) (width : ℕ) (front rest : List ℕ) (row : List Bool) → IsRow form width front row → outcome form width (front ++ rest) ≡ Gives row rest
 row_outcome Raw width front rest row p =
     let n : ℕ = bytes_of_row width in
-    let whole : length front ≡ n = p.0 in
+    let whole = p.0 in
     let many : nat_lt (length (front ++ rest)) n ≡ false = (let l = length-append front rest in grind (arith, nat_tests)) in
     let first : take n (front ++ rest) ≡ front = take-append-le n front rest (omega arith) ∙ take_all n front (omega arith) in
-    let last : drop n (front ++ rest) ≡ rest = ap (λ m. drop m (front ++ rest)) (sym whole) ∙ drop-append_seam front rest in
+    let last = ap (λ m. drop m (front ++ rest)) (sym whole) ∙ drop-append_seam front rest in
     rw (many, first, last) (ap (λ r. Gives r rest) (sym p.1))
 row_outcome Plain width front rest row p = ap (λ n. plain n (front ++ rest)) (sym p.0) ∙ plain_gives row front rest p.1
 

@@ -26,7 +26,7 @@ top_bit k r small = ap (λ q. q % 2) (add-div_left r (pow_pos k)) ∙ odd (r / 2
 -- a bit below the highest
 low_bit : (k d r : ℕ) → bit_at (2 ^ (k + 1 + d) + r) k ≡ bit_at r k
 low_bit k d r =
-    let split : 2 ^ (k + 1 + d) ≡ 2 ^ k * (2 * 2 ^ d) = pow-add 2 (k + 1) d ∙ ap (λ p. p * 2 ^ d) (pow-add 2 k 1) ∙ mul_assoc (2 ^ k) 2 (2 ^ d) in
+    let split = pow-add 2 (k + 1) d ∙ ap (λ p. p * 2 ^ d) (pow-add 2 k 1) ∙ mul_assoc (2 ^ k) 2 (2 ^ d) in
     ap (λ n. (n + r) / 2 ^ k % 2) split ∙ ap (λ q. q % 2) (mul-add-div (pow_pos k) (2 * 2 ^ d) r) ∙ mul-add-mod_self_left 2 (2 ^ d) (r / 2 ^ k)
 
 pub binary_small : (bits : List Bool) → binary bits < 2 ^ length bits

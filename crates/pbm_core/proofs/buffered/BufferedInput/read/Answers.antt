@@ -13,7 +13,7 @@ returns g c =
     let at : ℕ = c.if-self.self.at in
     let end : ℕ = c.if-self.self.end in
     let count : ℕ = c.min-count.result in
-    let behind : InputView = g.R.Input.view c.if-self.self.input.now in
+    let behind = g.R.Input.view c.if-self.self.input.now in
     let kept : Keeps (prepend_known (bytes_between old.bytes old.at old.end) (view_behind old).remaining) (prepend_known (bytes_between bytes at end) behind.remaining) =
     elim c.if-self.branch [
       | then-self+in-Ok w ↦ rw w.self-is (keeps_refilled _ _ _ _ _ (none_held _ _ _ w.if-self.true) w.in-Ok.ensures.bytes.0)
