@@ -21,6 +21,6 @@ pub record Splits (bytes : List ℕ) (h : Fields) (body : Option (List ℕ)) : T
 pub splits : HeaderLaws → (bytes : List ℕ) (h : Fields) (body : Option (List ℕ)) → TakesHeader h (Some bytes) body → Splits bytes h body
 splits laws bytes h None takes = absurd takes.taken
 splits laws bytes h (Some rest) takes = record {
-  header_of = subst (λ l. HeaderOf l h) (sym takes.taken) (laws.stands takes.given rest h takes.header_of);
+  header_of = rw takes.taken (laws.stands takes.given rest h takes.header_of);
   body_is = ap Some (sym (ap (λ l. drop 20 l) takes.taken ∙ drop_at takes.given rest 20 takes.long));
 }

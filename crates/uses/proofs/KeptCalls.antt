@@ -64,10 +64,10 @@ module _ {old new : Between} {d d' : PieceDecoder} {window window' : Window} {pi
     bound = call.fed.bound;
     all = call.all;
     goes_on = goes_on progress.outcome refl;
-    done = λ height e text out rest k follows. subst (λ h. HoldsImage h ((text ++ piece) ++ rest) height out) stream_is ((call.fed.done height e).1 text out rest (has k) follows);
+    done = λ height e text out rest k follows. rw (← stream_is) ((call.fed.done height e).1 text out rest (has k) follows);
     broken = λ fault e text out rest k follows.
-        subst (λ n. HandsOut (fields_of old.header) ((text ++ piece) ++ rest) n fault out) (ap (λ n. n.height) (sym stored.numbers))
-        (subst (λ h. HandsOut h ((text ++ piece) ++ rest) d'.height fault out) stream_is (call.fed.broken fault e text out rest (has k) follows));
+        rw (← (ap (λ n. n.height) (sym stored.numbers)))
+        (rw (← stream_is) (call.fed.broken fault e text out rest (has k) follows));
   }
 
 -- before the first byte

@@ -99,7 +99,7 @@ module _ {old now : PieceView} {piece : List ℕ} {taken : ℕ} {held held' : Li
     longer = so_far.calls ++ call ∷ []
 
     made : WereMade old longer
-    made = made_append old so_far.calls (call ∷ []) so_far.made (subst (λ d. IsCall d call) so_far.after is, tt)
+    made = made_append old so_far.calls (call ∷ []) so_far.made (rw (← so_far.after) is, tt)
 
     after : call.new ≡ decoder_after old longer
     after = sym (after_append old so_far.calls (call ∷ []))
@@ -134,7 +134,7 @@ module _ {old now : PieceView} {piece : List ℕ} {taken : ℕ} {held held' : Li
       within = within;
       same = is.same ∙ so_far.same;
       goes_on = λ text out has.
-          subst (λ z. HasDecoded call.new z (out ++ flat_map row_given longer)) (taken_more text)
+          rw (← (taken_more text))
           (subst (HasDecoded call.new ((text ++ take taken piece) ++ bytes_taken call)) (rows out)
           (is.row e (text ++ take taken piece) (out ++ flat_map row_given so_far.calls) (so_far.goes_on text out has)));
     } where
@@ -152,11 +152,11 @@ module _ {old now : PieceView} {piece : List ℕ} {taken : ℕ} {held held' : Li
       ends = ends;
       within = within;
       goes_on = λ goes text out has.
-          subst (λ z. HasDecoded call.new z (out ++ flat_map row_given longer)) (taken_more text)
+          rw (← (taken_more text))
           (subst (HasDecoded call.new ((text ++ take taken piece) ++ bytes_taken call)) (rows out) ((told text out has).0 goes));
       tells = λ text out has.
           subst (λ (z : Fields). SaysOfRows z call.is_all call.new call.answer (text ++ piece) (out ++ flat_map row_given longer)) so_far.same
-          (subst (λ z. SaysOfRows (stream_of now) call.is_all call.new call.answer z (out ++ flat_map row_given longer)) (all_come text)
+          (rw (← (all_come text))
           (subst (SaysOfRows (stream_of now) call.is_all call.new call.answer ((text ++ take taken piece) ++ call.piece)) (rows out) (told text out has).1));
     } where
       none : (front : List ℕ) → (front ++ flat_map row_given so_far.calls) ++ [] ≡ front ++ flat_map row_given longer
@@ -176,8 +176,8 @@ module _ {old now : PieceView} {piece : List ℕ} {taken : ℕ} {held held' : Li
 tells_on : (h : Fields) (new : PieceView) (o : Outcome) (come more out : List ℕ) → SaysOfRows h false new o come out → o ≢ outcome.More → SaysOfRows h true new o (come ++ more) out
 tells_on h new outcome.Row come more out t other = tt
 tells_on h new outcome.More come more out t other = absurd (other refl)
-tells_on h new (outcome.Done height) come more out t other = λ rest _. subst (λ z. HoldsImage h z height out) (sym (append_assoc come more rest)) (t (more ++ rest) (λ e. cc))
-tells_on h new (outcome.Broken fault) come more out t other = λ rest _. subst (λ z. HandsOut h z new.height fault out) (sym (append_assoc come more rest)) (t (more ++ rest) (λ e. cc))
+tells_on h new (outcome.Done height) come more out t other = λ rest _. rw (append_assoc come more rest) (t (more ++ rest) (λ e. cc))
+tells_on h new (outcome.Broken fault) come more out t other = λ rest _. rw (append_assoc come more rest) (t (more ++ rest) (λ e. cc))
 
 -- the first piece was enough
 pub first_told : {old mid : PieceView} {first : List ℕ} {taken limit : ℕ} {answer : Outcome} {rows : Gathered} (second : List ℕ) →
@@ -190,7 +190,7 @@ first_told {old} {mid} {first} {answer = answer} second p other = record {
   full = λ e. (let all = p.full e in omega (arith, all));
   ends = other;
   tells = λ text out has.
-      subst (λ z. SaysOfRows (stream_of old) true mid answer z (out ++ flat_map row_given p.calls)) (append_assoc text first second)
+      rw (← (append_assoc text first second))
       (tells_on (stream_of old) mid answer (text ++ first) second (out ++ flat_map row_given p.calls) (p.tells text out has) other);
 }
 
@@ -199,7 +199,7 @@ abbrev joined : {old : PieceView} {whole : Call} {limit : ℕ} {held held' held'
     SomeRead whole.new (gathered held' held'') → SomeRead old (gathered held held'')
 joined {old} {held = held} p q = record {
   calls = p.calls ++ q.calls;
-  made = made_append old p.calls q.calls p.made (subst (λ d. WereMade d q.calls) p.after q.made);
+  made = made_append old p.calls q.calls p.made (rw (← p.after) q.made);
   appended = q.appended ∙ ap (λ z. z ++ flat_map row_given q.calls) p.appended ∙ rows_append held p.calls q.calls;
 }
 
@@ -224,7 +224,7 @@ second_told {old} {mid} {new} {first} {rest} {taken} {answer = answer} second p 
       ends = q.ends refl;
       tells = λ text out has.
           subst (λ (z : Fields). SaysOfRows z true new answer (text ++ (first ++ second)) (out ++ flat_map row_given (p.calls ++ q.calls))) same
-          (subst (λ z. SaysOfRows (stream_of mid) true new answer z (out ++ flat_map row_given (p.calls ++ q.calls))) (whole text)
+          (rw (← (whole text))
           (subst (SaysOfRows (stream_of mid) true new answer ((text ++ take taken first) ++ rest)) (rows_append out p.calls q.calls)
           (q.tells (text ++ take taken first) (out ++ flat_map row_given p.calls) (p.goes_on tt text out has))));
     }

@@ -111,8 +111,8 @@ given_by (Byte b ∷ answers) from to (x ∷ code) gives held closed bytes =
     let next = gives.1.step (x ∷ code) held in
     let same : b ≡ x = cc in
     let left = given_by answers gives.0 to code gives.2 next.1 closed bytes.1 in
-    record { rest = left.rest; is = subst (λ y. x ∷ code ≡ y ∷ bytes_of answers ++ left.rest) (sym same) (ap (λ l. x ∷ l) left.is); bytes = left.bytes; ended = left.ended }
-given_by (End ∷ answers) from to [] gives held closed bytes = record { rest = []; is = subst (λ l. [] ≡ bytes_of l ++ []) (sym closed) refl; bytes = tt; ended = λ e. refl }
+    record { rest = left.rest; is = rw same (ap (λ l. x ∷ l) left.is); bytes = left.bytes; ended = left.ended }
+given_by (End ∷ answers) from to [] gives held closed bytes = record { rest = []; is = rw closed refl; bytes = tt; ended = λ e. refl }
 given_by (End ∷ answers) from to (x ∷ code) gives held closed bytes =
     let next = gives.1.step (x ∷ code) held in
     absurd (let bot : ⊥ = cc in bot)
@@ -152,7 +152,7 @@ module _ (start_is_place : IsPlace start) (keep : EventsKeepPlace) (one_code : O
         rest = rw (one_left at) at leads
 
         lies : Lies code (step (at_place p learned) cx.number pixel).place
-        lies = (inverse (at_place p learned) (record { context = cx.number; pixel = pixel } ∷ []) later code place (subst (λ (s : State). IsCode s.place code) (sym rest) is_code)).0
+        lies = (inverse (at_place p learned) (record { context = cx.number; pixel = pixel } ∷ []) later code place (rw rest is_code)).0
 
         agrees : Agrees (answers ++ n.more) code
         agrees = given_by (answers ++ n.more) first to code gives held n.stands.closed is_code.bytes

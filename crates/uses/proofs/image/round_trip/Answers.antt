@@ -21,10 +21,10 @@ module _ (s : Settings) (first : List ℕ) (old new : Option (List ℕ)) where
   same_raster : OneImage → WrittenImageIsRead → (bytes : List ℕ) → WritesStream s bytes (Some []) (Some first) → WritesDenoted first old new → WritesRawForm bytes old new
   same_raster one_image is_read bytes read written = record { raster = read.raster; rest = read.rest; is = read.is; appends = appends; unchanged = unchanged } where
     same : read.raster ≡ written.raster
-    same = written.only read.raster (subst (λ text. Denotes text read.raster) (sym read.appends) read.denotes)
+    same = written.only read.raster (rw read.appends read.denotes)
 
     appends : Appends old new (pbm_text read.raster)
-    appends = subst (λ raster. Appends old new (pbm_text raster)) (sym same) written.appends
+    appends = rw same written.appends
 
     unchanged : IsRawForm bytes → Appends old new bytes
     unchanged raw =
@@ -34,8 +34,8 @@ module _ (s : Settings) (first : List ℕ) (old new : Option (List ℕ)) where
         let tall : length raster.rows ≤ 4294967295 = (let below = proper.height_to in omega (arith, below)) in
         let text : bytes ≡ pbm raster.width raster.rows ++ [] = raw.2 ∙ sym (append-nil (pbm raster.width raster.rows)) in
         let image = is_read raster.width raster.rows [] proper.width_from wide proper.height_from tall proper.rows in
-        let both = one_image bytes raster.width raster.rows [] read.raster.width read.raster.rows read.rest (subst (λ l. IsPbm l raster.width raster.rows []) (sym text) image) read.is in
-        subst (λ l. Appends old new l) (sym (raw.2 ∙ ap (λ w. pbm w raster.rows) both.widths ∙ ap (λ rows. pbm read.raster.width rows) both.all_rows)) appends
+        let both = one_image bytes raster.width raster.rows [] read.raster.width read.raster.rows read.rest (rw text image) read.is in
+        rw (raw.2 ∙ ap (λ w. pbm w raster.rows) both.widths ∙ ap (λ rows. pbm read.raster.width rows) both.all_rows) appends
 
   came_back : OneImage → WrittenImageIsRead → (known : Option (List ℕ)) {second : List ℕ} (answer : Result (Unit {0}) Fault) → second ≡ first →
       IfSome known (λ bytes. WritesStream s bytes (Some []) (Some first))
