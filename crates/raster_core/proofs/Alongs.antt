@@ -40,7 +40,7 @@ pub along_next : {S : Type 0} {pull : S → Pulled → S → Type 0} {b : ByteAr
     Along pull b old n past mid → Along pull b old (n + 1) past' to
 along_next {S} {pull} {b} {to = to} {n} {past' = past'} {cx} {pixel} few past_is context next along = record {
   any = λ from first s answers lines done so_far s2 a2.
-      let m = along.any from first s answers lines done so_far s2 a2 in
+      let m = along.any _ _ _ _ _ _ so_far s2 a2 in
       let row = done ++ m.pixels in
       let events = first ++ pixel_events b.mode (with_row lines row) b.offset in
       let at = registers_at lines b.offset n done m.pixels few m.count s2 a2 m.so_far.past_is in
@@ -65,7 +65,7 @@ pub along_stop : {S : Type 0} {pull : S → Pulled → S → Type 0} {b : ByteAr
     Along pull b old n past mid → StopsAlong pull b old all pause to
 along_stop few count_is past_is next along = record {
   any = λ from first s answers lines done so_far s2 a2.
-      let m = along.any from first s answers lines done so_far s2 a2 in
+      let m = along.any _ _ _ _ _ _ so_far s2 a2 in
       let t = decodes_stop m.so_far.decodes (next _ (answers ++ m.so_far.more) m.so_far.decodes.stands) in
       record { few = omega arith; pixels = m.pixels; many = m.count ∙ sym count_is; past_is = past_is ∙ m.so_far.past_is; more = t.0; stops = t.1 };
 }

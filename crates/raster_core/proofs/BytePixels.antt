@@ -18,7 +18,7 @@ pixel_in {byte} row x n h few =
 pub byte_shifted : (byte n : ℕ) → n < 8 → byte * 2 ^ n / 2 ^ 7 ≡ byte / 2 ^ (7 - n)
 byte_shifted byte n h =
     let back : n ≡ 7 - (7 - n) = omega arith in
-    ap (λ k. byte * 2 ^ k / 2 ^ 7) back ∙ (shifted_div byte (7 - n) 0 (omega arith) ∙ ap (λ k. byte / 2 ^ k) (add-zero (7 - n)))
+    ap (λ k. byte * 2 ^ k / 2 ^ 7) back ∙ (rw (shifted_div byte (7 - n) 0 (omega arith), add-zero (7 - n)) refl)
 
 pub bit_test : (b : Bool) (k : ℕ) → k ≡ bit b → nat_eq k 1 ≡ b
 bit_test true k h = rw h refl

@@ -87,8 +87,8 @@ pixel_events_front mode lines offset xs (y ∷ ys) =
     let r = pixel_events_front mode lines offset (xs ++ y ∷ []) ys in (
       record { context = context_at mode (with_row lines xs) offset (length xs); pixel = y } ∷ r.0,
       ap (λ row. pixel_events mode (with_row lines row) offset) (sym (append_assoc xs (y ∷ []) ys))
-          ∙ (r.1 ∙ (ap (λ es. es ++ r.0) (pixel_events_more mode lines offset xs y)
-          ∙ append_assoc (pixel_events mode (with_row lines xs) offset) (record { context = context_at mode (with_row lines xs) offset (length xs); pixel = y } ∷ []) r.0)),
+          ∙ (rw (r.1, pixel_events_more mode lines offset xs y)
+          (append_assoc (pixel_events mode (with_row lines xs) offset) (record { context = context_at mode (with_row lines xs) offset (length xs); pixel = y } ∷ []) r.0)),
     )
 
 -- ---- the pixels before

@@ -28,7 +28,7 @@ bit_of c r (suc l) k h few =
     let one : suc l ≡ 1 + l = omega arith in
     let parts : r % 2 ^ suc l ≡ (r / 2 ^ l % 2) * 2 ^ l + r % 2 ^ l = rw one (mod-pow-add r 1 l) in
     let twice = pow-suc 2 l in
-    let t = top_bit c (r / 2 ^ l % 2) (2 ^ l) (r % 2 ^ l) (omega arith) (mod-lt r (pow_pos l)) (sym parts ∙ (h ∙ ap (λ p. bit c * (p - 1)) twice)) in
+    let t = top_bit c (r / 2 ^ l % 2) (2 ^ l) (r % 2 ^ l) (omega arith) (mod-lt r (pow_pos l)) (rw (← parts, h, twice) refl) in
     elim (cases_lt k l) [
       | inl below ↦ bit_of c r l k t.1 below
       | inr at ↦ let e : l ≡ k = omega arith in rw (← e) t.0
@@ -47,7 +47,7 @@ part_left {row} {r} {x} {m} {l} {c} w is within h = record {
       let size : w ≡ (w - suc (m + k)) + suc (m + k) = omega arith in
       let one : r / 2 ^ (m + k) % 2 ≡ bit (pixel_left row x (suc (m + k))) = rw (is, size) (past_bit row x (w - suc (m + k)) (m + k)) in
       let two : r / 2 ^ m / 2 ^ k ≡ r / 2 ^ (m + k) = rw (div-div-eq-div-mul, ← pow-add) refl in
-      bit_same (pixel_left row x (suc (m + k))) c (sym one ∙ (ap (λ z. z % 2) (sym two) ∙ b));
+      bit_same (pixel_left row x (suc (m + k))) c (rw (← one, ← two) b);
 }
 
 -- a pixel among those before `top`
@@ -56,14 +56,14 @@ seen_left {row} {top} {m} h y k before from few =
     let d : ℕ = top - y in
     let at : y + d ≡ top = omega arith in
     let e : suc k + d ≡ suc (m + ((k + d) - m)) = omega arith in
-    sym (left_along row y (suc k) d) ∙ (ap (λ z. pixel_left row z (suc k + d)) at ∙ (ap (λ z. pixel_left row top z) e ∙ h.any ((k + d) - m) (omega arith)))
+    sym (left_along row y (suc k) d) ∙ (ap (λ z. pixel_left row z (suc k + d)) at ∙ (rw e (h.any ((k + d) - m) (omega arith))))
 
 pub seen_at : {row : List Bool} {top m l : ℕ} {c : Bool} → AreLeft row top m l c → (y : ℕ) → m + suc y ≤ top → top ≤ m + l + y → pixel_at row y ≡ c
 seen_at {row} {top} {m} h y from few =
     let d : ℕ = top - suc y in
     let at : y + suc d ≡ top = omega arith in
     let e : suc d ≡ suc (m + (d - m)) = omega arith in
-    sym (left_at row y (suc d)) ∙ (ap (λ z. pixel_left row z (suc d)) at ∙ (ap (λ z. pixel_left row top z) e ∙ h.any (d - m) (omega arith)))
+    sym (left_at row y (suc d)) ∙ (ap (λ z. pixel_left row z (suc d)) at ∙ (rw e (h.any (d - m) (omega arith))))
 
 -- a pixel of the row itself, where those from x on are of the colour, too
 row_left : {row : List Bool} {x m l : ℕ} {c : Bool} (j : ℕ) → AreLeft row x m l c → ((k : ℕ) → k < j → pixel_at row (x + k) ≡ c) → (k : ℕ) → (j ≤ k → m + j ≤ k) → k < (m + l) + j →

@@ -39,7 +39,7 @@ second_part {lines} {x = x} r =
     let place : x + (r.left + 2) ≡ (x + 2) + r.left = omega arith in
     let size : 17 ≡ ((14 - r.left) + 3) + r.left = omega arith in
     rw (r.second_is, shifted_div (before lines.second (x + (r.left + 2)) 17) r.left 0 r.few, add-zero r.left)
-    (part_of lines.second (x + 2) (14 - r.left) 3 r.left (ap (λ z. before lines.second z 17) place ∙ ap (λ k. before lines.second ((x + 2) + r.left) k) size))
+    (part_of lines.second (x + 2) (14 - r.left) 3 r.left (rw (place, size) refl))
 
 -- the pixels up to the second one to the right, in the row above
 above_part : {lines : Lines} {offset second above past x : ℕ} (l : ℕ) → AreAt lines offset second above past x → l ≤ 6 → above / 2 ^ 7 % 2 ^ l ≡ before lines.above (x + 3) l
@@ -57,7 +57,7 @@ above_next {lines} {x = x} l r h =
     let place : x + (r.left + 3) ≡ (x + 2) + (r.left + 1) = omega arith in
     let size : 18 ≡ (((17 - l) - r.left) + l) + (r.left + 1) = omega arith in
     rw (r.above_is, shifted_div (before lines.above (x + (r.left + 3)) 18) r.left 1 r.few)
-    (part_of lines.above (x + 2) ((17 - l) - r.left) l (r.left + 1) (ap (λ z. before lines.above z 18) place ∙ ap (λ k. before lines.above ((x + 2) + (r.left + 1)) k) size))
+    (part_of lines.above (x + 2) ((17 - l) - r.left) l (r.left + 1) (rw (place, size) refl))
 
 -- ---- the adaptive pixel
 

@@ -46,12 +46,12 @@ filled_none : (colour : Bool) → 0 ≡ filled colour 0
 filled_none true = refl
 filled_none false = refl
 
--- a byte more
+-- with one more byte
 filled_more : (colour : Bool) (k : ℕ) → filled colour k * 2 ^ 8 + bit colour * 255 ≡ filled colour (k + 8)
 filled_more true k = let p = pow-add 2 k 8 in let q = pow_pos k in omega arith
 filled_more false k = omega arith
 
--- the nearest of more
+-- the nearest l of d + l pixels
 filled_mod : (colour : Bool) (d l : ℕ) → filled colour (d + l) % 2 ^ l ≡ filled colour l
 filled_mod true d l =
     let p = pow-add 2 d l in
@@ -80,7 +80,7 @@ pub record IsFilled (colour : Bool) (row : List Bool) (i n : ℕ) : Type 0 where
   pub byte : (j : ℕ) → j < n → before row (8 * (i + j) + 8) 8 ≡ bit colour * 255
 
 pub is_filled : {colour : Bool} {row : List Bool} {bytes : List ℕ} {i n : ℕ} → IsIn row bytes → AreFilled colour bytes i n → IsFilled colour row i n
-is_filled {colour} {i = i} is fill = record { byte = λ j few. is.byte (i + j) ∙ (ap (λ z. z % 256) (fill j few) ∙ byte_small colour) }
+is_filled {colour} {i = i} is fill = record { byte = λ j few. rw (is.byte (i + j), fill j few) (byte_small colour) }
 
 -- pixels of a colour before a byte, and bytes of it from there on
 filled_on : {colour : Bool} {row : List Bool} {b : ℕ} (k n : ℕ) → IsFilled colour row b n → before row (8 * b) k ≡ filled colour k → before row (8 * (b + n)) (k + 8 * n) ≡ filled colour (k + 8 * n)

@@ -56,7 +56,7 @@ pub record AreOfColour (colour : Bool) (offset : ℕ) (b : BytesAt) : Type 0 whe
   pub above_is : b.above ≡ filled colour 24
   pub past_is : b.past ≡ filled colour (past_bits offset)
 
--- n bytes from byte i on got a colour, and those before them are unchanged
+-- n bytes from byte i on have a colour now, and those before them are unchanged
 pub record ArePainted (colour : Bool) (i n : ℕ) (old new : List ℕ) : Type 0 where
   pub filled : (k : ℕ) → i ≤ k → k < i + n → slice_index new k ≡ bit colour * 255
   pub kept : (k : ℕ) → k < i → slice_index new k ≡ slice_index old k
@@ -68,7 +68,7 @@ pub bytes_skipped : {S : Type 0} {pull : S → Pulled → S → Type 0} {a : Row
     BytesAlong pull a part width (bytes_at left (b.i + n) b.second b.above b.past current) (decoder_state mid.source d' mid.learned)
 bytes_skipped {a = a} {b = b} {colour = colour} n high left_is left_to some registers painted going skips along = record {
   any = λ from first s answers lines done₀ had so_far a_is s_is.
-      let f = along.any from first s answers lines done₀ had so_far a_is s_is in
+      let f = along.any _ _ _ _ _ _ had so_far a_is s_is in
       let i = b.i in
       let rest = f.rest in
       let wide : length f.done ≡ 8 * i = omega arith in
@@ -104,7 +104,7 @@ pub kept_along : {S : Type 0} {pull : S → Pulled → S → Type 0} {a : RowAro
     BytesAlong pull a part width (bytes_at b.left b.i b.second b.above b.past current) (decoder_state mid.source d' mid.learned)
 kept_along same kept along = record {
   any = λ from first s answers lines done₀ had so_far a_is s_is.
-      let f = along.any from first s answers lines done₀ had so_far a_is s_is in
+      let f = along.any _ _ _ _ _ _ had so_far a_is s_is in
       record {
         done = f.done;
         rest = f.rest;

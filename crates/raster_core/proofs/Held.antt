@@ -85,9 +85,8 @@ holds b small = record {
 pub holds_past : (b : RowByte) → b.byte < 256 → b.around.past ≡ before (byte_lines b).row 128 (past_bits b.around.template.offset)
 unfolding byte_lines
 holds_past b small =
-    sym (bits_early 128 8 (past_bits b.around.template.offset) (b.around.past * 256 + b.byte)
-    ∙ (ap (λ z. before (bits 128 z) 128 (past_bits b.around.template.offset)) own
-    ∙ (bits_before 128 (past_bits b.around.template.offset) b.around.past (most_past b.around.template.offset) ∙ mod-eq_of_lt b.around.past_fits)))
+    let w : ℕ = past_bits b.around.template.offset in
+    sym (rw (bits_early 128 8 w (b.around.past * 256 + b.byte), own, bits_before 128 w b.around.past (most_past b.around.template.offset)) (mod-eq_of_lt b.around.past_fits))
   where
     own : (b.around.past * 256 + b.byte) / 2 ^ 8 ≡ b.around.past
     own = omega arith
@@ -96,7 +95,7 @@ holds_past b small =
 pub pixel_of_byte : (b : RowByte) (j : ℕ) → b.byte < 256 → j < 8 → nat_eq (b.byte * 2 ^ j / 2 ^ 7 % 2) 1 ≡ pixel_at (byte_lines b).row (128 + j)
 pixel_of_byte b j small few =
     let held = holds b small in
-    bit_test _ _ (ap (λ z. z % 2) (byte_shifted b.byte j few) ∙ pixel_in (byte_lines b).row 128 j held.byte_is few)
+    bit_test _ _ (rw (byte_shifted b.byte j few) (pixel_in (byte_lines b).row 128 j held.byte_is few))
 
 -- ---- four pixels at once
 
@@ -174,5 +173,5 @@ pub pixel_next : {cx second above row past : ℕ} {two_line : Bool} (b : RowByte
 pixel_next {cx} {second} {above} {row} {past} {two_line} b j small few template s a r p context =
     let at : AreAt (byte_lines b) b.around.template.offset second above past (128 + j) = rw (s, a) (at_pixel b j small few p) in
     events_last b.around.template (byte_lines b) 128 j cx (nat_eq (row / 2 ^ 7 % 2) 1)
-    (context false (byte_lines b) (128 + j) at ∙ ap (λ t. context_at (record { two_line = t; typical = false }) (byte_lines b) b.around.template.offset (128 + j)) template)
-    (ap (λ z. nat_eq (z / 2 ^ 7 % 2) 1) r ∙ pixel_of_byte b j small few)
+    (rw (context false (byte_lines b) (128 + j) at, template) refl)
+    (rw r (pixel_of_byte b j small few))

@@ -63,7 +63,7 @@ pub record IsIn (row : List Bool) (bytes : List ℕ) : Type 0 where
   pub byte : (k : ℕ) → before row (8 * k + 8) 8 ≡ slice_index bytes k % 256
 
 pub packed_in : {row : List Bool} {bytes : List ℕ} → bytes ≡ packed_row row → IsIn row bytes
-packed_in {row} is = record { byte = λ k. sym (mod-eq_of_lt (before_lt row (8 * k + 8) 8)) ∙ ap (λ z. z % 256) (sym (packed_byte row k) ∙ ap (λ l. slice_index l k) (sym is)) }
+packed_in {row} is = record { byte = λ k. rw (← mod-eq_of_lt (before_lt row (8 * k + 8) 8), ← packed_byte row k, ← is) refl }
 
 -- ---- registers
 

@@ -1,6 +1,6 @@
 -- Rows in bytes, rows in words.
 use Rattle.std.proofs.Common.{◌≡◌, ℕ, zero, suc, ◌+◌, ◌-◌, ◌*◌, ◌/◌, ◌%◌, ◌^◌, ◌<◌, ◌≤◌, Bool, true, false, List, length, refl, sym, ◌∙◌, ap, arith, map, get_or, add-zero, inl, inr, lit<, zero-add}
-use Rattle.std.specs.Prelude.{bit_or, ◌==◌, if◌then◌else◌}
+use Rattle.std.specs.Prelude.{bit_or, ◌==◌}
 use Rattle.std.proofs.lemmas.Nat.{or_shifted, pow-add, div-mul-add}
 use Rattle.std.proofs.lemmas.Nat.Bits.{ones_shl}
 use Rattle.std.proofs.Math.Nat.{mod-eq_of_lt, pow-le-pow_right, pow-suc}
@@ -69,7 +69,7 @@ byte_led line place i b h lt e =
     here j =
         let e : 64 * place + 8 * i + j - 128 ≡ 8 * (8 * (place - 2) + i) + j = omega arith in
         let t = is_not_lt (64 * place + 8 * i + j) 128 (omega arith) in
-        ap (pixel_at line) (sym e) ∙ sym (ap (λ b. if b then false else pixel_at line (64 * place + 8 * i + j - 128)) t)
+        ap (pixel_at line) (sym e) ∙ sym (rw t refl)
 
 pub led_white : (line : List Bool) (place : ℕ) → place < 2 → 0 ≡ word (led line) (64 * place) 64
 led_white line place h = sym (white (led line) (64 * place) 64 (λ i lt. before (64 * place + i) (omega arith)))

@@ -28,12 +28,12 @@ led_left row y x lag e =
     elim (cases_lt x lag) [
       | inl lt ↦
           ap (λ b. if b then false else pixel_at row (y - 128)) (is_lt y 128 (omega arith))
-          ∙ sym (ap (λ b. if b then false else pixel_at row (x - lag)) (is_lt x lag lt))
+          ∙ sym (rw (is_lt x lag lt) refl)
       | inr le ↦
           let at : y - 128 ≡ x - lag = omega arith in
           ap (λ b. if b then false else pixel_at row (y - 128)) (is_not_lt y 128 (omega arith))
           ∙ ap (pixel_at row) at
-          ∙ sym (ap (λ b. if b then false else pixel_at row (x - lag)) (is_not_lt x lag le))
+          ∙ sym (rw (is_not_lt x lag le) refl)
     ]
 
 pub adaptive_left : (lines : Lines) (lag x : ℕ) → 1 ≤ lag → adaptive lines lag x ≡ pixel_left lines.row x lag
@@ -111,8 +111,8 @@ pub part_all : (lines : Lines) (width offset n : ℕ) → length lines.row ≡ w
     part_agreement lines width offset 0 n ≡ agreements offset lines
 unfolding part_agreement
 part_all lines width offset n e h =
-    let front = count_same f g 0 0 width (λ i lt. ap (λ b. b && g (0 + i)) (is_lt (0 + i) width (omega arith))) in
-    let back = count_none f (0 + width) (n - width) (λ i lt. ap (λ b. b && g (0 + width + i)) (is_not_lt (0 + width + i) width (omega arith))) in
+    let front = count_same f g 0 0 width (λ i lt. rw (is_lt (0 + i) width (omega arith)) refl) in
+    let back = count_none f (0 + width) (n - width) (λ i lt. rw (is_not_lt (0 + width + i) width (omega arith)) refl) in
     rw (whole n h, count_cat f 0 width (n - width), front, back, add-zero (count_by g (numbers_from 0 width)), ← e) refl
   where
     g : ℕ → Bool

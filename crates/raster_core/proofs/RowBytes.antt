@@ -1,5 +1,5 @@
 -- The bytes of a row, decoded one after another.
-use Rattle.std.proofs.Common.{◌≡◌, ◌≢◌, ℕ, ◌+◌, ◌-◌, ◌*◌, ◌/◌, ◌%◌, ◌^◌, ◌<◌, ◌≤◌, Bool, true, inl, inr, List, ◌++◌, length, sym, ◌∙◌, ap, arith, subst, get_or-set_other, get_or-set_same}
+use Rattle.std.proofs.Common.{◌≡◌, ◌≢◌, ℕ, ◌+◌, ◌-◌, ◌*◌, ◌/◌, ◌%◌, ◌^◌, ◌<◌, ◌≤◌, Bool, true, inl, inr, List, ◌++◌, length, sym, ◌∙◌, arith, get_or-set_other, get_or-set_same, refl}
 use Rattle.std.specs.Prelude.{slice_index, slice_set, min}
 use Rattle.std.specs.Int.{div_ceil}
 use Rattle.std.proofs.lemmas.Bool.{cases_lt}
@@ -39,13 +39,12 @@ pub bytes_next : {S : Type 0} {pull : S → Pulled → S → Type 0} {a : RowAro
     BytesAlong pull a part width (bytes_at (b.left - n) (b.i + 1) (next_around a b).second (next_around a b).above past' (slice_set b.current b.i byte)) to
 bytes_next {a = a} {n = n} {byte} {b = b} left_is inside within n_is byte_is along byte_along = record {
   any = λ from first s answers lines done₀ had so_far a_is s_is.
-      let f = along.any from first s answers lines done₀ had so_far a_is s_is in
+      let f = along.any _ _ _ _ _ _ had so_far a_is s_is in
       let r2 = register_in lines.second b.i s_is f.second_is in
       let r1 = register_in lines.above b.i a_is f.above_is in
       let rest = f.rest in
-      let at : 8 * (b.i + 1) + 8 ≡ length f.done + 16 = omega arith in
-      let m = byte_along.any from first s answers lines f.done f.so_far
-      (subst (λ z. (next_around a b).second ≡ before lines.second z 24) at r2) (subst (λ z. (next_around a b).above ≡ before lines.above z 24) at r1) in
+      let there : 8 * (b.i + 1) + 8 ≡ length f.done + 16 = omega arith in
+      let m = byte_along.any _ _ _ _ _ _ f.so_far (rw there at r2) (rw there at r1) in
       let count = m.count in
       let long = length-append f.done m.pixels in
       let here : byte ≡ before (f.done ++ m.pixels) (8 * b.i + 8) 8 = byte_is ∙ byte_out (f.done ++ m.pixels) a.offset b.i n m.so_far.past_is (omega arith) (omega arith) in
@@ -66,13 +65,12 @@ pub bytes_stop : {S : Type 0} {pull : S → Pulled → S → Type 0} {a : RowAro
     RowStops pull a part width (record { place = place; current = b.current; state = to })
 bytes_stop {a = a} {b = b} n left_is inside n_is begun_is done_is past_is along stops = record {
   any = λ from first s answers lines done₀ had so_far a_is s_is.
-      let f = along.any from first s answers lines done₀ had so_far a_is s_is in
+      let f = along.any _ _ _ _ _ _ had so_far a_is s_is in
       let r2 = register_in lines.second b.i s_is f.second_is in
       let r1 = register_in lines.above b.i a_is f.above_is in
       let rest = f.rest in
-      let at : 8 * (b.i + 1) + 8 ≡ length f.done + 16 = omega arith in
-      let m = stops.any from first s answers lines f.done f.so_far
-      (subst (λ z. (next_around a b).second ≡ before lines.second z 24) at r2) (subst (λ z. (next_around a b).above ≡ before lines.above z 24) at r1) in
+      let there : 8 * (b.i + 1) + 8 ≡ length f.done + 16 = omega arith in
+      let m = stops.any _ _ _ _ _ _ f.so_far (rw there at r2) (rw there at r1) in
       let few = m.few in
       let many = m.many in
       let long = length-append f.done m.pixels in
@@ -106,7 +104,7 @@ byte_ended {a = a} {part} {n = n} {byte} round begun few inside byte_is done_is 
   any = λ from first s answers lines done had so_far a_is s_is.
       let count = had.count in
       let x = part.place.done in
-      let m = along.any from first s answers lines done so_far (rw (← count) (round.second_is lines.second s_is)) (rw (← count) (round.above_is lines.above a_is)) in
+      let m = along.any _ _ _ _ _ _ so_far (rw (← count) (round.second_is lines.second s_is)) (rw (← count) (round.above_is lines.above a_is)) in
       let long = length-append done m.pixels in
       let many = m.count in
       let i : ℕ = x / 8 in
@@ -132,7 +130,7 @@ pub byte_stopped : {S : Type 0} {pull : S → Pulled → S → Type 0} {a : RowA
 byte_stopped round few within begun_is done_is past_is stops = record {
   any = λ from first s answers lines done had so_far a_is s_is.
       let count = had.count in
-      let m = stops.any from first s answers lines done so_far (rw (← count) (round.second_is lines.second s_is)) (rw (← count) (round.above_is lines.above a_is)) in
+      let m = stops.any _ _ _ _ _ _ so_far (rw (← count) (round.second_is lines.second s_is)) (rw (← count) (round.above_is lines.above a_is)) in
       let long = length-append done m.pixels in
       let many = m.many in
       let less = m.few in
@@ -155,12 +153,12 @@ pub ended_row : {S : Type 0} {pull : S → Pulled → S → Type 0} {a : RowArou
     ByteEnds pull a part part' → RowAlong pull a part width part'.current part'.state
 ended_row {part' = part'} all long ends = record {
   any = λ from first s answers lines done had so_far a_is s_is.
-      let e = ends.any from first s answers lines done had so_far a_is s_is in
+      let e = ends.any _ _ _ _ _ _ had so_far a_is s_is in
       let wide = sym e.count ∙ all in
       record {
         row = e.done;
         wide = wide;
-        packed = packed_is e.done part'.current (long ∙ ap (λ w. div_ceil w 8) (sym wide)) (λ k h. e.bytes k (omega arith));
+        packed = packed_is e.done part'.current (rw (long, ← wide) refl) (λ k h. e.bytes k (omega arith));
         more = e.so_far.more;
         decodes = e.so_far.decodes;
       };
@@ -175,7 +173,7 @@ pub then_row : {S : Type 0} {pull : S → Pulled → S → Type 0} {a : RowAroun
     ByteEnds pull a part part' → FromPixels pull a part' Leaves → FromPixels pull a part Leaves
 then_row {a = a} {part' = part'} ends then = record {
   any = λ from first s answers lines done had so_far a_is s_is.
-      let e = ends.any from first s answers lines done had so_far a_is s_is in
+      let e = ends.any _ _ _ _ _ _ had so_far a_is s_is in
       then.any from first s answers lines e.done (ended_held a.offset part'.place part'.current e.done e.count e.so_far.past_is e.bytes) e.so_far a_is s_is;
 }
 
@@ -184,14 +182,14 @@ pub bytes_all : {S : Type 0} {pull : S → Pulled → S → Type 0} {a : RowArou
     BytesAlong pull a part width b to → RowAlong pull a part width b.current to
 bytes_all {width = width} {b} left_is long all along = record {
   any = λ from first s answers lines done₀ had so_far a_is s_is.
-      let f = along.any from first s answers lines done₀ had so_far a_is s_is in
+      let f = along.any _ _ _ _ _ _ had so_far a_is s_is in
       let rest = f.rest in
       let none : b.left ≡ 0 = omega arith in
       let wide : length f.done ≡ width = omega arith in
       record {
         row = f.done;
         wide = wide;
-        packed = packed_is f.done b.current (long ∙ ap (λ w. div_ceil w 8) (sym wide)) (λ k h. f.bytes k (omega arith));
+        packed = packed_is f.done b.current (rw (long, ← wide) refl) (λ k h. f.bytes k (omega arith));
         more = f.so_far.more;
         decodes = f.so_far.decodes;
       };

@@ -104,7 +104,7 @@ coded_are typical template rows lines previous flag w =
 
 pub first_is : (mode : Mode) (previous flag : Bool) (cx : ℕ) (pixel : Bool) → mode.typical ≡ true → cx ≡ pseudo_context mode.two_line → pixel ≡ same previous flag →
     record { context = cx; pixel = pixel } ∷ [] ≡ first_events mode previous flag
-first_is mode previous flag cx pixel typical number is = rw typical (ap (λ e. e ∷ []) (event_is cx _ pixel _ number is))
+first_is mode previous flag cx pixel typical number is = rw typical (rw (event_is cx _ pixel _ number is) refl)
 
 pub first_is_none : (mode : Mode) (previous flag : Bool) → mode.typical ≡ false → [] ≡ first_events mode previous flag
 first_is_none mode previous flag plain = rw plain refl

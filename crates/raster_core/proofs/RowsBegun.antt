@@ -1,4 +1,4 @@
--- A row of which nothing, or a part, is decoded.
+-- A row that is not decoded yet, or only in part.
 use Rattle.std.proofs.Common.{◌≡◌, Bool, true, false, List, [], refl, sym, ◌∙◌, arith}
 use Rattle.std.specs.Prelude.{not}
 use Rattle.std.proofs.lemmas.List.{append-nil}
@@ -18,7 +18,7 @@ use Rattle.raster_core.proofs.SkipsAlong.{not_stopped}
 pub both : {A : Type 0} (b : Bool) → b ≡ false → b ≡ true → A
 both b e f = absurd (let e = sym e ∙ f in let bot : ⊥ = cc in bot)
 
--- whether some of them are decoded or not
+-- by cases on whether some pixels of a row are decoded
 pub by_begun : (b : Bool) (P : Type 0) → (b ≡ true → P) → (b ≡ false → P) → P
 by_begun true P yes' no' = yes' refl
 by_begun false P yes' no' = no' refl
@@ -31,7 +31,7 @@ pub not_false : (b : Bool) → not b ≡ false → b ≡ true
 not_false true h = refl
 not_false false h = cc
 
--- a row before which its source stood so
+-- nothing of a row is decoded yet
 pub fresh_row : {task : RowTask} {place : RowPlace} {answers : List Pulled} {w : Held} {d : Decoder} → IsRowStart place → DecoderIsAt d task.state.place answers → HasAbove w task.lines →
     StandsInRow task place answers w task.state.learned d
 fresh_row {place = place} start stands above =
@@ -49,7 +49,7 @@ begin_pixels {task = task} start typical f =
       typical = λ e. (typical e, rw e at f);
     }
 
--- some of them are decoded
+-- some pixels of a row are decoded
 pub begun_pixels : {S : Type 0} {pull : S → Pulled → S → Type 0} {task : RowTask} {place : RowPlace} {answers : List Pulled} {window : Held} {new : DecoderState S} →
     has_stopped new.decoder ≡ false → StandsInPixels task place answers window new.learned new.decoder → RowBegins (source_at pull new.source answers) task place window false new
 begun_pixels {answers = answers} going h =

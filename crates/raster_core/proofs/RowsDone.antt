@@ -82,7 +82,7 @@ stop_pixels lie apart {task = task} {place = place} above f =
 
 -- ---- the row is decoded
 
--- what is known of a run of a row's events
+-- all events of a row were decoded
 row_is : AnswersLie → {S : Type 0} {old : SourceAt S} {task : RowTask} {left : RowLeft} {more : List Pulled} {new : DecoderState S} (row : List Bool) (flag : Bool) →
     length row ≡ task.shape.width → IsLegalFlag (shape_mode task.shape) (with_row task.lines row) flag → HasLines left.window (with_row task.lines row) →
     left.kept.offset ≡ task.kept.offset → left.kept.previous_typical ≡ flag → Decodes old task.state more (task_events task row flag) new →

@@ -112,7 +112,7 @@ same_to b lines i (suc n) small at past few =
     let near : (128 + n) + 1 ≡ 128 + suc n = omega arith in
     let far : (8 * i + n) + 1 ≡ 8 * i + suc n = omega arith in
     let there : nat_eq (b.byte * 2 ^ n / 2 ^ 7 % 2) 1 ≡ pixel_at lines.row (8 * i + n) =
-    bit_test _ _ (ap (λ z. z % 2) (byte_shifted b.byte n (omega arith)) ∙ pixel_in lines.row (8 * i) n at.byte_is (omega arith)) in
+    bit_test _ _ (rw (byte_shifted b.byte n (omega arith)) (pixel_in lines.row (8 * i) n at.byte_is (omega arith))) in
     let pixel : pixel_at own (128 + n) ≡ pixel_at lines.row (8 * i + n) = sym (pixel_of_byte b n small (omega arith)) ∙ there in
     let one_more : before own ((128 + n) + 1) w ≡ before lines.row ((8 * i + n) + 1) w =
     rw (← past_on own b.around.template.offset (128 + n) refl, pixel) (past_on lines.row b.around.template.offset (8 * i + n) m.past) in
@@ -127,7 +127,7 @@ same_to b lines i (suc n) small at past few =
 
 pub same_events : {b : RowByte} {template : Template} {lines : Lines} {i : ℕ} (n : ℕ) → b.byte < 256 → IsByte b template lines i → n ≤ 8 → byte_events b n ≡ events_from template lines (8 * i) n
 same_events {b} {lines = lines} {i} n small is few =
-    let s = same_to b lines i n small is.at (is.past_is ∙ ap (λ t. before lines.row (8 * i) (past_bits t.offset)) (sym is.template_is)) few in
+    let s = same_to b lines i n small is.at (rw (is.past_is, ← is.template_is) refl) few in
     rw (s.events, is.template_is) refl
 
 -- ---- bytes of a colour

@@ -1,5 +1,5 @@
 -- The end of a run of bytes of one colour.
-use Rattle.std.proofs.Common.{◌≡◌, ℕ, ◌+◌, ◌*◌, ◌<◌, ◌≤◌, Bool, true, false, List, length, sym, ◌∙◌, ap, arith, subst}
+use Rattle.std.proofs.Common.{◌≡◌, ℕ, ◌+◌, ◌*◌, ◌<◌, ◌≤◌, Bool, true, false, List, length, sym, ◌∙◌, ap, arith, subst, refl}
 use Rattle.std.specs.Prelude.{slice_index}
 use Rattle.std.specs.Int.{div_ceil}
 use Rattle.qm_core.specs.Place.{Place}
@@ -65,7 +65,7 @@ pub ends_other : {S : Type 0} {colour : Bool} {a : Around} {rows : Rows} {i : �
 ends_other {rows = rows} {i} other only =
     let here : i + 0 ≡ i = omega arith in
     no_word (λ more uniform.
-    absurd (other (ap (λ k. slice_index rows.current.now k) (sym here) ∙ (uniform.row_filled 0 (omega arith) ∙ ap (λ k. bit k * 255) (sym (colour_is only))))))
+    absurd (other (rw (← here, uniform.row_filled 0 (omega arith), ← colour_is only) refl)))
 
 -- what is remembered is not of one colour
 pub ends_mixed : {S : Type 0} {colour : Bool} {a : Around} {rows : Rows} {i : ℕ} {c : Coder S} {result : Bool} →

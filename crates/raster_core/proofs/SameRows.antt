@@ -21,7 +21,7 @@ pixel_of row x =
 
 pub packed_same : (a b : List Bool) → length a ≡ length b → packed_row a ≡ packed_row b → a ≡ b
 packed_same a b l h =
-    ext_get_or false a b l (λ x k. bit_same (pixel_at a x) (pixel_at b x) (sym (pixel_of a x) ∙ (ap (λ p. slice_index p (x / 8) / 2 ^ (7 - x % 8) % 2) h ∙ pixel_of b x)))
+    ext_get_or false a b l (λ x k. bit_same (pixel_at a x) (pixel_at b x) (rw (← pixel_of a x, h) (pixel_of b x)))
 
 pub same_row_self : (row : List Bool) → same_row row row ≡ true
 same_row_self [] = refl

@@ -28,7 +28,7 @@ past_run {past} row offset x p b =
 -- the pixels of a byte of one colour
 pub own_pixels : (row : List Bool) (byte x : ℕ) (c : Bool) → byte ≡ bit c * 255 → byte ≡ before row (x + 8) 8 → (k : ℕ) → k < 8 → pixel_at row (x + k) ≡ c
 own_pixels row byte x c colour is k few =
-    let all : AreLeft row (x + 8) 0 8 c = part_left 8 is (omega arith) (ap (λ z. z / 2 ^ 0 % 256) colour ∙ small c) in
+    let all : AreLeft row (x + 8) 0 8 c = part_left 8 is (omega arith) (rw colour (small c)) in
     seen_at all (x + k) (omega arith) (omega arith)
   where
     small : (c : Bool) → bit c * 255 / 2 ^ 0 % 256 ≡ bit c * 255

@@ -24,7 +24,7 @@ none_at x t g e f = let none : (x + 0 * g) % 2 ^ 64 ≡ 0 = omega arith in rw f 
 
 pub none_counted : (t : Tally) (width current : ℕ) → t.rows ≡ 0 → t.agreeing ≡ 0 → t.times ≡ 0 → t.counts ≡ replicate 128 0 → KeepsCounts t.last → CountsLines t width current []
 none_counted t width current no_rows none_agreeing no_times no_counts kept =
-    let none : (lag : ℕ) → counted_at t lag ≡ 0 = λ lag. none_at (get_or t.counts lag 0) t.times (get_or t.last.agreed lag 0) (ap (λ c. get_or c lag 0) no_counts ∙ zeros 128 lag) no_times in
+    let none : (lag : ℕ) → counted_at t lag ≡ 0 = λ lag. none_at (get_or t.counts lag 0) t.times (get_or t.last.agreed lag 0) (rw no_counts (zeros 128 lag)) no_times in
     record { number = no_rows; width_is = λ h. absurd (omega arith); wide = tt; none = λ _. none; each = λ lag _ _. none lag; agreeing = none_agreeing; kept = kept }
 
 -- ---- a row more
@@ -33,7 +33,7 @@ none_counted t width current no_rows none_agreeing no_times no_counts kept =
 pub once_more : (c t g : ℕ) → (c + (t + 1) % 2 ^ 64 * g) % 2 ^ 64 ≡ ((c + t * g) % 2 ^ 64 + g) % 2 ^ 64
 once_more c t g =
     let sum = add-mul t 1 g in
-    folded ((t + 1) % 2 ^ 64 * g) (t * g) (mul-mod_first (t + 1) g (2 ^ 64) ∙ ap (λ x. x % 2 ^ 64) sum)
+    folded ((t + 1) % 2 ^ 64 * g) (t * g) (rw (mul-mod_first (t + 1) g (2 ^ 64), sum) refl)
   where
     folded : (x y : ℕ) → x % 2 ^ 64 ≡ (y + 1 * g) % 2 ^ 64 → (c + x) % 2 ^ 64 ≡ ((c + y) % 2 ^ 64 + g) % 2 ^ 64
     folded x y e = omega arith

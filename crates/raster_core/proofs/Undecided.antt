@@ -41,7 +41,7 @@ parting (x ∷ xs) (y ∷ ys) h =
       | inr ne ↦ parts [] x y xs ys ne refl refl
     ]
 
--- the event of a row's pixel, and those behind it
+-- the events of a row, split at a pixel
 events_through : (row : PlainRow) (xs : List Bool) (b : Bool) (rest : List Bool) → (more : List Event) ×
     (events_up_to row (xs ++ b ∷ rest) ≡ events_up_to row xs ++ record { context = context_at row.mode (with_row row.lines xs) row.offset (length xs); pixel = b } ∷ more)
 events_through row xs b rest =
@@ -55,11 +55,11 @@ enough_later : (xs ys : List Event) (n : ℕ) (s : State) → AreEnough n s (xs 
 enough_later [] ys n s h = h
 enough_later (e ∷ xs) ys n s h = enough_later xs ys n (step s e.context e.pixel) h.1
 
--- the bytes that came agree with the answers
+-- the bytes in the answers agree with them
 agrees_bytes : (answers : List Pulled) → Agrees answers (bytes_of answers)
 agrees_bytes answers = record { rest = []; is = sym (append-nil (bytes_of answers)); bytes = tt; ended = λ _. refl }
 
--- A row that begins otherwise has no events that keep the bytes inside; one that continues needs more of them.
+-- A row that differs from the decoded pixels leaves the interval of the bytes; one that continues them needs more bytes.
 short_row : PartForever → {S : Type 0} {old : SourceAt S} {row : PlainRow} {width : ℕ} {part : RowPart S} (f : RowPaused old row width part) → IsPlace row.state.place →
     Lies (bytes_of (old.answers ++ f.more)) (after row.state (events_up_to row f.done)).place → (all : List Bool) → length all ≡ width →
     Lies (bytes_of (old.answers ++ f.more)) (after row.state (events_up_to row all)).place → AreEnough (length (bytes_of (old.answers ++ f.more))) row.state (events_up_to row all) → ⊥

@@ -1,5 +1,4 @@
-use Rattle.std.proofs.Common.{◌≡◌, ℕ, ◌+◌, ◌-◌, ◌*◌, ◌/◌, ◌%◌, ◌^◌, ◌<◌, ◌≤◌, ◌≢◌, ◌∙◌, ap, arith, get_or, set, List, length, ◌⊎◌, inl, inr, get_or-set_other, get_or-set_same, length-set, refl}
-use Rattle.std.specs.Prelude.{bit_or}
+use Rattle.std.proofs.Common.{◌≡◌, ℕ, ◌+◌, ◌-◌, ◌/◌, ◌^◌, ◌<◌, ◌≤◌, ◌≢◌, ◌∙◌, ap, arith, get_or, set, List, length, ◌⊎◌, inl, inr, get_or-set_other, get_or-set_same, length-set, refl}
 use Rattle.raster_core.specs.Machine.Words.{word}
 use Rattle.raster_core.proofs.Choosing.{le_cases}
 use Rattle.raster_core.proofs.Shifts.{second_part, far_next, near_next}
@@ -42,14 +41,9 @@ loop-lag-preserved c =
       none = λ h. absurd (omega (arith, h, begin, c.loop-lag-test.true));
       long = length-set xs k v ∙ c.loop-lag.invariant.long;
       near = λ p place e f.
-          ap (λ x. bit_or (x * 2 ^ 63 % 2 ^ 64) (c.loop-lag.near / 2 ^ 1)) (c.loop-lag.invariant.far p place e)
-          ∙ ap (λ x. bit_or (word p place (64 - d) * 2 ^ 63 % 2 ^ 64) (x / 2 ^ 1)) (c.loop-lag.invariant.near p place e f)
-          ∙ near_next p place d small
-          ∙ ap (λ s. word p (place + 64 - s) 64) (next_shift c.args.shift c.args.from k begin);
+          rw (c.loop-lag.invariant.far p place e, c.loop-lag.invariant.near p place e f, near_next p place d small, next_shift c.args.shift c.args.from k begin) refl;
       far = λ p place e.
-          ap (λ x. x / 2) (c.loop-lag.invariant.far p place e)
-          ∙ far_next p place d small
-          ∙ ap (λ s. word p place (64 - s)) (next_shift c.args.shift c.args.from k begin);
+          rw (c.loop-lag.invariant.far p place e, far_next p place d small, next_shift c.args.shift c.args.from k begin) refl;
       done = λ p m place a q e f g h j from below.
           elim (le_cases j k (omega arith)) [
             | inr lt ↦ same_else xs k v j (λ eq. omega arith) ∙ c.loop-lag.invariant.done p m place a q e f g h j from lt

@@ -1,5 +1,5 @@
 use Rattle.std.proofs.Common.{◌≡◌, ℕ, ◌+◌, ◌-◌, ◌∙◌, ap, arith, get_or, inl, inr, lit≤, refl}
-use Rattle.raster_core.specs.Machine.Words.{word, agreed_from, pixels_from}
+use Rattle.raster_core.specs.Machine.Words.{agreed_from, pixels_from}
 use Rattle.raster_core.proofs.Evens.{even_agreed}
 use Rattle.std.proofs.lemmas.Bool.{cases_lt}
 use Rattle.raster_core.proofs.agreement.add_word.Goals as goal
@@ -19,7 +19,7 @@ none_more x y e = omega arith
 pub returns-then-end-le64-clause-counts : goal.returns-then-end-le64-clause-counts
 returns-then-end-le64-clause-counts d p m place c second before one mask lag from to =
     none_more _ _ (
-    d.add_lags.ensures.counts p m (place + 64) (place + 128) c before (one ∙ ap (λ x. word p x 64) (beside place)) one mask lag from (omega arith)
+    d.add_lags.ensures.counts p m (place + 64) (place + 128) c before (rw (one, beside place) refl) one mask lag from (omega arith)
     ∙ ap (λ x. get_or d.args.counts.now lag 0 + agreed_from (pixels_from p (place + 128)) (pixels_from p x) (pixels_from m c) 64) (near place d.args.least lag))
 
 pub returns-else-end-le64-clause-counts : goal.returns-else-end-le64-clause-counts

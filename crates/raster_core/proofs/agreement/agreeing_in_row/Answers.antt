@@ -1,5 +1,4 @@
-use Rattle.std.proofs.Common.{ℕ, ◌*◌, ◌∙◌, sym, ap, arith, refl}
-use Rattle.raster_core.specs.Machine.Words.{word, led}
+use Rattle.std.proofs.Common.{ℕ, sym, arith, refl}
 use Rattle.raster_core.proofs.Packs.{led_white}
 use Rattle.raster_core.proofs.Parts.{part_none, part_next, first_place, second_place, third_place}
 use Rattle.raster_core.proofs.agreement.agreeing_in_row.Goals as goal
@@ -17,14 +16,14 @@ loop-k-preserved c =
     let k : ℕ = c.loop-k.k in
     record {
       second = c.loop-k.invariant.before;
-      before = λ line e. c.word_at-word.ensures line e ∙ ap (λ x. word (led line) (64 * x) 64) (third_place k);
+      before = λ line e. rw (c.word_at-word.ensures line e, third_place k) refl;
       agreeing = λ lines e f.
           part_next lines c.args.width c.args.offset k
           (c.loop-k.invariant.agreeing lines e f) refl
           (c.agreeing_in_word-agreeing.ensures.agreed lines c.args.width f
           (c.loop-k.invariant.second lines.row e)
-          (c.loop-k.invariant.before lines.row e ∙ ap (λ x. word (led lines.row) x 64) (first_place k))
-          (c.word_at-word.ensures lines.row e ∙ ap (λ x. word (led lines.row) x 64) (second_place k))
+          (rw (c.loop-k.invariant.before lines.row e, first_place k) refl)
+          (rw (c.word_at-word.ensures lines.row e, second_place k) refl)
           c.mask_at-mask.ensures);
       room = omega arith;
     }

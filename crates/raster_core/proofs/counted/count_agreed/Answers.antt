@@ -1,5 +1,5 @@
-use Rattle.std.proofs.Common.{◌≡◌, ℕ, ◌+◌, ◌*◌, ◌≤◌, ◌∙◌, ap, arith}
-use Rattle.raster_core.specs.Machine.Words.{word, led, is_within}
+use Rattle.std.proofs.Common.{◌≡◌, ℕ, ◌+◌, ◌*◌, ◌≤◌, arith, refl}
+use Rattle.raster_core.specs.Machine.Words.{led, is_within}
 use Rattle.raster_core.proofs.Choosing.{zeros}
 use Rattle.raster_core.proofs.Packs.{led_white}
 use Rattle.raster_core.proofs.Parts.{row_part, part_none, part_next, first_place, second_place, third_place}
@@ -21,15 +21,15 @@ loop-k-preserved c =
     let k : ℕ = c.loop-k.k in
     record {
       second = c.loop-k.invariant.before;
-      before = λ line e. c.word_at-word.ensures line e ∙ ap (λ x. word (led line) (64 * x) 64) (third_place k);
+      before = λ line e. rw (c.word_at-word.ensures line e, third_place k) refl;
       counts = λ lines e lag from to.
           let high : lag ≤ 127 = omega (arith, to, c.requires.most) in
           part_next lines c.args.width lag k
           (c.loop-k.invariant.counts lines e lag from to)
           (beside_alike _ _ _ _ _ (c.add_word-alike.ensures.counts (led lines.row) (is_within c.args.width) (64 * k) (64 * k)
           (c.loop-k.invariant.second lines.row e)
-          (c.loop-k.invariant.before lines.row e ∙ ap (λ x. word (led lines.row) x 64) (first_place k))
-          (c.word_at-word.ensures lines.row e ∙ ap (λ x. word (led lines.row) x 64) (second_place k))
+          (rw (c.loop-k.invariant.before lines.row e, first_place k) refl)
+          (rw (c.word_at-word.ensures lines.row e, second_place k) refl)
           c.mask_at-mask.ensures lag from to))
           (row_part lines c.args.width lag k 64 (omega (arith, c.requires.least, from)) high);
       room = λ lag. omega (arith, c.add_word-alike.ensures.room lag, c.loop-k.invariant.room lag);

@@ -1,5 +1,4 @@
-use Rattle.std.proofs.Common.{◌≡◌, refl, ap, rules}
-use Rattle.raster_core.specs.Packed.{rows_at}
+use Rattle.std.proofs.Common.{◌≡◌, refl, rules}
 use Rattle.raster_core.proofs.RowsDone.{same_goes, passes}
 use Rattle.raster_core.proofs.decode.go_on_row.Goals as goal
 
@@ -10,5 +9,5 @@ returns-else-is_ok-clause-row g c = λ s answers lines h.
     let l : c.learned-1.given.0 ≡ c.decode_at-outcome.new.reader.learned.now = search rules in
     rw (to, d, l)
     (passes (λ _. refl) c.resume.ensures.unchanged c.decode_at-outcome.ensures.reads.0.1 c.resume.ensures.stands
-    (same_goes (ap (λ n. rows_at c.args.window.now.place n c.args.window.now.rows.now) c.requires.row.1) (ap (λ n. rows_at c.args.window.now.place n c.decode_at-outcome.new.rows) c.requires.row.1)
+    (same_goes (rw (c.requires.row.1) refl) (rw (c.requires.row.1) refl)
     (c.decode_at-outcome.ensures.row s answers lines) h))

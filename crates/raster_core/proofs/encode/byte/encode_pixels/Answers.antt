@@ -1,4 +1,4 @@
-use Rattle.std.proofs.Common.{◌+◌, ◌/◌, ◌%◌, ◌^◌, ◌<◌, arith, refl, sym, ◌∙◌, ap, nat_eq}
+use Rattle.std.proofs.Common.{◌+◌, ◌<◌, arith, refl, sym, ◌∙◌}
 use Rattle.raster_core.specs.Machine.Bytes.{byte_lines}
 use Rattle.raster_core.proofs.Before.{begins, goes_on, grows}
 use Rattle.raster_core.proofs.EventLists.{events_none, events_rest}
@@ -46,7 +46,7 @@ loop-j-preserved g c =
       above = goes_on _ _ _ c.loop-j.invariant.above;
       row = goes_on _ _ _ c.loop-j.invariant.row;
       past = past_more c.args.byte c.loop-j._j c.loop-j.invariant.past (c.past_and-past.ensures c.args.byte.around.template.offset c.requires.template.moved_is)
-          (ap (λ z. nat_eq (z / 2 ^ 7 % 2) 1) c.loop-j.invariant.row ∙ pixel_of_byte c.args.byte c.loop-j._j small (omega arith));
+          (rw (c.loop-j.invariant.row) (pixel_of_byte c.args.byte c.loop-j._j small (omega arith)));
       second_small = grows _ _ _ c.loop-j.invariant.second_small;
       above_small = grows _ _ _ c.loop-j.invariant.above_small;
       row_small = grows _ _ _ c.loop-j.invariant.row_small;

@@ -32,7 +32,7 @@ words-preserved g c =
       some = omega arith;
       uniform = uniform_more c.words.at c.words.invariant.from c.words.invariant.uniform
           (c.is_all.ensures.filled c.if-is_all.true) (c.is_all_above.ensures.above c.words-test.true) (c.is_all_above.ensures.second c.words-test.true);
-      puts = puts_as (replicate-append-replicate (8 * (c.words.at - c.args.i)) 64 (uniform_event c.args.colour) ∙ ap (λ n. replicate n (uniform_event c.args.colour)) more)
+      puts = puts_as (rw (replicate-append-replicate (8 * (c.words.at - c.args.i)) 64 (uniform_event c.args.colour), more) refl)
           (puts_join c.words.invariant.puts h);
       events = omega arith;
       same = h.same ∙ c.words.invariant.same;

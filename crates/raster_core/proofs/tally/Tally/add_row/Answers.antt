@@ -1,4 +1,4 @@
-use Rattle.std.proofs.Common.{ℕ, ◌≡◌, subst, ◌*◌, ◌≤◌, ◌∙◌, ap, arith, length, min, ◌==◌, refl}
+use Rattle.std.proofs.Common.{ℕ, ◌≡◌, subst, ◌*◌, ◌≤◌, ◌∙◌, arith, length, min, ◌==◌, refl}
 use Rattle.std.specs.Int.{div_ceil}
 use Rattle.raster_core.specs.Offset.{agreements}
 use Rattle.raster_core.specs.Tally.{least_lag, last_lag}
@@ -14,7 +14,7 @@ returns-clause-counts c rows lines few k w =
     let f = c.row-above.ensures ∙ w.above_is in
     let whole : c.args.width ≤ 64 * div_ceil c.args.width 64 = omega arith in
     let wide_row : (lag : ℕ) → part_agreement lines c.count_row.new.self.last.width lag 0 (64 * div_ceil c.count_row.new.self.last.width 64) ≡ agreements lag lines =
-    (λ lag. ap (λ x. part_agreement lines x lag 0 (64 * div_ceil x 64)) c.count_row.ensures.last.0 ∙ part_all lines c.args.width lag (64 * div_ceil c.args.width 64) long whole) in
+    (λ lag. rw (c.count_row.ensures.last.0) (part_all lines c.args.width lag (64 * div_ceil c.args.width 64) long whole)) in
     let more = length_push rows lines in
     record {
       number = omega (arith, more, k.number, c.count_row.ensures.same.rows, few);
