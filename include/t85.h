@@ -166,7 +166,7 @@ typedef struct {
     uint32_t image_height; /* the actual height */
     uint32_t entities;     /* number of stripe data entities, one per stripe */
     uint64_t moves;        /* moves of the adaptive template pixel (ATMOVE) */
-    uint64_t comments;     /* number of comments, counted up to UINT64_MAX */
+    uint64_t comments;     /* comments before the last data entity, up to UINT64_MAX */
 } t85_summary;
 
 #define T85_FACTS_VERSION 1
@@ -457,8 +457,8 @@ T85_NO_NULL((1))
 uint32_t t85_encode_rows_left(const t85_encoder *encoder);
 
 /* Returns a buffer size that is enough for the next call, whether for a row or for the end: about
-   four bytes per pixel. Returns 0 if the encoder is not initialized or was ended. Most rows write
-   far less. */
+   four bytes per pixel, and twice the number of bytes that the encoder still holds back. Returns 0
+   if the encoder is not initialized or was ended. Most rows write far less. */
 T85_NO_NULL((1))
 uint64_t t85_encode_room(const t85_encoder *encoder);
 
