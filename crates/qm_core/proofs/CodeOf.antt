@@ -60,7 +60,8 @@ fraction zero v unit u some h e =
     let z = zero_of u unit v h e1 in
     record { bytes = tt; trimmed = tt; value = omega (arith, z); none = λ _. z }
 fraction (suc k) v unit u some h e = went (cases_eq v 0) (λ z g. fraction k (v * 256 % unit) unit z some (omega (arith, some)) g) where
-  went : (v ≡ 0) ⊎ (v ≢ 0) → ((z : ℕ) → (v * 256 % unit) * 256 ^ k ≡ z * unit → Fraction (v * 256 % unit) unit (fraction_bytes k (v * 256 % unit) unit)) → Fraction v unit (fraction_bytes (suc k) v unit)
+  went : (v ≡ 0) ⊎ (v ≢ 0) → ((z : ℕ) → (v * 256 % unit) * 256 ^ k ≡ z * unit → Fraction (v * 256 % unit) unit (fraction_bytes k (v * 256 % unit) unit)) →
+      Fraction v unit (fraction_bytes (suc k) v unit)
   went (inl z) further = let t : nat_eq v 0 ≡ true = grind (arith, nat_tests) in rw t (record { bytes = tt; trimmed = tt; value = omega (arith, z); none = λ _. z })
   went (inr n) further =
       let t : nat_eq v 0 ≡ false = grind (arith, nat_tests) in
