@@ -1,6 +1,6 @@
 -- Bytes that are held before those that a device has still to give.
 use Rattle.std.proofs.Common.{◌≡◌, ◌≤◌, ◌+◌, ◌-◌, ℕ, List, [], ◌++◌, Option, None, Some, length, take, drop, refl, sym, ap, ◌∙◌, append_assoc, take-append-drop}
-use Rattle.std.proofs.Common.{length-take, length-drop, subst, arith, rules}
+use Rattle.std.proofs.Common.{length-take, length-drop, arith, rules}
 use Rattle.std.specs.Io.KnownBytes.{Consumes, Keeps, IsAtEnd, prepend_known}
 use Rattle.std.proofs.lemmas.List.{drop-take, drop-drop, take-take, take-append-le, take_all}
 use Rattle.pbm_core.specs.Buffered.{bytes_between}

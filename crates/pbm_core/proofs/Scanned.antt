@@ -1,5 +1,5 @@
 -- Bytes in which pixels are looked for.
-use Rattle.std.proofs.Common.{◌≡◌, ◌≤◌, inl, ℕ, Bool, List, [], ◌∷◌, ◌++◌, length, take, Option, None, Some, IfSome, Ok, refl, sym, ap, ◌∙◌, subst, append-nil, append_assoc}
+use Rattle.std.proofs.Common.{◌≡◌, ◌≤◌, inl, ℕ, Bool, List, [], ◌∷◌, ◌++◌, length, take, Option, None, Some, IfSome, Ok, refl, sym, ap, ◌∙◌, append-nil, append_assoc}
 use Rattle.std.specs.List.{AllByRecursion}
 use Rattle.pbm_core.specs.Pbm.{IsWhite}
 use Rattle.pbm_core.specs.Image.{digit_of, ArePixels}

@@ -1,6 +1,6 @@
 -- Rows that are packed are read as these rows, and an image that is written as its rows.
 use Rattle.std.proofs.Common.{◌≡◌, ◌<◌, ◌+◌, ◌*◌, ◌-◌, ◌/◌, ◌%◌, ◌^◌, ℕ, zero, suc, Bool, true, false, List, [], ◌∷◌, ◌++◌, length, map, get_or, slice_index_or, refl}
-use Rattle.std.proofs.Common.{sym, ap, ◌∙◌, subst, arith, append_assoc, append-nil}
+use Rattle.std.proofs.Common.{sym, ap, ◌∙◌, arith, append_assoc, append-nil}
 use Rattle.std.specs.Bool.{◌==◌}
 use Rattle.std.specs.Int.{bit_at}
 use Rattle.std.specs.List.{AllByRecursion, flat_map}
@@ -9,7 +9,6 @@ use Rattle.std.proofs.lemmas.Nat.{pow_pos, pow-add}
 use Rattle.std.proofs.lemmas.Nat.Bits.{bit_at_above}
 use Rattle.std.proofs.lemmas.List.{get_or_append_left}
 use Rattle.pbm_core.specs.Pbm.{bytes_of_row, pixel, header_text}
-use Rattle.pbm_core.specs.Outcome.{HasHeader}
 use Rattle.pbm_core.specs.declared.form.Form.TheVariants.{Raw}
 use Rattle.pbm_core.specs.Image.{numbers_from, binary, packed_row, pixels_of, AreRows, HoldsRows, OneImage, WrittenImageIsRead}
 use Rattle.pbm_core.proofs.Judged.{one_header}

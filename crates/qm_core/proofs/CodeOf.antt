@@ -1,9 +1,9 @@
 -- The code as a function is the code as a relation, and the only one.
-use Rattle.std.proofs.Common.{◌≡◌, ◌≢◌, ℕ, zero, suc, ◌+◌, ◌-◌, ◌*◌, ◌/◌, ◌%◌, ◌^◌, ◌<◌, ◌≤◌, ◌⊎◌, inl, inr, true, false, nat_eq, nat_lt, List, [], ◌∷◌, length, arith, refl, ap, ◌∙◌, sym, subst, cond}
+use Rattle.std.proofs.Common.{◌≡◌, ◌≢◌, ℕ, zero, suc, ◌+◌, ◌-◌, ◌*◌, ◌/◌, ◌%◌, ◌^◌, ◌<◌, ◌≤◌, ◌⊎◌, inl, inr, true, false, nat_eq, nat_lt, List, [], ◌∷◌, length, arith, refl, ap, ◌∙◌}
 use Rattle.std.proofs.lemmas.Bool.{lt-ltb, le-ltb, cases_lt, cases_eq}
 use Rattle.std.proofs.lemmas.Bool.Decides.{nat_tests}
-use Rattle.std.proofs.lemmas.Nat.{pow_pos, pow-add}
-use Rattle.std.proofs.Math.Nat.{div-add-mod, pow-suc, pow-le-pow_right, lt_of_mul-lt-mul_right, le_of_mul-le-mul_right, mul-le-mul_right, mul_assoc}
+use Rattle.std.proofs.lemmas.Nat.{pow_pos}
+use Rattle.std.proofs.Math.Nat.{div-add-mod, pow-suc, pow-le-pow_right, lt_of_mul-lt-mul_right, le_of_mul-le-mul_right, mul-le-mul_right}
 use Rattle.qm_core.specs.Place.{Place, IsPlace}
 use Rattle.qm_core.specs.Code.{IsBytes, IsTrimmed, IsChosen, IsCode, number, wanted_bytes, multiple_from, chosen_within, chosen, fraction_bytes, code_of}
 use Rattle.qm_core.proofs.Aligned.{power_at, split}

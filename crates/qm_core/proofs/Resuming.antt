@@ -1,5 +1,5 @@
 -- A decoder that goes on after its source has failed.
-use Rattle.std.proofs.Common.{◌≡◌, ◌≤◌, List, [], ◌∷◌, length, arith, refl, sym, ◌∙◌, ap, subst}
+use Rattle.std.proofs.Common.{◌≡◌, ◌≤◌, List, [], ◌∷◌, length, arith, refl, sym, ◌∙◌, ap}
 use Rattle.qm_core.specs.Place.{Place}
 use Rattle.qm_core.specs.Source.{bytes_of, heard_of, IsClosed, before_fault}
 use Rattle.qm_core.specs.Decoder.{DecoderIsAt}

@@ -2,7 +2,7 @@
 use Rattle.std.proofs.Common.{ℕ, ◌≡◌, ◌≤◌, ◌+◌, ◌*◌, Bool, true, false, nat_eq, List, [], ◌∷◌, ◌++◌, length, refl, ap, sym, ◌∙◌, subst, arith, append-nil, length-append}
 use Rattle.std.specs.Prelude.{if◌then◌else◌}
 use Rattle.std.proofs.lemmas.Bool.{eqb-true}
-use Rattle.qm_core.specs.Place.{IsPlace, State, Event, after}
+use Rattle.qm_core.specs.Place.{State, Event, after}
 use Rattle.qm_core.specs.Code.{IsCode, stuffed, code_of, wanted_bytes}
 use Rattle.qm_core.specs.Machine.{run_bytes}
 use Rattle.qm_core.specs.Encoder.{EncoderIsAt, IsStuffedFront, waiting_bytes}

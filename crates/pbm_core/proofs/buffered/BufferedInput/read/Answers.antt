@@ -1,6 +1,5 @@
 use Rattle.std.proofs.Common.{◌≡◌, ◌≤◌, ◌+◌, ◌-◌, ℕ, List, drop, refl, sym, length-take, arith}
 use Rattle.std.specs.Io.KnownBytes.{Keeps, IsAtEnd, prepend_known}
-use Rattle.pbm_core.specs.Device.{InputView}
 use Rattle.pbm_core.specs.Buffered.{bytes_between, view_behind}
 use Rattle.pbm_core.proofs.Held.{Keeps-same, Keeps-consumes, keeps_refilled, none_held, some_taken, copied, at_end_unheld}
 use Rattle.pbm_core.proofs.buffered.BufferedInput.read.Goals as goal
