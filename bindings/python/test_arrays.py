@@ -143,10 +143,10 @@ class Arrays(unittest.TestCase):
         rows = page()
         writable, fixed = bytearray(rows.data), numpy.frombuffer(rows.data, "uint8").reshape(160, 52)
         for packed in (numpy.frombuffer(writable, "uint8").reshape(160, 52), fixed):
-            lent = t85._bytes(packed)
-            address = lent if isinstance(lent, int) else ctypes.addressof(lent)
-            self.assertEqual(address, packed.__array_interface__["data"][0])
-        self.assertEqual(t85._bytes(fixed[::2]), fixed[::2].tobytes())
+            lent, length = t85._lent(packed)
+            address = lent.value if isinstance(lent, ctypes.c_void_p) else ctypes.addressof(lent)
+            self.assertEqual((address, length), (packed.__array_interface__["data"][0], 160 * 52))
+        self.assertEqual(t85._lent(fixed[::2]), (fixed[::2].tobytes(), 80 * 52))
         self.assertEqual(t85.encode(fixed[1:], 416, 159), t85.encode(rows.data[52:], 416, 159))
 
     def test_to_array(self):

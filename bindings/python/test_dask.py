@@ -123,13 +123,13 @@ class Objects(unittest.TestCase):
         store.pipe_file("/pages/a.pbm", PBM)
         store.pipe_file("/pages/b.pbm", PBM[:100])
         names = ["memory://pages/a.pbm", "memory://pages/b.pbm", "memory://pages/none.pbm"]
-        job = many.Job("encode", folder="memory://streams", options={"most_offset": 127})
+        job = many.Job("encode", folder="memory://streams", options={"most_offset": 127}, stores={"memory"})
         outcomes = list(many.run(job, names))
         states = [(outcome.state, outcome.number) for outcome in outcomes]
         self.assertEqual(states, [("done", 0), ("failed", 36), ("failed", 0)])
         self.assertEqual(store.cat_file("/streams/a.jbg"), STREAM)
         self.assertEqual(many.run(job, names[:1]).__next__().state, many.SKIPPED)
-        back = many.Job("decode", folder="memory://back")
+        back = many.Job("decode", folder="memory://back", stores={"memory"})
         self.assertEqual(back("memory://streams/a.jbg").state, many.DONE)
         self.assertEqual(back("memory://streams/a.jbg").state, many.SKIPPED)
         self.assertEqual(store.cat_file("/back/a.pbm"), PBM)
@@ -174,7 +174,7 @@ class Server(unittest.TestCase):
             with open(self.path(name), "wb") as file:
                 file.write(data)
             os.utime(self.path(name), (1_000_000_000, 1_000_000_000))
-        job = many.Job("encode", folder=f"{self.store}/streams", options={"most_offset": 127})
+        job = many.Job("encode", folder=f"{self.store}/streams", options={"most_offset": 127}, stores={"ftp"})
         names = [f"{self.store}/{name}" for name in ("a.pbm", "b.pbm", "none.pbm")]
         states = [(outcome.state, outcome.number) for outcome in many.run(job, names, 1)]
         self.assertEqual(states, [("done", 0), ("failed", 36), ("failed", 0)])
@@ -186,7 +186,7 @@ class Server(unittest.TestCase):
             file.write(STREAM[:100])
         self.assertEqual(job(names[0]).state, many.DONE)
         self.assertEqual(read(self.path("streams/a.jbg")), STREAM)
-        back = many.Job("decode", folder=f"{self.store}/back")
+        back = many.Job("decode", folder=f"{self.store}/back", stores={"ftp"})
         self.assertEqual(back(f"{self.store}/streams/a.jbg").state, many.DONE)
         self.assertEqual(read(self.path("back/a.pbm")), PBM)
 

@@ -138,10 +138,13 @@ class Commands(Folder):
         stream = self.path("letter.jbg")
         self.assertEqual(self.counts("encode", name), (0, 1, 0))
         self.assertEqual(self.counts("encode", "--again", name), (1, 0, 0))
-        # An output that is truncated, of another size, or older than its input is written again.
+        # An output that is truncated or of another size is written again if it is older, and otherwise another's file.
         whole = read(stream)
         for other in (whole[:-1], b"", t85.encode(b"\0", 8, 1)):
             self.keep("letter.jbg", other)
+            self.assertEqual(self.counts("encode", name, status=1), (0, 0, 1))
+            self.assertEqual(read(stream), other)
+            os.utime(stream, (0, 0))
             self.assertEqual(self.counts("encode", name), (1, 0, 0))
             self.assertEqual(read(stream), whole)
         os.utime(name, ns=(time.time_ns(), os.stat(stream).st_mtime_ns + 1))
@@ -153,6 +156,9 @@ class Commands(Folder):
         self.assertEqual(self.counts("decode", stream), (0, 1, 0))
         for other in (PBM[:-1], PBM + b"\0", b"P4\n417 160\n" + PBM[11:], b""):
             self.keep("letter.pbm", other)
+            self.assertEqual(self.counts("decode", stream, status=1), (0, 0, 1))
+            self.assertEqual(read(image), other)
+            os.utime(image, (0, 0))
             self.assertEqual(self.counts("decode", stream), (1, 0, 0))
             self.assertEqual(read(image), PBM)
 
@@ -228,7 +234,7 @@ class Commands(Folder):
                       ["check", "--names", self.path("none")], ["encode", "-o", name, name]):
             self.ran(*words, status=2)
         # An output that would be its own input.
-        self.assertEqual(self.counts("encode", self.keep("b.jbg", PBM), status=1), (0, 0, 1))
+        self.ran("encode", self.keep("b.jbg", PBM), status=2)
         self.assertEqual(read(self.path("b.jbg")), PBM)
 
     def test_options_refused(self):
@@ -305,7 +311,7 @@ class Stopped(Folder):
             self.assertEqual(read(name[:-3] + "pbm"), PBM)
 
     def test_interrupted(self):
-        running, names = self.started(2, "-j", "2")
+        running, names = self.started(2, "-j", "2", "--json", self.path("told.json"))
         running.send_signal(signal.SIGINT)
         time.sleep(0.5)
         for number in (self.BEFORE, self.BEFORE + 8):
@@ -315,6 +321,7 @@ class Stopped(Folder):
         self.assertEqual(running.returncode, 130, messages)
         self.assertRegex(messages, r"(?m)^done +[\d,]+$")
         self.assertNotIn("Traceback", messages)
+        self.assertIs(json.loads(read(self.path("told.json")))["stopped"], True)
         # Files in progress were finished, and no others were begun.
         self.assertEqual((len(self.made()), self.left()), (self.BEFORE + 16, []))
         for name in self.made():

@@ -98,6 +98,31 @@ class Images(unittest.TestCase):
             self.same(image.crop((0, 0, 416, count)), self.letter.crop((0, 0, 416, count)))
             self.same(image.crop((0, count, 416, 160)), pillow.new("1", (416, 160 - count), 1))
 
+    def test_changed(self):
+        # A file that another image replaces after it was opened is rejected, whatever the sizes.
+        small = t85.encode(b"\0", 8, 1)
+        with pillow.open(io.BytesIO(STREAM)) as image:
+            letter = image.copy()
+        for first, then in ((small, STREAM), (STREAM, small), (STREAM, t85.encode(bytes(104 * 80), 832, 80))):
+            for truncated in (False, True):
+                file = io.BytesIO(first)
+                with mock.patch.object(PIL.ImageFile, "LOAD_TRUNCATED_IMAGES", truncated), pillow.open(file) as image:
+                    file.seek(0)
+                    file.truncate()
+                    file.write(then)
+                    self.assertRaises(OSError, image.load)
+        self.same(letter, self.letter)
+
+    def test_parser(self):
+        for size in (1, 19, 20, 500, 1 << 16):
+            parser = PIL.ImageFile.Parser()
+            for at in range(0, len(STREAM), size):
+                parser.feed(STREAM[at : at + size])
+            self.same(parser.close(), self.letter)
+        parser = PIL.ImageFile.Parser()
+        parser.feed(STREAM[:500])
+        self.assertRaises(OSError, parser.close)
+
     def test_not_ours(self):
         for data in (STREAM[:19], b"\0\0\1\0", bytes(20), b"\0\0\1\0" + bytes(16)):
             with self.assertRaises(pillow.UnidentifiedImageError):

@@ -71,8 +71,9 @@ class Pictures(unittest.TestCase):
         path = os.path.join(self.folder, "page.jbg")
         with open(path, "wb") as file:
             file.write(stream)
-        self.assertEqual(command.main(["show", path]), 0)
-        with pillow.open(os.path.join(self.folder, "page.png")) as image:
+        picture = os.path.join(self.folder, "page.png")
+        self.assertEqual(command.main(["show", path, picture]), 0)
+        with pillow.open(picture) as image:
             return image.convert("RGB")
 
     def test_page(self):

@@ -39,6 +39,7 @@ from __future__ import annotations
 import array
 import ctypes
 import enum
+import importlib
 import mmap
 import os
 from ctypes import POINTER, byref, c_bool, c_char, c_size_t, c_uint8, c_uint32, c_uint64, c_void_p
@@ -168,8 +169,18 @@ def _named() -> str:
     return os.environ.get("T85_LIBRARY") or (beside if os.path.exists(beside) else _SONAME)
 
 
+def _opened() -> ctypes.CDLL:
+    name = _named()
+    try:
+        return ctypes.CDLL(name)
+    except OSError as error:
+        hint = "T85_LIBRARY may name its file, and ldconfig lets the loader find an installed one"
+        # With the package's name, `python3 -m t85` prints the error in one line.
+        raise ImportError(f"the library {name} cannot be loaded ({error}): {hint}", name=__name__) from None
+
+
 def _load() -> ctypes.CDLL:
-    library = ctypes.CDLL(_named())
+    library = _opened()
     read, write, size, word = [c_void_p, c_size_t], [POINTER(c_char), c_size_t], c_size_t, c_uint32
     chosen = [POINTER(_Options), *read]
     encoded = [word, word, *read, size, *chosen, *write, *write, POINTER(size)]
@@ -248,6 +259,9 @@ class BrokenPart(Error):
         self.offset, self.stripe = offset, stripe
         super().__init__(number)
 
+    def __reduce__(self) -> tuple[type[BrokenPart], tuple[int, int, int]]:  # type: ignore[override]
+        return type(self), (self.number, self.offset, self.stripe)
+
 
 @dataclass(frozen=True)
 class Part:
@@ -269,17 +283,30 @@ def _message(number: int) -> str:
     return ctypes.string_at(text, min(length, len(text))).decode("ascii")
 
 
-def _bytes(data: Buffer) -> Union[bytes, int, _Memory]:
-    """A value that ctypes can pass: the bytes themselves, a writable buffer or an array in place, otherwise a copy."""
+def _lent(data: Buffer) -> tuple[Union[bytes, c_void_p, _Memory], int]:
+    """Returns a value that ctypes can pass, and its length in bytes: the bytes themselves, a writable buffer or an array in
+    place, otherwise a copy.
+
+    Both are taken from one view. While the value exists, no other thread can resize the buffer.
+    """
     if isinstance(data, bytes):
-        return data
+        return data, len(data)
     view = memoryview(data)
-    if not view.c_contiguous or not view.nbytes:
-        return view.tobytes()
-    if not view.readonly:
-        return (c_char * view.nbytes).from_buffer(data)
-    interface = getattr(data, "__array_interface__", None)
-    return int(interface["data"][0]) if interface else view.tobytes()
+    if view.c_contiguous and view.nbytes:
+        if not view.readonly:
+            return (c_char * view.nbytes).from_buffer(view), view.nbytes
+        if hasattr(data, "__array_interface__"):
+            return _address(view), view.nbytes
+    copied = view.tobytes()
+    return copied, len(copied)
+
+
+def _address(view: memoryview) -> c_void_p:
+    """Returns the address of a read-only array's view, which lives as long as the result."""
+    array = importlib.import_module("numpy").frombuffer(view.cast("B"), "uint8")
+    found = c_void_p(array.__array_interface__["data"][0])
+    setattr(found, "view", array)
+    return found
 
 
 def _size(data: Buffer) -> int:
@@ -372,7 +399,7 @@ class _Extent:
 def _extent(stream: Buffer, fields: Header, step: int) -> _Extent:
     """The extent of rows `step` bytes apart, from the header and the parts of a stream, without decoding."""
     summary = _Summary()
-    status = _LIBRARY.t85_info(_bytes(stream), _size(stream), byref(summary))
+    status = _LIBRARY.t85_info(*_lent(stream), byref(summary))
     height = fields.height if status else summary.image_height
     return _Extent(height, whole=not status, row=_row_bytes(fields.width), step=step)
 
@@ -381,7 +408,7 @@ def _height_in_use(stream: Buffer, max_rows: int) -> int:
     """The height of a stream's image as in its PBM, also for a broken stream, with as little decoding as possible."""
     fields, written = header(stream), c_size_t()
     window, image = _window(fields.width), ctypes.create_string_buffer(_HEAD_BYTES)
-    lent = _bytes(stream), _size(stream), max_rows, window, len(window), image, len(image), byref(written)
+    lent = *_lent(stream), max_rows, window, len(window), image, len(image), byref(written)
     status = _LIBRARY.t85_decode(*lent)
     # Buffers are released before an error is raised; otherwise a memory map could not be closed.
     del lent
@@ -419,7 +446,7 @@ def version() -> tuple[int, int, int]:
 def header(stream: Buffer) -> Header:
     """Parses the header of a stream, its first 20 bytes."""
     fields = _Header()
-    status = _LIBRARY.t85_header(_bytes(stream), _size(stream), byref(fields))
+    status = _LIBRARY.t85_header(*_lent(stream), byref(fields))
     if status:
         raise Error(status)
     return Header(*(getattr(fields, name) for name, _ in _Header._fields_))
@@ -428,7 +455,7 @@ def header(stream: Buffer) -> Header:
 def info(stream: Buffer) -> Summary:
     """Parses a stream without decoding its pixels."""
     fields = _Summary()
-    status = _LIBRARY.t85_info(_bytes(stream), _size(stream), byref(fields))
+    status = _LIBRARY.t85_info(*_lent(stream), byref(fields))
     if status:
         raise Error(status)
     return Summary(*(getattr(fields, name) for name, _ in _Summary._fields_))
@@ -437,7 +464,7 @@ def info(stream: Buffer) -> Summary:
 def stream_length(data: Buffer) -> int:
     """The length of the stream at the beginning of the data, so that concatenated streams can be split."""
     facts = _Facts(version=1)
-    status = _LIBRARY.t85_stream_facts(_bytes(data), _size(data), byref(facts))
+    status = _LIBRARY.t85_stream_facts(*_lent(data), byref(facts))
     if status:
         raise Error(status)
     return int(facts.stream_len)
@@ -445,9 +472,9 @@ def stream_length(data: Buffer) -> int:
 
 def parts(stream: Buffer) -> Iterator[Part]:
     """Yields the parts of a stream in order. If one is broken or incomplete, BrokenPart is raised instead of it."""
-    data, size, part = _bytes(stream), _size(stream), _Part(version=1)
+    lent, part = _lent(stream), _Part(version=1)
     while True:
-        status = _LIBRARY.t85_next_part(data, size, byref(part))
+        status = _LIBRARY.t85_next_part(*lent, byref(part))
         if status == _NO_MORE_PARTS:
             return
         if status:
@@ -467,16 +494,26 @@ class Decoder:
     may include rows that the height cuts off: the image is the first `height` rows. If the stream is broken, an Error is
     raised, and its partial contains the rows that the call had decoded.
 
+    A few bytes may complete billions of rows. rows and last_rows return an iterator instead of a list, so only one row is in
+    memory at a time. It has to be exhausted before the next call: until then, other calls raise RuntimeError.
+
+    A Decoder belongs to one thread at a time.
+
     header   the fields of the header, or None before it has arrived
     height   the current height: the header's, until another has arrived
     certain  how many of the first rows belong to the image, whatever follows
     is_done  whether the image is complete
     unused   the bytes of the last piece that follow the image
 
-    max_rows  reject a header that announces more rows; None, the default, means no limit
+    max_rows   reject a header that announces more rows; None, the default, means no limit
+    max_bytes  the most bytes of rows in one list: feed and end raise an Error, after which the decoder cannot be used, if a
+               call decodes more; None means no limit
     """
 
-    def __init__(self, *, max_rows: Optional[int] = None) -> None:
+    def __init__(self, *, max_rows: Optional[int] = None, max_bytes: Optional[int] = MAX_BYTES) -> None:
+        self._most = None if max_bytes is None else _length("max_bytes", max_bytes)
+        # Whether an iterator is not exhausted, or a list had too many rows.
+        self._is_busy = False
         self.header: Optional[Header] = None
         self.is_done = False
         self.unused = b""
@@ -503,11 +540,47 @@ class Decoder:
 
     def feed(self, data: Buffer) -> list[bytes]:
         """Returns the rows that these bytes complete."""
-        return self._rows_or_error(list(self._fed(bytes(memoryview(data)))))
+        return self._listed(self._fed(bytes(memoryview(data))))
 
     def end(self) -> list[bytes]:
         """Signals the end of the stream, and returns the remaining rows."""
-        return self._rows_or_error(list(self._ended()))
+        return self._listed(self._ended())
+
+    def rows(self, data: Buffer) -> Iterator[bytes]:
+        """Yields the rows that these bytes complete. The partial of an Error has no rows."""
+        return self._yielded(self._fed(bytes(memoryview(data))))
+
+    def last_rows(self) -> Iterator[bytes]:
+        """Signals the end of the stream, and yields the remaining rows. The partial of an Error has no rows."""
+        return self._yielded(self._ended())
+
+    def _listed(self, rows: Iterator[bytes]) -> list[bytes]:
+        self._begin()
+        found: list[bytes] = []
+        length = 0
+        for row in rows:
+            length += len(row)
+            if self._most is not None and length > self._most:
+                text = f"the call decodes more than {self._most} bytes of rows: use rows, or a greater max_bytes"
+                raise Error(_NO_ROOM, self._partial(found), text)
+            found.append(row)
+        self._is_busy = False
+        self._raise_error(found)
+        return found
+
+    def _yielded(self, rows: Iterator[bytes]) -> Iterator[bytes]:
+        self._begin()
+        return self._until_end(rows)
+
+    def _until_end(self, rows: Iterator[bytes]) -> Iterator[bytes]:
+        yield from rows
+        self._is_busy = False
+        self._raise_error([])
+
+    def _begin(self) -> None:
+        if self._is_busy:
+            raise RuntimeError("the rows of the call before were not all taken")
+        self._is_busy = True
 
     def _fed(self, piece: bytes) -> Iterator[bytes]:
         """Yields the rows that a piece completes. At the end, the status is that of the last call."""
@@ -543,12 +616,14 @@ class Decoder:
         assert self.header is not None
         return self._window.raw[place : place + _row_bytes(self.header.width)]
 
-    def _rows_or_error(self, rows: list[bytes]) -> list[bytes]:
-        """Returns the rows, or raises the stream's error with them."""
-        if self._status in (0, _MORE):
-            return rows
+    def _raise_error(self, rows: list[bytes]) -> None:
+        """Raises the stream's error, if there is one, with the rows of the call."""
+        if self._status not in (0, _MORE):
+            raise Error(self._status, self._partial(rows))
+
+    def _partial(self, rows: list[bytes]) -> Rows:
         width = self.header.width if self.header else 0
-        raise Error(self._status, Rows(width, len(rows), _row_bytes(width), b"".join(rows)))
+        return Rows(width, len(rows), _row_bytes(width), b"".join(rows))
 
 
 class Encoder:
@@ -573,6 +648,8 @@ class Encoder:
     of the stripe are missing in best_offset (36), or if end is called before all rows or, with announced_height, before the
     first row (36).
 
+    An Encoder belongs to one thread at a time.
+
     rows_left  how many more rows are accepted
     is_done    whether the stream is complete
     """
@@ -594,17 +671,17 @@ class Encoder:
         chosen = _chosen(
             stripe_rows, most_offset, two_lines, typical, variable_height, announced_height, reset, comment is not None
         )
-        said = b"" if comment is None else comment
+        said = b"" if comment is None else bytes(memoryview(comment))
         self.width = _word("width", width)
         self.is_done = False
         self._state = _Encoder()
         self._window = _window(min(width, 1 << 20))
         # The header and the comment, which are returned with the first row.
-        self._output = ctypes.create_string_buffer(26 + _size(said))
+        self._output = ctypes.create_string_buffer(26 + len(said))
         self._head = b""
         self._head = self._written(
             _LIBRARY.t85_encode_start, ctypes.sizeof(self._state), width, _word("height", height), byref(chosen),
-            _bytes(said), _size(said),
+            *_lent(said),
         )
 
     def __enter__(self) -> Encoder:
@@ -620,7 +697,7 @@ class Encoder:
     def row(self, data: Buffer) -> bytes:
         """Encodes the next packed row, and returns bytes that became certain. Bytes after the row are ignored."""
         _refuse_pixels(data, self.width, 1, None)
-        return self._written(_LIBRARY.t85_encode_row, _bytes(data), _size(data))
+        return self._written(_LIBRARY.t85_encode_row, *_lent(data))
 
     def offset(self, offset: int) -> None:
         """Chooses the adaptive pixel's offset for the next stripe: 0, or 3 (5 with two_lines) to most_offset."""
@@ -637,7 +714,7 @@ class Encoder:
         _refuse_pixels(rows, self.width, max(_size(rows) // max(_row_bytes(self.width), 1), 1), None)
         scratch, offset = _window(min(self.width, 1 << 20)), ctypes.create_string_buffer(1)
         lent = self._window, len(self._window), scratch, len(scratch), offset
-        status = _LIBRARY.t85_best_offset(byref(self._state), _bytes(rows), _size(rows), *lent)
+        status = _LIBRARY.t85_best_offset(byref(self._state), *_lent(rows), *lent)
         if status:
             raise Error(status)
         return offset.raw[0]
@@ -663,7 +740,7 @@ class Encoder:
 
 
 def encode(
-    rows: Buffer,
+    rows: Union[Buffer, Rows],
     width: int,
     height: int,
     *,
@@ -678,9 +755,9 @@ def encode(
     comment: Optional[Buffer] = None,
     best_offset: bool = False,
 ) -> bytes:
-    """Encodes an image of packed rows. An array with one item per pixel is rejected: see pack.
+    """Encodes an image of packed rows, in a buffer or as Rows. An array with one item per pixel is rejected: see pack.
 
-    stride            bytes from one row to the next; by default, rows have no gaps
+    stride            bytes from one row to the next; by default, a buffer's rows have no gaps
     stripe_rows       rows per stripe
     most_offset       greatest offset of the adaptive template pixel, 0 to 127
     two_lines         use the two-line template
@@ -694,11 +771,18 @@ def encode(
 
     If rows are missing, the Error contains the stream of the complete stripes, and a prefix of the next one.
     """
-    _refuse_pixels(rows, width, height, stride)
+    if isinstance(rows, Rows):
+        if rows.width != width:
+            raise ValueError(f"the rows are {rows.width} pixels wide, and not {width}")
+        data: Buffer = rows.data
+        stride = rows.stride if stride is None else stride
+    else:
+        data = rows
+    _refuse_pixels(data, width, height, stride)
     chosen = _chosen(
         stripe_rows, most_offset, two_lines, typical, variable_height, announced_height, reset, comment is not None
     )
-    said = b"" if comment is None else comment
+    said = b"" if comment is None else bytes(memoryview(comment))
     window = _window(min(_word("width", width), 1 << 20))
     step = _row_bytes(width) if stride is None else _length("stride", stride)
     _word("height", height)
@@ -707,15 +791,15 @@ def encode(
             width, height, stripe_rows=stripe_rows, most_offset=most_offset, two_lines=two_lines, typical=typical,
             variable_height=variable_height, announced_height=announced_height, reset=reset, comment=comment,
         )
-        return _encode_best(encoder, memoryview(rows).cast("B"), height, step, stripe_rows)
+        return _encode_best(encoder, memoryview(data).cast("B"), height, step, stripe_rows)
     written = c_size_t()
 
     def write(stream: _Memory, room: int) -> int:
-        lent = _bytes(rows), _size(rows), step, byref(chosen), _bytes(said), _size(said), window, len(window)
+        lent = *_lent(data), step, byref(chosen), *_lent(said), window, len(window)
         return int(_LIBRARY.t85_encode(width, height, *lent, stream, room, byref(written)))
 
-    most = _LIBRARY.t85_encode_bound(width, height, byref(chosen), _size(said))
-    first = _likely_room(_row_bytes(width), step, height, stripe_rows, _size(rows), _size(said))
+    most = _LIBRARY.t85_encode_bound(width, height, byref(chosen), len(said))
+    first = _likely_room(_row_bytes(width), step, height, stripe_rows, _size(data), len(said))
     status, stream = _with_room(write, first, most)
     found = ctypes.string_at(stream, written.value)
     if status:
@@ -753,7 +837,7 @@ def decode(stream: Buffer, *, max_rows: Optional[int] = None, max_bytes: Optiona
     written = c_size_t()
 
     def write(image: _Memory, room: int) -> int:
-        lent = _bytes(stream), _size(stream), limit, window, len(window)
+        lent = *_lent(stream), limit, window, len(window)
         return int(_LIBRARY.t85_decode(*lent, image, room, byref(written)))
 
     before = len(f"P4\n{fields.width} {extent.height}\n")
@@ -787,7 +871,7 @@ def decode_rows(
     written = c_uint32()
 
     def write(rows: _Memory, room: int) -> int:
-        lent = _bytes(stream), _size(stream), limit, step, window, len(window)
+        lent = *_lent(stream), limit, step, window, len(window)
         return int(_LIBRARY.t85_decode_rows(*lent, rows, room, byref(written)))
 
     status, rows = _decoded(write, extent, 0, max_bytes)
@@ -819,9 +903,11 @@ def decode_into(
     window, written = _window(fields.width), c_uint32()
     limit = _NO_LIMIT if max_rows is None else _word("max_rows", max_rows)
     step = _row_bytes(fields.width) if stride is None else _length("stride", stride)
-    room = (c_char * _size(rows)).from_buffer(rows)
-    lent = _bytes(stream), _size(stream), limit, step, window, len(window), room, len(room)
+    view = memoryview(rows)
+    room = (c_char * view.nbytes).from_buffer(view)
+    lent = *_lent(stream), limit, step, window, len(window), room, len(room)
     status = _LIBRARY.t85_decode_rows(*lent, byref(written))
+    del lent, room, view
     if status:
         raise Error(status, Rows(fields.width, written.value, step, b""))
     return written.value

@@ -6,18 +6,25 @@ command was interrupted from the keyboard.
 """
 from __future__ import annotations
 
+import sys
+
+if __name__ == "__main__" and not getattr(sys.flags, "safe_path", False):
+    # `python3 -m` puts the current folder first, from which an optional module would be imported. This one has been found.
+    del sys.path[0]
+
 import argparse
 import dataclasses
 import importlib
 import io
+import itertools
 import json
 import os
-import sys
 import time
-from typing import Any, Dict, Iterator, List, Optional, Sequence, Tuple
+from typing import Any, Dict, Iterator, List, Optional, Sequence
 
-from . import MAX_BYTES, Error
-from ._files import is_remote
+from . import MAX_BYTES, Error, version
+from ._files import identity, is_store_name, protocols
+from ._text import printable, quoted
 from .many import FAILED, Job, Outcome, Total, run
 
 
@@ -48,7 +55,7 @@ class Progress:
             self._bar.clear()
         elif self._shown:
             print("\r\033[K", end="", file=sys.stderr)
-        print(line, file=sys.stderr)
+        print(printable(line), file=sys.stderr)
 
     def close(self) -> None:
         if self._bar is not None:
@@ -59,6 +66,7 @@ class Progress:
 
 def _parser() -> argparse.ArgumentParser:
     parser = argparse.ArgumentParser(prog="python3 -m t85", description=__doc__.partition("\n")[0])
+    parser.add_argument("--version", action="version", version="t85 {}.{}.{}".format(*version()))
     commands = parser.add_subparsers(dest="command", required=True, metavar="COMMAND")
     about = {
         "encode": "PBM images into streams, as .jbg",
@@ -75,14 +83,26 @@ def _parser() -> argparse.ArgumentParser:
         command.add_argument("-q", "--quiet", action="store_true", help="no progress and no table")
         if name in ("encode", "decode"):
             command.add_argument("-o", "--folder", metavar="FOLDER", help="where the outputs go (beside their inputs)")
-            command.add_argument("--again", action="store_true", help="skip no file")
+            command.add_argument("-R", "--relative", action="store_true", help="keep the inputs' folders below FOLDER")
+            command.add_argument("--again", action="store_true", help="skip no file, and replace any output")
         if name in ("decode", "check"):
             command.add_argument("--max-bytes", type=int, default=MAX_BYTES, metavar="N", help="refuse larger images (1 GiB)")
     _add_options(commands.choices["encode"])
     show = commands.add_parser("show", help="a picture of a stream: its page, stripes, moves, bytes and damage")
     show.add_argument("file", metavar="FILE")
-    show.add_argument("output", nargs="?", metavar="PICTURE", help="a PNG (the file's name with .png)")
+    show.add_argument("output", nargs="?", metavar="PICTURE", help="a PNG (a new file with the name and .png)")
+    for command in commands.choices.values():
+        text = "accept names PROTOCOL://.. of this remote store, through fsspec; may be repeated"
+        command.add_argument("--store", action="append", default=[], type=_protocol, metavar="PROTOCOL", help=text)
     return parser
+
+
+def _protocol(name: str) -> str:
+    try:
+        protocols([name])
+    except ValueError as error:
+        raise argparse.ArgumentTypeError(str(error)) from error
+    return name
 
 
 def _add_options(command: argparse.ArgumentParser) -> None:
@@ -106,7 +126,7 @@ def _job(words: argparse.Namespace) -> Job:
     names = ("stripe_rows", "most_offset", "best_offset", "two_lines", "typical", "reset", "comment")
     options = {name: getattr(words, name) for name in names if hasattr(words, name)}
     given = {name: getattr(words, name) for name in ("folder", "again", "max_bytes") if hasattr(words, name)}
-    return Job(words.command, options=options, **given)
+    return Job(words.command, options=options, stores=words.store, tree=getattr(words, "relative", False), **given)
 
 
 def _listed(path: str) -> Iterator[str]:
@@ -121,20 +141,27 @@ def _names(parser: argparse.ArgumentParser, words: argparse.Namespace) -> List[s
     try:
         more = list(_listed(words.names)) if words.names else []
     except OSError as error:
-        parser.error(f"{words.names}: {error.strerror}")
+        parser.error(f"{quoted(words.names)}: {error.strerror}")
     names = list(dict.fromkeys([*words.files, *more]))
     if not names and not words.names:
         parser.error("no file is named")
     return names
 
 
-def _clash(job: Job, names: Sequence[str]) -> Optional[Tuple[str, str, str]]:
-    """Returns two names whose outputs would be the same file, and that file's name."""
+def _clash(job: Job, names: Sequence[str]) -> Optional[str]:
+    """Returns why the outputs of a job cannot be written: two would be the same file, or one would be an input."""
     seen: Dict[str, str] = {}
+    inputs = {identity(name): name for name in names}
     for name in names:
         output = job.output(name)
-        if output is not None and seen.setdefault(os.path.normpath(output), name) != name:
-            return seen[os.path.normpath(output)], name, output
+        if output is None:
+            return None
+        place = output if is_store_name(output) else os.path.realpath(output)
+        if seen.setdefault(place, name) != name:
+            return f"{quoted(seen[place])} and {quoted(name)} would both be written as {quoted(output)}"
+        there = identity(output)
+        if there is not None and there in inputs:
+            return f"{quoted(output)}, the output of {quoted(name)}, is the input {quoted(inputs[there])}"
     return None
 
 
@@ -142,9 +169,9 @@ def _report(outcome: Outcome) -> Dict[str, Any]:
     return {field: value for field, value in dataclasses.asdict(outcome).items() if value or field == "number"}
 
 
-def _write_json(path: str, total: Total, kept: List[Outcome]) -> bool:
+def _write_json(path: str, total: Total, kept: List[Outcome], stopped: bool) -> bool:
     """Writes the summary, and returns whether that succeeded."""
-    summary = {**dataclasses.asdict(total), "files": [_report(outcome) for outcome in kept]}
+    summary = {**dataclasses.asdict(total), "stopped": stopped, "files": [_report(outcome) for outcome in kept]}
     text = json.dumps(summary, indent=2) + "\n"
     if path == "-":
         sys.stdout.write(text)
@@ -153,69 +180,103 @@ def _write_json(path: str, total: Total, kept: List[Outcome]) -> bool:
         with open(path, "w", encoding="utf-8") as file:
             file.write(text)
     except OSError as error:
-        print(f"{path}: {error.strerror}", file=sys.stderr)
+        print(f"{quoted(path)}: {error.strerror}", file=sys.stderr)
         return False
     return True
 
 
+def _shown(name: str) -> str:
+    """Returns a name as `ls` prints it: quoted on a terminal, and otherwise as it is."""
+    return quoted(name) if sys.stdout.isatty() else name
+
+
 def _work(job: Job, names: Sequence[str], words: argparse.Namespace) -> int:
     total, kept, begin = Total(job.command), [], time.monotonic()
-    progress = Progress(len(names), words.quiet)
+    progress, stopped = Progress(len(names), words.quiet), True
     try:
         for outcome in run(job, names, words.jobs):
             total.add(outcome)
             if words.json and (outcome.state == FAILED or outcome.summary):
                 kept.append(outcome)
             if outcome.state == FAILED:
-                progress.say(f"{outcome.name}: {outcome.text}")
+                progress.say(f"{quoted(outcome.name)}: {outcome.text}")
             elif job.command == "info" and outcome.summary and words.json != "-":
-                print(*dataclasses.astuple(outcome.summary), outcome.name)
+                print(*dataclasses.astuple(outcome.summary), _shown(outcome.name))
             progress.step()
+        stopped = False
     finally:
         progress.close()
         total.seconds = time.monotonic() - begin
         if not words.quiet:
             print(*total.lines(), sep="\n", file=sys.stderr)
-        is_reported = not words.json or _write_json(words.json, total, kept)
+        is_reported = not words.json or _write_json(words.json, total, kept, stopped)
     return 0 if is_reported and not total.failed else 1
 
 
 def _show(words: argparse.Namespace) -> int:
-    from .show import show
+    from .show import draw_file
 
-    output = words.output or os.path.splitext(words.file)[0] + ".png"
+    if words.output and identity(words.output) is not None and identity(words.output) == identity(words.file):
+        print(f"{quoted(words.output)}: the picture would replace the stream", file=sys.stderr)
+        return 2
     try:
-        show(words.file, output)
+        picture = draw_file(words.file, words.store)
+        if words.output:
+            picture.save(words.output, "PNG")
+        else:
+            print(_shown(_save_new(picture, os.path.splitext(words.file)[0])))
     except (Error, OSError, ImportError) as error:
-        print(f"{words.file}: {getattr(error, 'strerror', None) or error}", file=sys.stderr)
+        print(printable(f"{quoted(words.file)}: {getattr(error, 'strerror', None) or error}"), file=sys.stderr)
         return 1
     return 0
+
+
+def _save_new(picture: Any, stem: str) -> str:
+    """Saves a picture under a name that no file has, STEM.png or STEM-1.png and so on, and returns the name."""
+    for number in itertools.count():
+        name = f"{stem}-{number}.png" if number else f"{stem}.png"
+        try:
+            with open(name, "xb") as file:
+                picture.save(file, "PNG")
+        except FileExistsError:
+            continue
+        return name
+    raise AssertionError("numbers do not end")
 
 
 def main(arguments: Optional[Sequence[str]] = None) -> int:
     parser = _parser()
     words = parser.parse_args(arguments)
-    if words.command == "show":
-        return _show(words)
+    try:
+        status = _show(words) if words.command == "show" else _run(parser, words)
+        sys.stdout.flush()
+        return status
+    except KeyboardInterrupt:
+        return 130
+    except OSError as error:
+        # The output cannot be written. At its exit, Python would try once more.
+        os.dup2(os.open(os.devnull, os.O_WRONLY), 1)
+        if not isinstance(error, BrokenPipeError):
+            print(f"standard output: {error.strerror}", file=sys.stderr)
+        return 1
+
+
+def _run(parser: argparse.ArgumentParser, words: argparse.Namespace) -> int:
     job, names = _job(words), _names(parser, words)
     clash = _clash(job, names)
     if clash:
-        parser.error("{} and {} would both be written as {}".format(*clash))
-    if job.folder is not None and not is_remote(job.folder):
+        parser.error(clash)
+    if job.tree and job.folder is None:
+        parser.error("--relative needs --folder")
+    if job.folder is not None and not is_store_name(job.folder):
         try:
             os.makedirs(job.folder, exist_ok=True)
         except OSError as error:
-            parser.error(f"{job.folder}: {error.strerror}")
+            parser.error(f"{quoted(job.folder)}: {error.strerror}")
     if isinstance(sys.stdout, io.TextIOWrapper):
         # A name may contain bytes that are not text.
         sys.stdout.reconfigure(errors="surrogateescape")
-    try:
-        return _work(job, names, words)
-    except KeyboardInterrupt:
-        return 130
-    except BrokenPipeError:
-        os.dup2(os.open(os.devnull, os.O_WRONLY), 1)
-        return 1
+    return _work(job, names, words)
 
 
 if __name__ == "__main__":

@@ -8,8 +8,11 @@
 
 The library's functions run in threads in parallel. An output is written under another name in its own folder,
 `.NAME.HEX.part`, and renamed when it is complete. An output that exists, is complete and is no older than its input is
-skipped, so a run that was interrupted can be repeated and does only the rest. A name with `://` is read and written through
-fsspec, if that is installed.
+skipped, so a run that was interrupted can be repeated and does only the rest. An output that is no older than its input, but
+is not its image or stream, is somebody else's file: it is an error for that input, unless `again` is set.
+
+A name is that of a local file. A name with `://` is accepted only if `stores` lists its protocol, and is then read and written
+through fsspec, if that is installed.
 
 A job is a function of one name that can be pickled, so anything that maps functions over lists can run it: t85.dask runs it
 on the workers of Dask.
@@ -21,12 +24,13 @@ import os
 from collections import deque
 from concurrent.futures import ThreadPoolExecutor
 from dataclasses import dataclass, field
-from typing import Any, Callable, Dict, Iterator, List, Mapping, Optional, Sequence
+from typing import Any, Callable, Collection, Dict, Iterator, List, Mapping, Optional, Sequence
 
 from . import MAX_BYTES, Error, Rows, Summary, decode, decode_rows, encode, info
-from ._files import front, is_current, read, write
+from ._files import Files, identity, is_special, is_store_name, protocols
 from ._pbm import head_of, read_page
 from ._rows import row_bytes
+from ._text import quoted
 
 DONE, SKIPPED, FAILED = "done", "skipped", "failed"
 # The suffixes of input names, and those of the outputs of a command.
@@ -50,13 +54,28 @@ class Outcome:
 
 @dataclass(frozen=True)
 class Job:
-    """What to do with each file: the command, the output folder, and encoder options under the names of encode."""
+    """What to do with each file: the command, the output folder, and encoder options under the names of encode.
+
+    folder    where the outputs are placed; without it, beside their inputs. It is created if it is missing
+    tree      place each output in the folder under the whole name of its input, as `rsync -R` does, not under its last part
+    again     skip no file, and replace any output
+    stores    the protocols of remote stores that names may have, such as {"s3"}; none by default
+    """
 
     command: str
     folder: Optional[str] = None
     again: bool = False
     max_bytes: Optional[int] = MAX_BYTES
     options: Mapping[str, Any] = field(default_factory=dict)
+    stores: Collection[str] = ()
+    tree: bool = False
+
+    def __post_init__(self) -> None:
+        object.__setattr__(self, "stores", protocols(self.stores))
+
+    @property
+    def files(self) -> Files:
+        return Files(protocols(self.stores))
 
     def __call__(self, name: str) -> Outcome:
         try:
@@ -75,35 +94,37 @@ class Job:
             return None
         stem, old = os.path.splitext(name)
         made = (stem if old.lower() in _ENDINGS else name) + ending
-        return made if self.folder is None else os.path.join(self.folder, os.path.basename(made))
+        if self.folder is None:
+            return made
+        return os.path.join(self.folder, made.lstrip("/") if self.tree else os.path.basename(made))
 
 
 def _encode(job: Job, name: str) -> Outcome:
-    data, output = read(name), _target(job, name)
+    output, data = _target(job, name), job.files.read(name)
     page = read_page(data)
-    if not job.again and is_current(output, name) and _is_stream(read(output), page.width, page.height):
+    if _is_finished(job, name, output, lambda: _is_stream(job.files.read(output), page.width, page.height)):
         return Outcome(name, SKIPPED)
     stream = encode(page.rows, page.width, page.height, **job.options)
-    write(output, stream)
+    _write(job, output, stream)
     return Outcome(name, DONE, len(data), len(stream))
 
 
 def _decode(job: Job, name: str) -> Outcome:
-    stream, output = read(name), _target(job, name)
-    if not job.again and is_current(output, name) and _is_image(output, info(stream)):
+    output, stream = _target(job, name), job.files.read(name)
+    if _is_finished(job, name, output, lambda: _is_image(job, output, info(stream))):
         return Outcome(name, SKIPPED)
     image = decode(stream, max_bytes=job.max_bytes)
-    write(output, image)
+    _write(job, output, image)
     return Outcome(name, DONE, len(stream), len(image))
 
 
 def _info(job: Job, name: str) -> Outcome:
-    stream = read(name)
+    stream = job.files.read(name)
     return Outcome(name, DONE, len(stream), summary=info(stream))
 
 
 def _check(job: Job, name: str) -> Outcome:
-    stream = read(name)
+    stream = job.files.read(name)
     try:
         decode_rows(stream, max_bytes=job.max_bytes)
     except Error as error:
@@ -121,11 +142,37 @@ _COMMANDS: Dict[str, Callable[[Job, str], Outcome]] = {
 
 
 def _target(job: Job, name: str) -> str:
+    """Returns the name of an output, which is not its input's, nor outside the folder."""
     output = job.output(name)
     assert output is not None
-    if output == name:
-        raise OSError(errno.EINVAL, "the output would have the input's name")
+    job.files.refuse(name)
+    job.files.refuse(output)
+    if job.folder is not None and job.tree and os.pardir in name.split("/"):
+        raise OSError(errno.EINVAL, "the name contains .., which would leave the folder")
+    if output == name or identity(name) is not None and identity(output) == identity(name):
+        raise OSError(errno.EINVAL, "the output would replace its input")
     return output
+
+
+def _is_finished(job: Job, name: str, output: str, is_whole: Callable[[], bool]) -> bool:
+    """Whether an output need not be written. OSError rejects one that is no older than its input, and is another file.
+
+    A store may show a part of a file while it is written, so there an output that is not whole is replaced.
+    """
+    if job.again or is_special(output) or not job.files.is_current(output, name):
+        return False
+    if is_whole():
+        return True
+    if is_store_name(output):
+        return False
+    raise OSError(errno.EEXIST, f"{quoted(output)} exists, is newer, and is not made of this file: --again replaces it")
+
+
+def _write(job: Job, output: str, data: bytes) -> None:
+    """Writes an output, and creates its folder."""
+    if job.folder is not None and not is_store_name(output):
+        os.makedirs(os.path.dirname(output) or os.curdir, exist_ok=True)
+    job.files.write(output, data)
 
 
 def _is_stream(stream: bytes, width: int, height: int) -> bool:
@@ -137,10 +184,10 @@ def _is_stream(stream: bytes, width: int, height: int) -> bool:
     return (summary.width, summary.image_height) == (width, height)
 
 
-def _is_image(output: str, summary: Summary) -> bool:
+def _is_image(job: Job, output: str, summary: Summary) -> bool:
     """Whether a file is a raw PBM of this size, by its header and its length."""
     head = head_of(summary.width, summary.image_height)
-    found, size = front(output, len(head))
+    found, size = job.files.front(output, len(head))
     return found == head and size == len(head) + summary.image_height * row_bytes(summary.width)
 
 

@@ -13,7 +13,7 @@ from __future__ import annotations
 import importlib
 from typing import Any, Tuple
 
-from . import Error, decode_rows, encode, from_image, header, info
+from . import Error, Rows, decode_rows, encode, from_image, header, info
 from ._rows import row_bytes
 
 _IMAGE: Any = importlib.import_module("PIL.Image")
@@ -57,6 +57,10 @@ class JbigFile(_FILE.ImageFile):  # type: ignore[misc]
         setattr(self, "_mode" if isinstance(getattr(type(self), "mode", None), property) else "mode", "1")
         self.tile = [("t85", (0, 0, fields.width, height), 0, None)]
 
+    def load_seek(self, pos: int) -> None:
+        """Seeks in the file. Since this method exists, ImageFile.Parser collects all bytes before it loads the image."""
+        self.fp.seek(pos)
+
     def _late_height(self, most: int) -> int:
         self.fp.seek(0)
         try:
@@ -72,14 +76,20 @@ class JbigDecoder(_FILE.PyDecoder):  # type: ignore[misc]
 
     def decode(self, buffer: bytes) -> Tuple[int, int]:
         _, _, width, height = self.state.extents()
+        length = height * row_bytes(width)
         try:
-            data = decode_rows(self.fd.read()).data
+            # The file may have changed since Pillow accepted the size of its image.
+            rows = decode_rows(self.fd.read(), max_bytes=length)
+            is_same = (rows.width, rows.count) == (width, height)
         except Error as error:
-            if not _FILE.LOAD_TRUNCATED_IMAGES or not hasattr(error.partial, "data"):
+            if not _FILE.LOAD_TRUNCATED_IMAGES or not isinstance(error.partial, Rows):
                 what = "image file is truncated" if error.number == _TRUNCATED else "broken data stream when reading image file"
                 raise OSError(f"{what}: {error.text}") from error
-            data = error.partial.data
-        self.set_as_raw(data + bytes(height * row_bytes(width) - len(data)), "1;I")
+            rows = error.partial
+            is_same = rows.width == width and rows.count <= height
+        if not is_same:
+            raise OSError("image file has changed since it was opened")
+        self.set_as_raw(rows.data + bytes(length - len(rows.data)), "1;I")
         return -1, 0
 
 

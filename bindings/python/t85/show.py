@@ -9,10 +9,11 @@ from __future__ import annotations
 
 import importlib
 import os
-from typing import Any, Tuple
+from typing import Any, Collection, Tuple
 
 from . import Error, Rows, decode_rows, to_image
-from ._files import read
+from ._files import Files, protocols
+from ._text import printable
 from ._walk import Walk, walk
 
 _WIDTH, _HEIGHT = 720, 940
@@ -27,7 +28,12 @@ _LINE = 20
 
 def show(name: str, picture: str) -> None:
     """Writes the picture of a stream as a PNG."""
-    draw_stream(read(name), os.path.basename(name)).save(picture, "PNG")
+    draw_file(name).save(picture, "PNG")
+
+
+def draw_file(name: str, stores: Collection[str] = ()) -> Any:
+    """Returns the picture of a file's stream, as a Pillow image. stores are the protocols that the name may have."""
+    return draw_stream(Files(protocols(stores)).read(name), printable(os.path.basename(name)))
 
 
 def _rows(stream: bytes) -> Tuple[Rows, str]:
