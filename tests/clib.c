@@ -36,6 +36,7 @@ void fail(const char *format, ...)
     va_start(list, format);
     fprintf(stderr, "FAILED: %s: ", about);
     vfprintf(stderr, format, list);
+    va_end(list);
     fputc('\n', stderr);
     exit(1);
 }
@@ -147,6 +148,7 @@ static void faults(char **words)
         fail("t85_window_bytes");
     rows = rows_of(image, &width, &height);
     rows = copied(rows.bytes, rows.len);
+    free(image.bytes);
     encoder_faults(rows, width, height);
     offsets(rows, width, height);
     decoder_faults(rows, width, height);

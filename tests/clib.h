@@ -19,7 +19,7 @@ extern bool at_front;
 extern size_t most;
 
 /* Prints what differs, and ends the program. */
-void fail(const char *format, ...);
+__attribute__((noreturn, format(printf, 1, 2))) void fail(const char *format, ...);
 
 /* Allocates bytes between two inaccessible pages, as an anonymous mapping that uses memory only
    for the parts that are written. */

@@ -295,6 +295,8 @@ void pieces(char **words)
         stream = file;
         stream.len = roll(3) ? file.len : roll(file.len + 1);
         stream.bytes = (uint8_t *)malloc(file.len + 1);
+        if (!stream.bytes)
+            fail("no memory for %zu bytes", file.len + 1);
         memcpy(stream.bytes, file.bytes, file.len);
         for (turned = (long)roll(4); turned > 0 && stream.len; turned--)
             stream.bytes[roll(3) ? roll(stream.len) : roll(20) % stream.len] ^= (uint8_t)(1u << roll(8));

@@ -102,10 +102,10 @@ typedef struct {
     uint32_t count;
 } their_rows;
 
-static int take_row(const struct jbg85_dec_state *state, unsigned char *start, size_t len, unsigned long y, void *to)
+static int take_row(const struct jbg85_dec_state *decoder, unsigned char *start, size_t len, unsigned long y, void *to)
 {
     their_rows *taken = to;
-    (void)state;
+    (void)decoder;
     if (len != taken->row || (y + 1) * len > PLACE)
         return 1;
     memcpy(theirs.bytes + y * len, start, len);
@@ -117,26 +117,26 @@ static int take_row(const struct jbg85_dec_state *state, unsigned char *start, s
 /* Decodes the stream with JBIG-KIT, if it also accepts the stream. */
 static void as_theirs(const uint8_t *packed, uint32_t width, uint32_t height)
 {
-    static uint8_t lines[3 * T85_MOST_WIDTH / 8];
-    struct jbg85_dec_state state;
+    static uint8_t held[3 * T85_MOST_WIDTH / 8];
+    struct jbg85_dec_state decoder;
     their_rows taken = {t85_row_bytes(width), 0};
     size_t count;
     int told, late;
     lend(&theirs, PLACE);
-    jbg85_dec_init(&state, lines, 3 * taken.row, take_row, &taken);
-    told = jbg85_dec_in(&state, stream.bytes, stream.len, &count);
+    jbg85_dec_init(&decoder, held, 3 * taken.row, take_row, &taken);
+    told = jbg85_dec_in(&decoder, stream.bytes, stream.len, &count);
     if (told == JBG_EAGAIN)
-        told = jbg85_dec_end(&state);
+        told = jbg85_dec_end(&decoder);
     if (told != JBG_EOK || getenv("FUZZ_ALONE"))
         return;
     /* JBIG-KIT returns rows before it has read the height behind them, and loses some if the
        height follows the last row. It also accepts a height behind the last row that follows a
        move or an error, where t85_decode no longer looks for one. */
     late = stream.bytes[19] & T85_VARIABLE_HEIGHT;
-    if (jbg85_dec_getheight(&state) > height ||
-        (!late && (jbg85_dec_getheight(&state) < height || taken.count != height)) ||
+    if (jbg85_dec_getheight(&decoder) > height ||
+        (!late && (jbg85_dec_getheight(&decoder) < height || taken.count != height)) ||
         memcmp(theirs.bytes, packed, taken.row * (taken.count < height ? taken.count : height))) {
-        fprintf(stderr, "JBIG-KIT: %lu rows, %u of them written; here %u\n", jbg85_dec_getheight(&state), taken.count,
+        fprintf(stderr, "JBIG-KIT: %lu rows, %u of them written; here %u\n", jbg85_dec_getheight(&decoder), taken.count,
                 height);
         CHECK(!"the image that JBIG-KIT reads");
     }
@@ -153,15 +153,15 @@ static void put(unsigned char *start, size_t len, void *to)
 /* Returns the stream of an image by JBIG-KIT's encoder. */
 static size_t encoded_by_theirs(const uint8_t *packed, uint32_t width, uint32_t height, const t85_options *options)
 {
-    struct jbg85_enc_state state;
+    struct jbg85_enc_state encoder;
     size_t row = t85_row_bytes(width), count = 0;
     uint32_t y;
     unsigned char *at = (unsigned char *)packed;
     lend(&theirs, PLACE);
-    jbg85_enc_init(&state, width, height, put, &count);
-    jbg85_enc_options(&state, (int)options->options, options->stripe_rows, (int)options->most_offset);
+    jbg85_enc_init(&encoder, width, height, put, &count);
+    jbg85_enc_options(&encoder, (int)options->options, options->stripe_rows, (int)options->most_offset);
     for (y = 0; y < height; y++, at += row)
-        jbg85_enc_lineout(&state, at, y > 0 ? at - row : NULL, y > 1 ? at - 2 * row : NULL);
+        jbg85_enc_lineout(&encoder, at, y > 0 ? at - row : NULL, y > 1 ? at - 2 * row : NULL);
     return count;
 }
 
@@ -373,7 +373,7 @@ __attribute__((section("__libfuzzer_extra_counters"))) static uint8_t counters[1
 
 static unsigned size_class(uint64_t number)
 {
-    return number < 4 ? (unsigned)number : 4 + (number >= 16) + (number >= 200);
+    return number < 4 ? (unsigned)number : 4u + (number >= 16) + (number >= 200);
 }
 
 static void tell(uint8_t info, uint8_t status, size_t count, const t85_summary *summary)
@@ -416,7 +416,7 @@ static size_t pbm_header(size_t written, const t85_header_fields *fields, uint8_
 /* Decodes the same stream in pieces of any length: `count` rows, and the reported height. */
 static void in_pieces(uint8_t status, const uint8_t *packed, size_t row, size_t count, uint32_t height)
 {
-    size_t at = 0, given = 0, len, taken, place;
+    size_t at = 0, given = 0, len, taken, at_row;
     uint8_t told = T85_MORE;
     t85_decoder *decoder;
     lend(&lines, 3 * row + roll(9));
@@ -430,13 +430,13 @@ static void in_pieces(uint8_t status, const uint8_t *packed, size_t row, size_t 
         len = len < stream.len - at ? len : stream.len - at;
         taken = 0;
         if (told == T85_MORE && at == stream.len)
-            told = t85_decode_end(decoder, lines.bytes, lines.len, &place);
+            told = t85_decode_end(decoder, lines.bytes, lines.len, &at_row);
         else
-            told = t85_decode_bytes(decoder, stream.bytes + at, len, lines.bytes, lines.len, &taken, &place);
+            told = t85_decode_bytes(decoder, stream.bytes + at, len, lines.bytes, lines.len, &taken, &at_row);
         CHECK(taken <= len && (told != T85_MORE || taken == len));
         at += taken;
         if (told == T85_ROW && given < count)
-            CHECK(!memcmp(lines.bytes + place, packed + given * row, row));
+            CHECK(!memcmp(lines.bytes + at_row, packed + given * row, row));
         given += told == T85_ROW;
     }
     CHECK(told == status && (status == T85_OK ? given >= count : given == count));
@@ -448,7 +448,7 @@ static void in_pieces(uint8_t status, const uint8_t *packed, size_t row, size_t 
 static void of_any_bytes(size_t row)
 {
     uint32_t front[4] = {1, roll(4), roll(2) ? UINT32_MAX : roll(99), 0};
-    size_t calls = roll(20), i, len, taken, place;
+    size_t calls = roll(20), i, len, taken, at_row;
     uint8_t told;
     lend(&lines, 3 * row + roll(9));
     lend(&state, sizeof(t85_decoder));
@@ -463,10 +463,10 @@ static void of_any_bytes(size_t row)
         taken = 0;
         if (roll(8))
             told = t85_decode_bytes((t85_decoder *)state.bytes, stream.bytes + stream.len - len, len, lines.bytes,
-                                    lines.len, &taken, &place);
+                                    lines.len, &taken, &at_row);
         else
-            told = t85_decode_end((t85_decoder *)state.bytes, lines.bytes, lines.len, &place);
-        CHECK(taken <= len && (told != T85_ROW || place + row <= 3 * row));
+            told = t85_decode_end((t85_decoder *)state.bytes, lines.bytes, lines.len, &at_row);
+        CHECK(taken <= len && (told != T85_ROW || at_row + row <= 3 * row));
     }
 }
 
@@ -562,7 +562,7 @@ static size_t fresh(uint8_t *data, size_t most)
     uint32_t width = 1 + roll(roll(3) ? 40 : 300), height = 1 + roll(20), y;
     t85_options options = T85_OPTIONS;
     size_t row = t85_row_bytes(width), i, written = 0;
-    uint8_t pixels[20 * 40], lines[3 * 40];
+    uint8_t pixels[20 * 40], held[3 * 40];
     if (most < 20)
         return 0;
     for (y = 0; y < height; y++)
@@ -576,7 +576,7 @@ static size_t fresh(uint8_t *data, size_t most)
     options.has_comment = roll(2);
     options.announces_height = roll(2);
     options.announced_height = height + roll(9);
-    CHECK(t85_encode(width, height, pixels, height * row, row, &options, pixels, roll(5), lines, 3 * row, data, most,
+    CHECK(t85_encode(width, height, pixels, height * row, row, &options, pixels, roll(5), held, 3 * row, data, most,
                      &written) %
               T85_NO_ROOM ==
           0);

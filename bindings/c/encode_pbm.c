@@ -20,9 +20,10 @@ int main(int count, char **names)
     options.most_offset = T85_MOST_OFFSET;
     uint8_t status;
     do { /* a stream may be longer than its image, though rarely: double the buffer until it fits */
-        stream = realloc(stream, room *= 2);
-        if (!stream)
+        uint8_t *longer = realloc(stream, room *= 2);
+        if (!longer)
             return 1;
+        stream = longer;
         status = t85_encode(width, height, rows, size, row, &options, NULL, 0, window, 3 * row,
                             stream, room, &written);
     } while (status == T85_NO_ROOM);

@@ -14,7 +14,7 @@ int main(int count, char **names)
     int out = count == 2 ? open(names[1], O_WRONLY | O_CREAT | O_TRUNC, 0666) : -1;
     uint8_t piece[1500], head[20], *window = NULL, status;
     size_t window_len = 0, head_len = 0, row_len = 0, at, taken, row;
-    t85_header_fields fields;
+    t85_header_fields fields = {0};
     t85_decoder decoder;
     if (out < 0 || t85_decode_start(&decoder, sizeof decoder, UINT32_MAX) != T85_OK)
         return 1;

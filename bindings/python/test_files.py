@@ -11,7 +11,7 @@ import unittest
 from unittest import mock
 
 import t85
-from samples import EXAMPLES, HERE, LATE, PBM, ROWS, STREAM, WORKED, head
+from samples import HERE, LATE, PBM, ROWS, STREAM, WORKED, head
 
 
 class Dribble(io.RawIOBase):

@@ -6,7 +6,7 @@ import random
 import unittest
 
 import t85
-from samples import LATE, ROWS, STREAM, WORKED, example, head, of_page
+from samples import LATE, ROWS, STREAM, WORKED, head, of_page
 
 
 def in_pieces(stream, size):

@@ -14,7 +14,7 @@ import unittest
 from unittest import mock
 
 import t85
-from samples import EXAMPLES, HERE, PBM, ROWS, STREAM, head
+from samples import HERE, PBM, ROWS, STREAM, head
 
 
 class Whole(unittest.TestCase):
