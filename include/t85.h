@@ -155,7 +155,12 @@ typedef struct {
 #define T85_OPTIONS {T85_OPTIONS_VERSION, T85_TYPICAL, 128, 0, 0, false, false, false}
 
 /* The fields of a stream's header. If `options` includes T85_VARIABLE_HEIGHT, `height` is the
-   greatest height that the image may have. */
+   greatest height that the image may have.
+
+   The low four bits of byte 18 (order) and the bits 0x10 (TPDON), 0x04 (DPON), 0x02 (DPPRIV) and
+   0x01 (DPLAST) of byte 19 have no meaning for one plane without layers, and are written as 0. A
+   driver may set them afterwards, if its printer expects that: decoding ignores them, but rejects
+   0x04 and 0x02 without 0x01, which announce a private table. */
 typedef struct {
     uint32_t width, height, stripe_rows, most_offset, options;
 } t85_header_fields;
@@ -250,7 +255,8 @@ uint8_t t85_stream_facts(const uint8_t *stream, size_t len, t85_facts *facts);
    stream and the same `part`, until it returns something other than 0.
 
    0: `part` describes the next part.
-   T85_NO_MORE_PARTS: there are no more parts; part->offset is the length of the stream.
+   T85_NO_MORE_PARTS: there are no more parts; part->offset is the length of the stream. It includes
+     the empty data entity behind a late height, which is not a part.
    1 to 15: the next part has this error; part->offset and part->stripe say where it begins.
    50: `part` has another version, and is unchanged. */
 T85_NO_NULL((3))
@@ -338,7 +344,8 @@ uint8_t t85_decode_start(t85_decoder *decoder, size_t size, uint32_t max_rows);
    T85_MORE: all bytes have been consumed, and more are needed.
    0: the image is complete: it is the first t85_decode_height rows of those returned. A NEWLEN
      after the last stripe, and the empty data entity after that, may be among the bytes not
-     consumed; use t85_stream_facts to find the end of a stream.
+     consumed; comments behind the end of the stream may be among those consumed. Use
+     t85_stream_facts to find the end of a stream.
    1 to 15: the stream is broken. All rows that the bytes before the error determine have been
      returned.
    24: the header announces more than max_rows rows.
@@ -356,7 +363,8 @@ uint8_t t85_decode_end(t85_decoder *decoder, uint8_t *window, size_t window_len,
 
 /* Returns how many of the first rows belong to the image whatever bytes follow: 0 until rows are
    asked for, and the height after the end. If the header has T85_VARIABLE_HEIGHT, a height that
-   arrives later may cut off further rows. */
+   arrives later may cut off further rows. A height has arrived when its whole NEWLEN has been
+   decoded. */
 T85_NO_NULL((1))
 uint32_t t85_decode_certain(const t85_decoder *decoder);
 
@@ -386,13 +394,14 @@ uint8_t t85_encode_start(t85_encoder *encoder, size_t size, uint32_t width, uint
                          size_t *written);
 
 /* Encodes the next row, the first t85_row_bytes(width) bytes at `row`, and writes the bytes of the
-   stream that have become certain, if any.
+   stream that have become certain, if any. After the last of the rows of a stripe, that is all of
+   the stripe. t85_encode_end writes the end of a last stripe that has fewer rows.
 
    The encoder stores row n, counted from 1, at place 2 * n % 3 of the window (each of the three
    places has t85_row_bytes(width) bytes), with the bits after its last pixel set to 0. It reads
    only the two rows above the new one, at their places; above the first row, and with `reset` above
    each stripe, these are white. So a caller that has these rows may rebuild the window for each
-   call.
+   call. With `reset`, the whole window is white after the last row of a stripe.
 
    Returns one of:
    0: the row was encoded; `stream` holds the next *written bytes of the stream.
