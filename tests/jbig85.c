@@ -171,6 +171,9 @@ static void drop(image *of)
 
 static void put(byte *start, size_t len, void *file)
 {
+    const text *before = file;
+    /* The header comes alone, unless the stream is aborted before it. */
+    CHECK(before->len > 0 || len == 20 || (len == 2 && start[1] == 4));
     add(file, start, len);
 }
 

@@ -132,6 +132,20 @@ static size_t beginning(const struct jbg85_enc_state *s)
 
 typedef enum { START, ROW, END } step;
 
+/* Passes on the bytes of a step. The header, and each comment, is a call of its own, as with
+   libjbig: programs that change the header expect it in the first call. */
+static void pass_on(struct jbg85_enc_state *s, step what, unsigned char *bytes, size_t len)
+{
+    t85_part part = T85_PART;
+    size_t passed = 0;
+    while (what == START && t85_next_part(bytes, len, &part) == T85_OK) {
+        s->data_out(bytes + part.offset, part.len, s->file);
+        passed = part.offset + part.len;
+    }
+    if (passed < len)
+        s->data_out(bytes + passed, len - passed, s->file);
+}
+
 /* Runs one step of the stream with memory of its own, passes on the bytes that it wrote, and
    returns whether it succeeded. */
 static bool take(struct jbg85_enc_state *s, step what, const unsigned char *line,
@@ -160,8 +174,7 @@ static bool take(struct jbg85_enc_state *s, step what, const unsigned char *line
         else
             status = t85_encode_end(encoder_of(s), window, window_len, stream, room, &written);
     }
-    if (written > 0)
-        s->data_out(stream, written, s->file);
+    pass_on(s, what, stream, written);
     free(window);
     if (status != T85_OK)
         fail(s, status);
