@@ -147,6 +147,26 @@ class Outputs(Folder):
         os.close(writer)
         self.assertEqual((ended.returncode, ended.stderr), (1, ""))
 
+    def test_partial(self):
+        # The rows that a broken stream determines become an image of that height.
+        name, cut = self.keep("cut.jbg", STREAM[:500]), self.path("cut.pbm")
+        self.assertEqual(self.counts("decode", name, status=1), (0, 0, 1))
+        self.assertFalse(os.path.exists(cut))
+        with self.assertRaises(t85.Error) as raised:
+            t85.decode_rows(STREAM[:500])
+        rows = raised.exception.partial
+        self.assertTrue(0 < rows.count < 160)
+        for words in ([], [], ["--again"]):
+            _, messages = self.ran("decode", "--partial", *words, name, status=1)
+            self.assertIn(f"input ends too early; {rows.count} rows were written\n", messages)
+            self.assertEqual(read(cut), b"P4\n416 %d\n" % rows.count + PBM[11 : 11 + 52 * rows.count])
+        # The option changes nothing for a whole stream, and no image is written for a stream without a row.
+        self.assertEqual(self.counts("decode", "--partial", self.keep("a.jbg", STREAM)), (1, 0, 0))
+        self.assertEqual(read(self.path("a.pbm")), PBM)
+        for data in (STREAM[:20], STREAM[:10], b""):
+            self.ran("decode", "--partial", self.keep("b.jbg", data), status=1)
+            self.assertFalse(os.path.exists(self.path("b.pbm")))
+
     def test_stopped_is_reported(self):
         told = json.loads(self.ran("check", "-q", "--json", "-", self.keep("a.jbg", STREAM))[0])
         self.assertIs(told["stopped"], False)

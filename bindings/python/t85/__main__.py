@@ -85,6 +85,9 @@ def _parser() -> argparse.ArgumentParser:
             command.add_argument("-o", "--folder", metavar="FOLDER", help="where the outputs go (beside their inputs)")
             command.add_argument("-R", "--relative", action="store_true", help="keep the inputs' folders below FOLDER")
             command.add_argument("--again", action="store_true", help="skip no file, and replace any output")
+        if name == "decode":
+            text = "of a broken stream, write the rows that can be recovered, as an image of that height"
+            command.add_argument("--partial", action="store_true", help=text)
         if name in ("decode", "check"):
             command.add_argument("--max-bytes", type=int, default=MAX_BYTES, metavar="N", help="refuse larger images (1 GiB)")
     _add_options(commands.choices["encode"])
@@ -125,7 +128,7 @@ def _count(text: str) -> int:
 def _job(words: argparse.Namespace) -> Job:
     names = ("stripe_rows", "most_offset", "best_offset", "two_lines", "typical", "reset", "comment")
     options = {name: getattr(words, name) for name in names if hasattr(words, name)}
-    given = {name: getattr(words, name) for name in ("folder", "again", "max_bytes") if hasattr(words, name)}
+    given = {name: getattr(words, name) for name in ("folder", "again", "max_bytes", "partial") if hasattr(words, name)}
     return Job(words.command, options=options, stores=words.store, tree=getattr(words, "relative", False), **given)
 
 

@@ -60,6 +60,8 @@ class Job:
     tree      place each output in the folder under the whole name of its input, as `rsync -R` does, not under its last part
     again     skip no file, and replace any output
     stores    the protocols of remote stores that names may have, such as {"s3"}; none by default
+    partial   for a broken stream, write an image of the rows that can be recovered, as high as their number; the outcome
+              is a failure nevertheless
     """
 
     command: str
@@ -69,6 +71,7 @@ class Job:
     options: Mapping[str, Any] = field(default_factory=dict)
     stores: Collection[str] = ()
     tree: bool = False
+    partial: bool = False
 
     def __post_init__(self) -> None:
         object.__setattr__(self, "stores", protocols(self.stores))
@@ -111,11 +114,32 @@ def _encode(job: Job, name: str) -> Outcome:
 
 def _decode(job: Job, name: str) -> Outcome:
     output, stream = _target(job, name), job.files.read(name)
-    if _is_finished(job, name, output, lambda: _is_image(job, output, info(stream))):
+    try:
+        summary = info(stream)
+    except Error as error:
+        if not job.partial:
+            raise
+        return _recover(job, name, output, stream, error)
+    if _is_finished(job, name, output, lambda: _is_image(job, output, summary)):
         return Outcome(name, SKIPPED)
     image = decode(stream, max_bytes=job.max_bytes)
     _write(job, output, image)
     return Outcome(name, DONE, len(stream), len(image))
+
+
+def _recover(job: Job, name: str, output: str, stream: bytes, broken: Error) -> Outcome:
+    """Writes an image of the rows of a broken stream that can be recovered, if there are any."""
+    rows = None
+    try:
+        decode_rows(stream, max_bytes=job.max_bytes)
+    except Error as error:
+        rows = error.partial
+    if not isinstance(rows, Rows) or not rows.count:
+        raise broken
+    image = head_of(rows.width, rows.count) + rows.data
+    if not _is_finished(job, name, output, lambda: job.files.read(output) == image):
+        _write(job, output, image)
+    return Outcome(name, FAILED, len(stream), len(image), broken.number, f"{broken.text}; {rows.count} rows were written")
 
 
 def _info(job: Job, name: str) -> Outcome:
