@@ -3,15 +3,18 @@ import io
 import itertools
 import os
 import random
+import re
 import subprocess
 import sys
 import tempfile
 import threading
+import tracemalloc
 import unittest
 from unittest import mock
 
 import t85
 from samples import HERE, LATE, PBM, ROWS, STREAM, WORKED, head
+from t85._pbm import _TEXTS, PageReader
 
 
 class Dribble(io.RawIOBase):
@@ -138,17 +141,52 @@ class FromFileToFile(unittest.TestCase):
         rows = [int(digits[at : at + width] + "0" * 7, 2).to_bytes(126, "big") for at in range(0, len(digits), width)]
         self.assertEqual(self.encoded(b"P1 1001 90\n" + plain.encode()), t85.encode(b"".join(rows), width, 90))
 
+    def test_cut_header(self):
+        # A header means the same in pieces of any length: this comment has what looks like numbers.
+        for image in (b"P4\n# 16 2 dots an inch\n8 1\n\xaa", b"P4#1 1 \r#2\n\t008#\r# 3 3\n 01#9\n\xaa"):
+            for length in range(1, len(image) + 1):
+                pieces = iter([image[at : at + length] for at in range(0, len(image), length)])
+                reader = PageReader(lambda size: next(pieces, b""))
+                self.assertEqual((reader.width, reader.height, [*reader.rows()]), (8, 1, [b"\xaa"]))
+        for filler in (b" ", b"#"):
+            image = b"P4\n" + b"#" * 4090 + b" 16 2 " + filler * 5000 + b"\n8 1\n\xaa"
+            self.assertEqual(self.encoded(image), t85.encode(b"\xaa", 8, 1))
+
+    def test_long_header(self):
+        # The reader keeps no blank, comment or zero that it has read.
+        for filler in (b" ", b"#", b"0", b"\n#\n"):
+            last = b"8 1\n\xaa" if filler == b"0" else b"\n8 1\n\xaa"
+            pieces = itertools.chain([b"P4 "], itertools.repeat(filler * 1000, 300), [last])
+            tracemalloc.start()
+            reader = PageReader(lambda size: next(pieces, b""))
+            most = tracemalloc.get_traced_memory()[1]
+            tracemalloc.stop()
+            self.assertEqual((reader.width, reader.height, [*reader.rows()]), (8, 1, [b"\xaa"]))
+            self.assertLess(most, 100_000)
+
     def test_no_image(self):
-        for image in (b"", b"P", b"P4", b"P5 8 1 \xff", b"P4 x", b"P4\n8 1", b"P4 8 1x\xff", b"P4 8 " + b"0" * 200000):
-            with self.subTest(image=image[:9]):
-                error, written = self.fault(t85.encode_file, image)
-                self.assertEqual((error.number, written), (31, b""))
+        # The errors of docs/PBM.md; nothing is written.
+        images = {
+            31: (b"P5 8 1 \xff", b"Q"),
+            32: (b"P4 x", b"P4 8 1x\xff"),
+            33: (b"P4 0 1\n", b"P4 1 0\n"),
+            34: (b"P4 1048577 1\n",),
+            35: (b"P4 1 4294967296 ",),
+            36: (b"", b"P", b"P4", b"P4\n8 1", b"P4 8 " + b"0" * 200000),
+        }
+        for number, refused in images.items():
+            for image in refused:
+                with self.subTest(image=image[:9]):
+                    error, written = self.fault(t85.encode_file, image)
+                    self.assertEqual((error.number, written), (number, b""))
         error, written = self.fault(t85.encode_file, b"P1\n8 2\n11111111 0 2 000000", typical=False, stripe_rows=1)
         self.assertEqual((error.number, written), (38, head(8, 2, 1, 0, 0) + b"\xf0\xff\x02"))
-        for image, number in ((b"P4 0 1\n", 33), (b"P4 1 0\n", 33), (b"P4 1048577 1\n", 34)):
-            self.assertEqual(self.fault(t85.encode_file, image)[0].number, number)
-        with self.assertRaises(OverflowError):
-            t85.encode_file(io.BytesIO(b"P4 1 4294967296 "), io.BytesIO())
+
+    def test_texts(self):
+        with open(os.path.join(HERE, "../../docs/FORMAT.md")) as file:
+            rows = [line.split(" | ") for line in file if re.match(r"\| 3\d ", line)]
+        texts = {int(row[0].strip("| ")): row[2].strip(" |\n") for row in rows}
+        self.assertEqual({number: texts[number] for number in _TEXTS}, _TEXTS)
 
     def test_missing_rows(self):
         whole = t85.encode(ROWS, 416, 160, stripe_rows=20)

@@ -39,11 +39,14 @@ PAGES = {
     b"P1 1 1 1": (1, 1, b"\x80"),
     b"P1 1 1#1\n0": (1, 1, b"\0"),
 }
+# Inputs of the same table, each with the number of its error, and pages whose rows are missing.
 NO_PAGES = {
-    31: [b"", b"P", b"P4", b"P4 1", b"P1 1 11", b"Q", b"P5", b"P4x", b"P4 x", b"P4 1x", b"P4 -1 1 ", b"P4 1 4294967296000 "],
-    33: [b"P4\n0 1\n", b"P4 1 0 "],
-    34: [b"P4\n1048577 1\n"],
-    36: [b"P4\n8 1\n", b"P1\n8 1\n1111111"],
+    31: [b"Q", b"P5", b"P4x"],
+    32: [b"P4 x", b"P4 1x", b"P4 -1 1 ", b"P4 1048577x", b"P4 8 1x\xff"],
+    33: [b"P4\n0 1\n", b"P4 1 0 ", b"P4 0#"],
+    34: [b"P4\n1048577 1\n", b"P4 1048577#"],
+    35: [b"P4 1 4294967296 ", b"P4 1 4294967296000#"],
+    36: [b"", b"P", b"P4", b"P4 1", b"P1 1 11", b"P4 1048577", b"P4#", b"P4\n8 1\n", b"P1\n8 1\n1111111"],
     38: [b"P1\n1 1\n#", b"P1 1 1 2"],
 }
 
