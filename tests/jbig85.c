@@ -591,6 +591,30 @@ static void told(const image *of, int options, size_t changed, byte bits, size_t
     free(stream.bytes);
 }
 
+/* A stream whose height arrived before its stripe ends with the stripe, in pieces of any length:
+   another height behind it is not consumed. */
+static void end_with_a_stripe(void)
+{
+    static const byte stream[] = {0, 0, 1, 0, 0,    0, 0, 1, 0, 0, 0,    1, 0, 0,    0, 1, 0,
+                                  0, 0, 32, 0xff, 5, 0, 0, 0, 1, 0xff, 2, 0xff, 5, 0, 0, 0, 1};
+    size_t cut, one, other;
+    for (cut = 0; cut <= sizeof stream; cut++) {
+        struct jbg85_dec_state s;
+        reading now = {NULL, NULL, 0, 0, 0};
+        byte lines[3], *first = room(cut), *second;
+        now.s = &s;
+        memcpy(first, stream, cut);
+        jbg85_dec_init(&s, lines, sizeof lines, line_out, &now);
+        CHECK(jbg85_dec_in(&s, first, cut, &one) == (cut < 28 ? JBG_EAGAIN : JBG_EOK));
+        second = room(sizeof stream - one);
+        memcpy(second, stream + one, sizeof stream - one);
+        CHECK(jbg85_dec_in(&s, second, sizeof stream - one, &other) == JBG_EOK);
+        CHECK(one + other == 28);
+        free(first);
+        free(second);
+    }
+}
+
 static void differs(void)
 {
     image of = random_image();
@@ -621,10 +645,19 @@ static void differs(void)
     told(&of, 8, 0, 0, 20, "\377\4", 2, JBG_EABORT, JBG_EABORT);
     told(&of, 40, 0, 0, all, "\377\5\0\0\0\50", 6, JBG_EOK, JBG_EAGAIN);
     told(&of, 40, 0, 0, all, "\377\5\0\0\0\5\377\2", 8, JBG_EINVAL, JBG_EOK);
+    told(&of, 40, 0, 0, all, "\377\5\0\0\0\50more", 10, JBG_EOK, JBG_EINVAL);
+    told(&of, 8, 0, 0, 21, "\377\6\0\0\0\0\0\0\0", 9, JBG_EMARKER, JBG_EINVAL);
+    told(&of, 8, 0, 0, 21, "\377\7\0\0\0\0", 6, JBG_EMARKER, JBG_EAGAIN);
+    told(&of, 40, 0, 0, 21, "\377\5\0\0\0\50", 6, JBG_EMARKER, JBG_EAGAIN);
     of.options = JBG_VLENGTH;
     stream = encode(&of);
     add(&stream, (const byte *)"\377\5\0\0\0\5\377\2", 8);
     CHECK(answer(&stream, 3 * of.row, &now) == JBG_EOK && now.height == (is_ours ? 40 : 5));
+    free(stream.bytes);
+    now.rows = 0;
+    stream = encode(&of);
+    add(&stream, (const byte *)"more", 4);
+    CHECK(answer(&stream, 3 * of.row, &now) == (is_ours ? JBG_EOK : JBG_EINVAL));
     free(stream.bytes);
     now.rows = 0;
     of.options = JBG_LRLTWO;
@@ -644,6 +677,7 @@ static void differs(void)
     CHECK(is_ours ? s.comment == line : !s.comment);
     free(stream.bytes);
     drop(&of);
+    end_with_a_stripe();
 }
 
 static image any_image(unsigned long seed, int pages, char **names)

@@ -324,6 +324,15 @@ static size_t late_height(const struct jbg85_dec_state *s, const unsigned char *
     return 0;
 }
 
+/* Returns whether a decoder needs more than these bytes. If it does, and one more byte ends its
+   image, the bytes compared above are a height, and not what only looks like one. */
+static bool needs_more(t85_decoder decoder, const unsigned char *bytes, size_t len,
+                       unsigned char *window, size_t window_len)
+{
+    size_t consumed, row;
+    return t85_decode_bytes(&decoder, bytes, len, window, window_len, &consumed, &row) == T85_MORE;
+}
+
 /* Consumes the empty stripe data entity behind such a height, if there is one, so that all bytes
    of the stream are consumed. */
 static int take_empty(struct jbg85_dec_state *s, const unsigned char *data, size_t len,
@@ -354,7 +363,9 @@ int jbg85_dec_in(struct jbg85_dec_state *s, unsigned char *data, size_t len, siz
         /* The length of the window is known once the header is. */
         unsigned char *window = s->bie_len == sizeof s->buffer ? s->linebuf : NULL;
         unsigned char *rest = *cnt < len ? data + *cnt : NULL;
+        const unsigned char *piece = rest;
         size_t window_len = window ? s->linebuf_len : 0, taken = 0;
+        t85_decoder before = *decoder_of(s);
         if (s->end_of_bie)
             status = t85_decode_end(decoder_of(s), window, window_len, &row);
         else
@@ -369,9 +380,14 @@ int jbg85_dec_in(struct jbg85_dec_state *s, unsigned char *data, size_t len, siz
             s->y++;
             if (s->intr)
                 return JBG_EOK_INTR;
-        } else if (status == T85_OK && (more = late_height(s, rest, len - *cnt)) > 0) {
-            *cnt += more;
-            s->ending = 1;
+        } else if (status == T85_OK) {
+            more = late_height(s, rest, len - *cnt);
+            if (more > 0 && needs_more(before, piece, taken + more - 1, window, window_len)) {
+                *cnt += more;
+                s->ending = 1;
+            } else {
+                s->ending = 3;
+            }
         } else if (status != T85_HEADER_READ) {
             return code_of(s, status);
         }
