@@ -8,7 +8,7 @@
 # make library-test  compares the library, as called from C and Python, with the programs; tests it installed; tests the wheel
 # make wheel         builds a wheel of the Python module with the library inside, for `pip install`, in dist/
 # make manuals       checks the manual pages
-# make debian        builds the packages of packaging/debian, and runs lintian on them
+# make debian        builds the packages of packaging/debian into dist/, and runs lintian on them
 # make jbig85        builds bin/libjbig85.a: the library with JBIG-KIT's functions on top
 # make interop       exchanges streams with JBIG-KIT's programs and library, and compares the images; runs JBIG-KIT's own
 #                    programs on the library (fetches JBIG-KIT's source with `apt-get`)
@@ -199,7 +199,7 @@ manuals:
 	tests/manuals
 
 debian:
-	tests/debian
+	tests/debian dist
 
 interop: bin/libjbig85.a
 	tests/interop bin
