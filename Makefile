@@ -146,6 +146,7 @@ documents:
 	tools/prose
 	tools/interface
 	tools/recipes
+	tools/figures
 	tools/links
 
 # `rt ci` proves from nothing, and keeps only the statements of a library. The builds after it use libraries with their
