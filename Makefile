@@ -147,6 +147,7 @@ documents:
 	tools/interface
 	tools/recipes
 	tools/figures
+	tools/texts
 	tools/links
 
 # `rt ci` proves from nothing, and keeps only the statements of a library. The builds after it use libraries with their
