@@ -364,7 +364,10 @@ uint8_t t85_decode_end(t85_decoder *decoder, uint8_t *window, size_t window_len,
 /* Returns how many of the first rows belong to the image whatever bytes follow: 0 until rows are
    asked for, and the height after the end. If the header has T85_VARIABLE_HEIGHT, a height that
    arrives later may cut off further rows. A height has arrived when its whole NEWLEN has been
-   decoded. */
+   decoded.
+
+   This counts rows of the image, not rows that were returned. After a broken end it is the height,
+   too, although only the rows that were returned can be saved. */
 T85_NO_NULL((1))
 uint32_t t85_decode_certain(const t85_decoder *decoder);
 

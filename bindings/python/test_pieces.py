@@ -57,6 +57,8 @@ class Pieces(unittest.TestCase):
         with self.assertRaises(t85.Error) as raised:
             decoder.end()
         self.assertEqual((raised.exception.number, raised.exception.partial.count), (9, 0))
+        # Of two rows, one was returned; both belong to the image.
+        self.assertEqual((decoder.height, decoder.certain), (2, 2))
         with self.assertRaises(t85.Error) as raised:
             t85.Decoder(max_rows=159).feed(STREAM)
         self.assertEqual(raised.exception.number, 24)
