@@ -17,6 +17,7 @@
 # make libtiff       builds Debian's libtiff with the library instead of JBIG-KIT's, and exchanges TIFF files with Debian's
 #                    tools (fetches libtiff's source with `apt-get`)
 # make fuzz          calls the library with random streams for FUZZ_SECONDS, alongside JBIG-KIT's library
+# make fuzz-python   does the same with the Python module, alongside the commands
 # make bench         measures, and compares with JBIG-KIT and netpbm; no test depends on time
 # make pictures      draws the pictures of README.md and docs/ that are made from streams
 # make against       compares both programs with another build, in the folder OTHER
@@ -55,8 +56,8 @@ MODULE = $(patsubst bindings/python/%,%,$(wildcard bindings/python/t85/*.py bind
 BUILT = $(PROGRAMS:%=bin/%)
 LIBRARY = bin/libt85.a bin/$(SHARED) bin/$(SONAME) bin/libt85.so
 # The targets that first build the programs, and those that first build the library.
-OF_PROGRAMS = show static turns library-test interop charts libtiff against bench pictures
-OF_LIBRARY = library-test interop charts libtiff fuzz bench wheel pictures jbig85
+OF_PROGRAMS = show static turns library-test interop charts libtiff fuzz-python against bench pictures
+OF_LIBRARY = library-test interop charts libtiff fuzz fuzz-python bench wheel pictures jbig85
 
 # quoted TEXT: TEXT as one shell word, with its spaces
 quoted = '$(subst ','\'',$(1))'
@@ -223,6 +224,9 @@ libtiff:
 fuzz:
 	tests/fuzz bin $(FUZZ_SECONDS)
 
+fuzz-python:
+	tests/fuzz_python bin $(FUZZ_SECONDS)
+
 # Compares with another build: make against OTHER=folder
 against:
 	tests/against bin $(OTHER)
@@ -305,4 +309,4 @@ clean:
 	rm -rf bin dist crates/*/out
 
 .PHONY: show build library static processor documents proofs test turns library-test wheel pictures manuals debian jbig85 \
-	interop charts libtiff fuzz against bench install install-programs install-library uninstall clean
+	interop charts libtiff fuzz fuzz-python against bench install install-programs install-library uninstall clean

@@ -73,6 +73,11 @@ class Stores(unittest.TestCase):
         self.assertEqual((status, output), (1, ""))
         self.assertEqual(messages.count("--store"), len(self.NAMES))
 
+    def test_zero_byte(self):
+        for words in (["info"], ["encode"], ["decode", "-o", "."], ["check"]):
+            status, output, messages = ran(*words, "-q", "--names", "-", standard="a\0b.jbg\n\0")
+            self.assertEqual((status, output, messages.count("the name contains a NUL byte")), (1, "", 2), messages)
+
     def test_show(self):
         with self.opened():
             status, _, messages = ran("show", "file:///etc/passwd")

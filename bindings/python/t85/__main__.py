@@ -159,7 +159,7 @@ def _clash(job: Job, names: Sequence[str]) -> Optional[str]:
         output = job.output(name)
         if output is None:
             return None
-        place = output if is_store_name(output) else os.path.realpath(output)
+        place = output if is_store_name(output) or "\0" in output else os.path.realpath(output)
         if seen.setdefault(place, name) != name:
             return f"{quoted(seen[place])} and {quoted(name)} would both be written as {quoted(output)}"
         there = identity(output)

@@ -43,7 +43,9 @@ class Files:
     stores: FrozenSet[str] = frozenset()
 
     def refuse(self, name: str) -> None:
-        """Raises OSError if a name is that of a store whose protocol is not listed, or of a file in another one."""
+        """Raises OSError if a name is that of a store whose protocol is not listed, or of a file in another one, or of none."""
+        if "\0" in name:
+            raise OSError(errno.EINVAL, "the name contains a NUL byte")
         if not is_store_name(name):
             return
         if "::" in name:
@@ -58,6 +60,7 @@ class Files:
         return system, path
 
     def read(self, name: str) -> bytes:
+        self.refuse(name)
         if is_store_name(name):
             system, path = self._located(name)
             return bytes(system.cat_file(path))
