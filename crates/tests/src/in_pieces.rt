@@ -490,6 +490,17 @@ static DETERMINED: [(usize, Outcome, u32); 3] = [
     (1, Outcome::More, 2),
 ];
 
+/// Five rows of one pixel in one stripe, whose code determines them all (T.82, 6.8). Its end marker is in the same
+/// piece, and a height behind it may still cut off all but the first; yet no row waits.
+static AT_THE_MARKER: [(usize, Outcome, u32); 6] = [
+    (6, Outcome::Row, 1),
+    (0, Outcome::Row, 1),
+    (0, Outcome::Row, 1),
+    (0, Outcome::Row, 1),
+    (0, Outcome::Row, 1),
+    (0, Outcome::More, 1),
+];
+
 /// Asserts the results of calls, each with this many more bytes of the stream, and the number of certain rows.
 fn assert_answers(
     rt: &impl Abort,
@@ -535,7 +546,11 @@ fn determined_rows_do_not_wait(rt: HostRuntime) -> Result<(), Fail> {
     let stream = Hex("00000100 00000008 00000009 00000001 00 0000 20 F00000 FF02 F0").to_vec(
         rt.alloc(),
     )?;
-    assert_answers(&rt, rt.alloc(), &stream, &DETERMINED, 9)
+    assert_answers(&rt, rt.alloc(), &stream, &DETERMINED, 9)?;
+    let stream = Hex("00000100 00000001 00000005 00000080 00 0000 20 C0000000 FF02").to_vec(
+        rt.alloc(),
+    )?;
+    assert_answers(&rt, rt.alloc(), &stream, &AT_THE_MARKER, 5)
 }
 
 /// Streams whose height is the header's.

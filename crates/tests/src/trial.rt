@@ -549,9 +549,20 @@ fn first_failing(alloc: Global, run: Run<'_>) -> Result<Option<&'static str>, Li
 
 /// Asserts that each run passes each trial.
 pub fn all_stand(rt: &impl Abort, alloc: Global, runs: &[Run<'_>]) -> Result<(), Fail> {
-    for (at, run) in runs.iter().enumerate() {
-        let failing = first_failing(alloc, *run)?;
-        assert!(rt; failing == None, "run {at}: {failing:?}");
+    for run in runs {
+        if let Some(trial) = first_failing(alloc, *run)? {
+            let case = Case::new(alloc, *run)?;
+            let ran = case.run_on(alloc, &case.input, SMOOTH)?;
+            assert!(rt;
+                false,
+                "{:?} fails the trial of {trial}: expected are {:?} and {:?}; without the trial there are {:?} and {:?}",
+                run.words,
+                run.fault,
+                case.output,
+                String::from_utf8_lossy(alloc, &ran.messages)?,
+                ran.output
+            );
+        }
     }
     Ok(())
 }
