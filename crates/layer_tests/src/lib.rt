@@ -8,6 +8,8 @@ mod coder;
 #[cfg(test)]
 mod devices;
 #[cfg(test)]
+mod in_pieces;
+#[cfg(test)]
 mod numbers;
 #[cfg(test)]
 mod parts;

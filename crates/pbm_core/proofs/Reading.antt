@@ -1,5 +1,5 @@
 -- Calls that read, one after the other.
-use Rattle.std.proofs.Common.{◌≡◌, ◌≢◌, ◌⊎◌, inl, inr, ℕ, ◌+◌, List, [], ◌∷◌, ◌++◌, length, Result, Ok, Err, refl, sym, ap, ◌∙◌, subst, append-nil, append_assoc, length-append, arith}
+use Rattle.std.proofs.Common.{◌≡◌, ◌≢◌, ◌⊎◌, inl, inr, ℕ, ◌+◌, List, [], ◌∷◌, ◌++◌, length, Result, Ok, Err, refl, sym, ap, ◌∙◌, subst, append-nil, length-append, arith}
 use Rattle.std.specs.Io.KnownBytes.{Consumes}
 use Rattle.std.specs.Result.{IsErrAnd}
 use Rattle.pbm_core.specs.declared.fault.PbmFault.{PbmFault}
@@ -47,6 +47,10 @@ uncounted : (T : Type 0) (old new : ℕ) (f : PbmFault) → fault_of_given f ≡
 uncounted T old new Read same e = let h = same in cc
 uncounted T old new f same e = e
 
+pub same_given : (f : PbmFault) → f ≢ Read → fault_of_given f ≡ f
+same_given Read other = absurd (other refl)
+same_given f other = refl
+
 -- a fault shows in the bytes so far
 pub fails-at : {T : Type 0} {a b : InputView} {P : List ℕ → T → Type 0} {F : List ℕ → PbmFault → Type 0} {given : List ℕ} (f : PbmFault) → fault_of_given f ≡ f → f ≢ Truncated
     → Passes a b given → F given f → Reads a b (Err f) P F
@@ -89,7 +93,3 @@ pub missing : {T U : Type 0} {a b c : InputView} {e : PbmFault} {P : List ℕ �
     → IsErrAnd r (λ y. y ≡ e) → Passes a b front → Reads b c (Err e) Q (IsCut (λ given. given ≡ [])) → F front Truncated → Reads a c r P F
 missing {F = F} {front = front} r is p q cut = fails-after r is p q (λ given f k.
     subst (λ x. F (front ++ given) x) (sym k.1) (subst (λ xs. F xs Truncated) (sym (ap (λ z. front ++ z) k.0 ∙ append-nil front)) cut))
-
--- bytes that end with one that is held, and then what begins with it
-pub joined : {xs ys rest : List ℕ} (front : List ℕ) (b : ℕ) → xs ≡ front ++ b ∷ [] → b ∷ ys ≡ rest → xs ++ ys ≡ front ++ rest
-joined {xs} {ys} {rest} front b e then = ap (λ z. z ++ ys) e ∙ append_assoc front (b ∷ []) ys ∙ ap (λ z. front ++ z) then

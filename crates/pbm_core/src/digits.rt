@@ -3,7 +3,7 @@
 ghost use Rattle.std.specs.Prelude.{◌≤◌, IfSome};
 ghost use Rattle.pbm_core.specs.Steps.{MakeByte, FindsPixels};
 
-use crate::header::is_white;
+use crate::header_reader::is_white;
 use crate::rows::pixel_of;
 
 /// A word of eight digits 0.

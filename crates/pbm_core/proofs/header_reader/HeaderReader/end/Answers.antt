@@ -1,0 +1,5 @@
+use Rattle.pbm_core.proofs.HeaderSteps.{scanned_cut}
+use Rattle.pbm_core.proofs.header_reader.HeaderReader.end.Goals as goal
+
+pub returns : goal.returns
+returns c = scanned_cut c.args.self.now.place c.args.self.now
