@@ -139,8 +139,9 @@ fn whole(code: &[u8]) -> u64 {
 /// The number of equal events in a row from here on, up to 64.
 fn run_at(events: &[Counted], at: usize) -> u32 {
     let mut count = 0u32;
-    let Some(first) = events.get(at) else {
-        return 0;
+    let first = match events.get(at) {
+        Some(first) => first,
+        None => return 0,
     };
     for k in 0..64usize {
         match events.get(at.saturating_add(k)) {

@@ -43,10 +43,10 @@ fn eight_digits(bytes: &[u8], count: u32) -> Option<u8>
     if count < 8 {
         return None;
     }
-    let Some(digits) = bytes.first_chunk::<8>() else {
-        return None;
-    };
-    gathered(digits)
+    match bytes.first_chunk::<8>() {
+        Some(digits) => gathered(digits),
+        None => None,
+    }
 }
 
 /// The byte into which eight digits are packed.

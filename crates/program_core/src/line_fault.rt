@@ -50,8 +50,9 @@ pub(crate) fn fault_of(alloc: Global, error: clap::Error) -> LineFault
     if kind == ErrorKind::OutOfMemory {
         return LineFault::Fault(Fault::OutOfMemory);
     }
-    let Ok(text) = format!(in alloc; "{error}") else {
-        return LineFault::Fault(Fault::OutOfMemory);
+    let text = match format!(in alloc; "{error}") {
+        Ok(text) => text,
+        Err(_) => return LineFault::Fault(Fault::OutOfMemory),
     };
     match kind {
         ErrorKind::DisplayHelp | ErrorKind::DisplayVersion => LineFault::Help(text),

@@ -617,8 +617,9 @@ static FAULTS: [Fault; 19] = [
 
 /// Whether the text for an error's number is what the engine displays, also if only a part of it fits.
 fn is_said(alloc: Global, fault: &Fault) -> bool {
-    let Ok(text) = format!(in alloc; "{fault}") else {
-        return false;
+    let text = match format!(in alloc; "{fault}") {
+        Ok(text) => text,
+        Err(_) => return false,
     };
     let shown = text.as_bytes();
     for size in 0..64 {

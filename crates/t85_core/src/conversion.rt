@@ -111,8 +111,9 @@ fn convert<R: Input, W: Output>(
     if height > max_rows {
         return Err(Fault::TooManyRows);
     }
-    let Ok(mut rows) = vec![in alloc; 0u8; window_bytes(header.xd)] else {
-        return Err(Fault::OutOfMemory);
+    let mut rows = match vec![in alloc; 0u8; window_bytes(header.xd)] {
+        Ok(rows) => rows,
+        Err(_) => return Err(Fault::OutOfMemory),
     };
     let mut window = Window::over(rows.as_mut_slice(), header.xd);
     decode(header, height, &mut window, input, output)?;
@@ -161,8 +162,9 @@ fn to_jbg_from<R: Input, W: Output>(
     if options.is_low(size) {
         return Err(Fault::AnnouncedLow);
     }
-    let Ok(mut rows) = vec![in alloc; 0u8; window_bytes(size.width)] else {
-        return Err(Fault::OutOfMemory);
+    let mut rows = match vec![in alloc; 0u8; window_bytes(size.width)] {
+        Ok(rows) => rows,
+        Err(_) => return Err(Fault::OutOfMemory),
     };
     let mut window = Window::over(rows.as_mut_slice(), size.width);
     encode(size, form, options, &mut window, input, output)?;

@@ -133,8 +133,9 @@ enum Answer {
 impl Case {
     /// Asks for the offset.
     fn ask(&self, alloc: Global) -> Result<Answer, Fail> {
-        let Ok(options) = Options::new(0, self.stripe_rows, self.most, None, false, None) else {
-            return Ok(Answer::Failed);
+        let options = match Options::new(0, self.stripe_rows, self.most, None, false, None) {
+            Ok(options) => options,
+            Err(_) => return Ok(Answer::Failed),
         };
         let size = self.page.size();
         let count = window_bytes(size.width);
@@ -145,8 +146,9 @@ impl Case {
         let mut room = [0; 4096];
         let mut output = Drip::new(&mut room, 4096, None, true);
         let begun = RowEncoder::start(size, &options, &mut window, &mut learning, &mut output);
-        let Ok(encoder) = begun else {
-            return Ok(Answer::Failed);
+        let encoder = match begun {
+            Ok(encoder) => encoder,
+            Err(_) => return Ok(Answer::Failed),
         };
         let rows = self.page.bytes(alloc, self.shown)?;
         let best = encoder.best_offset(&rows, &window, &learning, scratch.as_mut_slice());

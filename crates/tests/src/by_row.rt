@@ -113,8 +113,9 @@ impl Rows<'_> {
         requires width { width_of window.old ≡ self.now.size.width }
     {
         let count = output.written().len();
-        let Some(row) = self.rows.first() else {
-            return End::Wrong("no row");
+        let row = match self.rows.first() {
+            Some(row) => row,
+            None => return End::Wrong("no row"),
         };
         if !encoder.is_closed() || row.len() != row_bytes(self.size.width) {
             return End::Wrong("an encoder that is not closed");

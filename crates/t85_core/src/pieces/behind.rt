@@ -108,8 +108,9 @@ impl Behind {
             self.new piece.new.rest.now) }
         ensures no_more { length piece.new.rest.now ≤ length piece.old.rest.now }
     {
-        let Some(left) = self.comment else {
-            return Ok(());
+        let left = match self.comment {
+            Some(left) => left,
+            None => return Ok(()),
         };
         let len = piece.rest.len().min(left as usize);
         let (_, rest) = piece.rest.split_at(len);

@@ -15,7 +15,7 @@ returns-in-Ok-flush-clause-outcome g c =
 
 pub returns-clause-outcome : goal.returns-clause-outcome
 returns-clause-outcome g c =
-    at_unflushed (fields_of c.args.header.now) c.args.height c.args.max_rows _ _ _ _ _ _ _ _ _ c.if-height-max_rows.false _ _ c.in_ok-decode.ensures.outcome c.in-Err.ensures.bytes c.in-Err.ensures.failures
+    at_unflushed (fields_of c.args.header.now) c.args.height c.args.max_rows _ _ _ _ _ _ _ _ _ c.if-height-max_rows.false _ _ c.in_ok-decode.ensures.outcome c.in-Err-flush.ensures.bytes c.in-Err-flush.ensures.failures
 
 pub returns-then-height-max_rows-clause-outcome : goal.returns-then-height-max_rows-clause-outcome
 returns-then-height-max_rows-clause-outcome g c = at_high (fields_of c.args.header.now) c.args.height c.args.max_rows _ _ _ _ _ c.if-height-max_rows.true

@@ -13,8 +13,8 @@ returns-then-is_low-clause-outcome g c =
     let size = c.in-Ok.header.0 in
     too_low _ _ _ _ _ _ _ _ c.in-Ok.header.1 size.width size.height (takes_header _ _ size c.in-Ok.header.1 c.headers.ensures.written_is_read (search rules) (c.headers.ensures.read_header_is_theirs _ _ c.in-Ok.header c.in-Ok.ensures)) (sym c.is_low.ensures ∙ c.if-is_low.true) c.in-Ok.ensures.failures
 
-pub returns-in_default-clause-outcome : goal.returns-in_default-clause-outcome
-returns-in_default-clause-outcome g c =
+pub returns-in-Err-vec-clause-outcome : goal.returns-in-Err-vec-clause-outcome
+returns-in-Err-vec-clause-outcome g c =
     let size = c.in-Ok.header.0 in
     no_room _ _ _ _ _ _ _ _ c.in-Ok.header.1 size.width size.height (takes_header _ _ size c.in-Ok.header.1 c.headers.ensures.written_is_read (search rules) (c.headers.ensures.read_header_is_theirs _ _ c.in-Ok.header c.in-Ok.ensures)) (sym c.is_low.ensures ∙ c.if-is_low.false) c.in-Ok.ensures.failures
 

@@ -99,11 +99,10 @@ impl PieceDecoder {
     {
         self.close_stripe(lent);
         self.walk.at = self.behind.at;
-        let Some(left) = self.behind.comment else {
-            return;
-        };
-        self.walk.comment = left;
-        self.walk.stage = Stage::Comment;
+        if let Some(left) = self.behind.comment {
+            self.walk.comment = left;
+            self.walk.stage = Stage::Comment;
+        }
     }
 
     /// Ends the previous stripe, if there is one and all its rows have been returned.
@@ -130,9 +129,10 @@ impl PieceDecoder {
             StripeLeft (over self.old lent.old) (over self.new lent.new) }
         ensures lent { KeepsLent lent.old lent.new }
     {
-        let Stage::Code = self.walk.stage else {
-            return;
-        };
+        match self.walk.stage {
+            Stage::Code => {}
+            _ => return,
+        }
         let mut none = Piece { rest: &[] };
         let image = SizedImage {
             header: self.header,
