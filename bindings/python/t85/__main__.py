@@ -23,6 +23,7 @@ import time
 from typing import Any, Dict, Iterator, List, Optional, Sequence
 
 from . import MAX_BYTES, Error, version
+from ._clash import clash
 from ._files import identity, is_store_name, protocols
 from ._text import printable, quoted
 from .many import FAILED, Job, Outcome, Total, run
@@ -151,23 +152,6 @@ def _names(parser: argparse.ArgumentParser, words: argparse.Namespace) -> List[s
     return names
 
 
-def _clash(job: Job, names: Sequence[str]) -> Optional[str]:
-    """Returns why the outputs of a job cannot be written: two would be the same file, or one would be an input."""
-    seen: Dict[str, str] = {}
-    inputs = {identity(name): name for name in names}
-    for name in names:
-        output = job.output(name)
-        if output is None:
-            return None
-        place = output if is_store_name(output) or "\0" in output else os.path.realpath(output)
-        if seen.setdefault(place, name) != name:
-            return f"{quoted(seen[place])} and {quoted(name)} would both be written as {quoted(output)}"
-        there = identity(output)
-        if there is not None and there in inputs:
-            return f"{quoted(output)}, the output of {quoted(name)}, is the input {quoted(inputs[there])}"
-    return None
-
-
 def _report(outcome: Outcome) -> Dict[str, Any]:
     return {field: value for field, value in dataclasses.asdict(outcome).items() if value or field == "number"}
 
@@ -266,9 +250,9 @@ def main(arguments: Optional[Sequence[str]] = None) -> int:
 
 def _run(parser: argparse.ArgumentParser, words: argparse.Namespace) -> int:
     job, names = _job(words), _names(parser, words)
-    clash = _clash(job, names)
-    if clash:
-        parser.error(clash)
+    conflict = clash(job, names)
+    if conflict:
+        parser.error(conflict)
     if job.tree and job.folder is None:
         parser.error("--relative needs --folder")
     if job.folder is not None and not is_store_name(job.folder):

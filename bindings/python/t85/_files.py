@@ -68,13 +68,20 @@ class Files:
             data = file.read()
         return data or b""
 
-    def front(self, name: str, count: int) -> Tuple[bytes, int]:
-        """Returns the first bytes of a file, at most `count`, and its size."""
+    def size(self, name: str) -> int:
         if is_store_name(name):
             system, path = self._located(name)
-            return bytes(system.cat_file(path, start=0, end=count)), int(system.size(path))
+            return int(system.size(path))
+        return os.stat(name).st_size
+
+    def part(self, name: str, begin: int, count: int) -> bytes:
+        """Returns the bytes of a file from a place on, at most `count`."""
+        if is_store_name(name):
+            system, path = self._located(name)
+            return bytes(system.cat_file(path, start=begin, end=begin + count))
         with open(name, "rb", buffering=0) as file:
-            return file.read(count) or b"", os.fstat(file.fileno()).st_size
+            file.seek(begin)
+            return file.read(count) or b""
 
     def is_current(self, output: str, name: str) -> bool:
         """Whether the output exists, and is no older than its input."""

@@ -1,7 +1,6 @@
 """PBM images, raw and plain, as docs/PBM.md describes them. This reader is written in Python, and is not proved."""
 from __future__ import annotations
 
-import io
 import re
 from dataclasses import dataclass
 from typing import Callable, Iterator
@@ -28,21 +27,39 @@ _FRONT, _PIECE = 1 << 12, 1 << 16
 
 @dataclass(frozen=True)
 class Page:
-    """An image: its rows are adjacent, as many as the file has."""
+    """An image: its rows are adjacent, as many as the file has. `end` is the place in the file behind it; no image can
+    follow a plain one, which ends with the file."""
 
     width: int
     height: int
     rows: memoryview
+    end: int
 
 
-def read_page(data: bytes) -> Page:
-    """Reads the image of a PBM. If rows are missing, it has fewer than its height."""
-    source = io.BytesIO(data)
+def read_page(data: bytes, begin: int = 0) -> Page:
+    """Reads the image of a PBM that begins at this byte. If rows are missing, it has fewer than its height."""
+    source = _Bytes(data, begin)
     head = _Head(source.read)
-    rest = memoryview(data)[source.tell() - len(head.rest) :]
+    first = source.place - len(head.rest)
+    rest = memoryview(data)[first:]
     if head.is_raw:
-        return Page(head.width, head.height, rest[: head.height * row_bytes(head.width)])
-    return Page(head.width, head.height, memoryview(_packed(rest.tobytes(), head.width, head.height)))
+        rows = rest[: head.height * row_bytes(head.width)]
+        return Page(head.width, head.height, rows, first + len(rows))
+    rows = memoryview(_packed(rest.tobytes(), head.width, head.height))
+    return Page(head.width, head.height, rows, len(data))
+
+
+@dataclass
+class _Bytes:
+    """Bytes that are read from a place on, which follows what has been read."""
+
+    data: bytes
+    place: int
+
+    def read(self, size: int) -> bytes:
+        piece = self.data[self.place : self.place + size]
+        self.place += len(piece)
+        return piece
 
 
 def _packed(text: bytes, width: int, height: int) -> bytes:

@@ -14,12 +14,16 @@ is not its image or stream, is somebody else's file: it is an error for that inp
 A name is that of a local file. A name with `://` is accepted only if `stores` lists its protocol, and is then read and written
 through fsspec, if that is installed.
 
+Of a PBM with several images, each is encoded into a file of its own, NAME-1.jbg, NAME-2.jbg and so on. Of a file with several
+streams, the images are written one behind the other into one file.
+
 A job is a function of one name that can be pickled, so anything that maps functions over lists can run it: t85.dask runs it
 on the workers of Dask.
 """
 from __future__ import annotations
 
 import errno
+import functools
 import os
 from collections import deque
 from concurrent.futures import ThreadPoolExecutor
@@ -27,9 +31,10 @@ from dataclasses import dataclass, field
 from typing import Any, Callable, Collection, Dict, Iterator, List, Mapping, Optional, Sequence
 
 from . import MAX_BYTES, Error, Rows, Summary, decode, decode_rows, encode, info
+from ._conversion import _refuse_large
 from ._files import Files, identity, is_special, is_store_name, protocols
-from ._pbm import head_of, read_page
-from ._rows import row_bytes
+from ._pages import Streams, heads, in_image, infos, numbered, pages_of, rows_of, streams_of
+from ._pbm import Page, head_of
 from ._text import quoted
 
 DONE, SKIPPED, FAILED = "done", "skipped", "failed"
@@ -103,43 +108,67 @@ class Job:
 
 
 def _encode(job: Job, name: str) -> Outcome:
+    """Encodes each image into a file of its own. Nothing is written unless all can be encoded."""
     output, data = _target(job, name), job.files.read(name)
-    page = read_page(data)
-    if _is_finished(job, name, output, lambda: _is_stream(job.files.read(output), page.width, page.height)):
+    pages, made = pages_of(data), {}
+    for before, page in enumerate(pages):
+        place = numbered(output, before + 1, len(pages))
+        _refuse_input(name, place)
+        if not _is_finished(job, name, place, functools.partial(_is_stream, job, place, page)):
+            try:
+                made[place] = encode(page.rows, page.width, page.height, **job.options)
+            except Error as error:
+                raise in_image(error, before)
+    for place, stream in made.items():
+        _write(job, place, stream)
+    if not made:
         return Outcome(name, SKIPPED)
-    stream = encode(page.rows, page.width, page.height, **job.options)
-    _write(job, output, stream)
-    return Outcome(name, DONE, len(data), len(stream))
+    return Outcome(name, DONE, len(data), sum(map(len, made.values())))
 
 
 def _decode(job: Job, name: str) -> Outcome:
-    output, stream = _target(job, name), job.files.read(name)
-    try:
-        summary = info(stream)
-    except Error as error:
+    """Decodes each stream of a file, and writes the images one behind the other."""
+    output, data = _target(job, name), job.files.read(name)
+    streams = streams_of(data)
+    if streams.error is not None:
         if not job.partial:
-            raise
-        return _recover(job, name, output, stream, error)
-    if _is_finished(job, name, output, lambda: _is_image(job, output, summary)):
+            raise streams.error
+        return _recover(job, name, output, streams, streams.error)
+    summaries = infos(streams)
+    if _is_finished(job, name, output, lambda: _has_images(job, output, summaries)):
         return Outcome(name, SKIPPED)
-    image = decode(stream, max_bytes=job.max_bytes)
+    image = _images(job, streams)
     _write(job, output, image)
-    return Outcome(name, DONE, len(stream), len(image))
+    return Outcome(name, DONE, len(data), len(image))
 
 
-def _recover(job: Job, name: str, output: str, stream: bytes, broken: Error) -> Outcome:
-    """Writes an image of the rows of a broken stream that can be recovered, if there are any."""
-    rows = None
-    try:
-        decode_rows(stream, max_bytes=job.max_bytes)
-    except Error as error:
-        rows = error.partial
-    if not isinstance(rows, Rows) or not rows.count:
+def _images(job: Job, streams: Streams) -> bytes:
+    _refuse_large(sum(rows_of(infos(streams))), job.max_bytes)
+    return b"".join(decode(stream, max_bytes=job.max_bytes) for stream in streams.whole)
+
+
+def _recover(job: Job, name: str, output: str, streams: Streams, broken: Error) -> Outcome:
+    """Writes the images before a broken stream, and one of its rows that can be recovered, if there are any."""
+    rows = _recovered(job, streams)
+    if not streams.whole and not rows.count:
         raise broken
-    image = head_of(rows.width, rows.count) + rows.data
+    image = _images(job, streams)
+    if rows.count:
+        _refuse_large(len(image) + len(rows.data), job.max_bytes)
+        image += head_of(rows.width, rows.count) + rows.data
     if not _is_finished(job, name, output, lambda: job.files.read(output) == image):
         _write(job, output, image)
-    return Outcome(name, FAILED, len(stream), len(image), broken.number, f"{broken.text}; {rows.count} rows were written")
+    text = f"{broken.text}; {rows.count} rows were written"
+    return Outcome(name, FAILED, streams.length, len(image), broken.number, text)
+
+
+def _recovered(job: Job, streams: Streams) -> Rows:
+    """Returns the rows of the broken stream that can be recovered."""
+    assert streams.broken is not None
+    try:
+        return decode_rows(streams.broken, max_bytes=job.max_bytes)
+    except Error as error:
+        return error.partial if isinstance(error.partial, Rows) else Rows(0, 0, 0, b"")
 
 
 def _info(job: Job, name: str) -> Outcome:
@@ -148,13 +177,16 @@ def _info(job: Job, name: str) -> Outcome:
 
 
 def _check(job: Job, name: str) -> Outcome:
-    stream = job.files.read(name)
-    try:
+    """Decodes each stream of a file. The outcome has the facts of the first one."""
+    data = job.files.read(name)
+    streams = streams_of(data)
+    for stream in streams.whole:
         decode_rows(stream, max_bytes=job.max_bytes)
-    except Error as error:
-        rows = f"; {error.partial.count} rows can be recovered" if isinstance(error.partial, Rows) else ""
-        return Outcome(name, FAILED, len(stream), number=error.number, text=error.text + rows)
-    return Outcome(name, DONE, len(stream), summary=info(stream))
+    if streams.error is not None:
+        count = _recovered(job, streams).count
+        rows = f"; {count} rows can be recovered" if count else ""
+        return Outcome(name, FAILED, len(data), number=streams.error.number, text=streams.error.text + rows)
+    return Outcome(name, DONE, len(data), summary=info(streams.whole[0]))
 
 
 _COMMANDS: Dict[str, Callable[[Job, str], Outcome]] = {
@@ -173,9 +205,13 @@ def _target(job: Job, name: str) -> str:
     job.files.refuse(output)
     if job.folder is not None and job.tree and os.pardir in name.split("/"):
         raise OSError(errno.EINVAL, "the name contains .., which would leave the folder")
+    _refuse_input(name, output)
+    return output
+
+
+def _refuse_input(name: str, output: str) -> None:
     if output == name or identity(name) is not None and identity(output) == identity(name):
         raise OSError(errno.EINVAL, "the output would replace its input")
-    return output
 
 
 def _is_finished(job: Job, name: str, output: str, is_whole: Callable[[], bool]) -> bool:
@@ -199,20 +235,23 @@ def _write(job: Job, output: str, data: bytes) -> None:
     job.files.write(output, data)
 
 
-def _is_stream(stream: bytes, width: int, height: int) -> bool:
-    """Whether this is a complete stream of an image of this size."""
+def _is_stream(job: Job, output: str, page: Page) -> bool:
+    """Whether a file is a complete stream of an image of this size."""
     try:
-        summary = info(stream)
+        summary = info(job.files.read(output))
     except Error:
         return False
-    return (summary.width, summary.image_height) == (width, height)
+    return (summary.width, summary.image_height) == (page.width, page.height)
 
 
-def _is_image(job: Job, output: str, summary: Summary) -> bool:
-    """Whether a file is a raw PBM of this size, by its header and its length."""
-    head = head_of(summary.width, summary.image_height)
-    found, size = job.files.front(output, len(head))
-    return found == head and size == len(head) + summary.image_height * row_bytes(summary.width)
+def _has_images(job: Job, output: str, summaries: Sequence[Summary]) -> bool:
+    """Whether a file has raw PBM images of these sizes one behind the other, by their headers and its length."""
+    begin = 0
+    for head, rows in zip(heads(summaries), rows_of(summaries)):
+        if job.files.part(output, begin, len(head)) != head:
+            return False
+        begin += len(head) + rows
+    return job.files.size(output) == begin
 
 
 def run(job: Job, names: Sequence[str], workers: int = 1) -> Iterator[Outcome]:
