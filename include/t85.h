@@ -341,7 +341,9 @@ uint8_t t85_decode_start(t85_decoder *decoder, size_t size, uint32_t max_rows);
    Returns one of:
    T85_HEADER_READ: the 20 bytes of the header have been consumed; parse them with t85_header.
    T85_ROW: the next row is the t85_row_bytes(width) bytes at window + *row.
-   T85_MORE: all bytes have been consumed, and more are needed.
+   T85_MORE: all bytes have been consumed, and more are needed. All rows that these determine have
+     been returned; or, behind the end marker of a stripe where a new height may still follow, all
+     rows that the bytes before the marker determine.
    0: the image is complete: it is the first t85_decode_height rows of those returned. A NEWLEN
      after the last stripe, and the empty data entity after that, may be among the bytes not
      consumed; comments behind the end of the stream may be among those consumed. Use

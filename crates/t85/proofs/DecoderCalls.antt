@@ -353,12 +353,12 @@ module _ (laws : HeaderLaws) (old kept new : T85Decoder) (memory memory' : List 
         (λ n w stream out k.
             let ended : stripes_ended (decoder_view e' (rows_at kept.place header.xd memory') learned') ≡ stripes_ended_by new = sym (ap stripes_ended_by same ∙ ended_same e'.walk.stage kept e'.walk.entities (ap (λ z. z.stage) numbers) (ap (λ z. z.entities) numbers)) in
             let late : (e'.is_open && e'.waits) ≡ true = sym (ap (λ z. z.is_open && z.waits) numbers) ∙ (sym (ap is_waiting same) ∙ w) in
-            subst (λ s. AwaitsBehindHeader s (stripes_ended_by new)) (sym (ap (λ s. s ++ bytes) k.stream_is ∙ append_assoc old.header k.text bytes)) (
+            subst (λ s. AwaitsBehindHeader s (stripes_ended_by new) out) (sym (ap (λ s. s ++ bytes) k.stream_is ∙ append_assoc old.header k.text bytes)) (
               fields_of header,
               laws.stands old.header (k.text ++ bytes) (fields_of header) header_of,
-              subst (λ b. AwaitsHeight (fields_of header) b (stripes_ended_by new)) (sym (behind (k.text ++ bytes)))
-                  (subst (AwaitsHeight (fields_of header) (k.text ++ bytes)) ended
-                  (subst (λ h. AwaitsHeight (fields_of h) (k.text ++ bytes) (stripes_ended (decoder_view e' (rows_at kept.place header.xd memory') learned'))) header_is ((call.fed.more e1 k.text out (has_of stream out k)).2 late))),
+              subst (λ b. AwaitsHeight (fields_of header) b (stripes_ended_by new) out) (sym (behind (k.text ++ bytes)))
+                  (subst (λ n. AwaitsHeight (fields_of header) (k.text ++ bytes) n out) ended
+                  (subst (λ h. AwaitsHeight (fields_of h) (k.text ++ bytes) (stripes_ended (decoder_view e' (rows_at kept.place header.xd memory') learned')) out) header_is ((call.fed.more e1 k.text out (has_of stream out k)).2 late))),
             )),
       )
   row_told (outcome.Done height) e1 (is, ended, same) =

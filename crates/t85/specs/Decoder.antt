@@ -151,9 +151,9 @@ pub record BreaksBehindHeader (stream : List ℕ) (height : ℕ) (fault : Fault)
 abbrev pub IsBrokenStream : List ℕ → ℕ → Fault → List ℕ → Type 0
 IsBrokenStream stream height fault out = ((header_fault stream ≡ Some fault) × (out ≡ []) × (height ≡ 0)) ⊎ BreaksBehindHeader stream height fault out
 
--- It is not known yet whether a height follows the end marker of this many stripes, or precedes the first.
-abbrev pub AwaitsBehindHeader : List ℕ → ℕ → Type 0
-AwaitsBehindHeader stream stripes = (header : Fields) × HeaderOf stream header × AwaitsHeight header (drop 20 stream) stripes
+-- It is not known whether a height follows the end marker of this many stripes, or precedes the first. These rows were returned.
+abbrev pub AwaitsBehindHeader : List ℕ → ℕ → List ℕ → Type 0
+AwaitsBehindHeader stream stripes out = (header : Fields) × HeaderOf stream header × AwaitsHeight header (drop 20 stream) stripes out
 
 -- a stream's header announces more rows than the limit
 pub record AnnouncesMore (stream : List ℕ) (rows : ℕ) : Type 0 where
@@ -193,7 +193,7 @@ TellsAnswer Has old new call answer.Row = (stream out : List ℕ) → Has stream
 TellsAnswer Has old new call answer.More =
     (call.taken ≡ length call.bytes) × ((stream out : List ℕ) → Has stream out → HasRead new (stream ++ bytes_of_call call) out) × (call.is_all ≡ true → ⊥)
     × (new.decoder.next ≡ 2 → is_waiting new.decoder ≡ false → (stream out : List ℕ) → Has stream out → BreaksBehindHeader (stream ++ call.bytes) new.decoder.height Truncated out)
-    × (new.decoder.next ≡ 2 → is_waiting new.decoder ≡ true → (stream out : List ℕ) → Has stream out → AwaitsBehindHeader (stream ++ call.bytes) (stripes_ended_by new.decoder))
+    × (new.decoder.next ≡ 2 → is_waiting new.decoder ≡ true → (stream out : List ℕ) → Has stream out → AwaitsBehindHeader (stream ++ call.bytes) (stripes_ended_by new.decoder) out)
 TellsAnswer Has old new call answer.Done =
     HasEnded new.decoder 0 × ((stream out rest : List ℕ) → Has stream out → MayFollow call.is_all rest → IsImageOf ((stream ++ call.bytes) ++ rest) new.decoder.height out)
 TellsAnswer Has old new call (answer.Broken fault) =

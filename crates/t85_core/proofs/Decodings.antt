@@ -29,6 +29,7 @@ pub mod PieceHeights
 pub mod PieceBehind
 pub mod PieceAhead
 pub mod PieceLate
+pub mod PieceInTime
 pub mod PieceStood
 pub mod PieceFeeds
 pub mod PieceNumbers

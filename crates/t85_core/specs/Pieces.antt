@@ -10,6 +10,7 @@ use Rattle.t85_core.specs.declared.pieces.Progress.{Progress}
 use Rattle.t85_core.specs.declared.pieces.Outcome.TheVariants as outcome
 use Rattle.t85_core.specs.Header.{Fields}
 use Rattle.t85_core.specs.Options.{fields_of}
+use Rattle.t85_core.specs.Grammar.{Stripe, stripe_bytes, marker_bytes}
 use Rattle.t85_core.specs.Height.{IsHeight, IsOpen}
 use Rattle.t85_core.specs.Denotes.{DenotesAt}
 use Rattle.t85_core.specs.Fixed.{Fixes}
@@ -61,12 +62,24 @@ pub record HoldsImage (h : Fields) (body : List ℕ) (height : ℕ) (out : List 
   pub denotes : DenotesAt h height body (record { width = h.xd; rows = take height rows })
   pub out_is : out ≡ flat_map packed_row rows
 
+-- The rows that the bytes before the end marker of the last of these stripes fix are the first of these rows, packed.
+pub record HoldsFixedRows (h : Fields) (stripes : List Stripe) (out : List ℕ) : Type 0 where
+  pub front : List ℕ
+  pub reset : Bool
+  pub bytes_are : flat_map stripe_bytes stripes ≡ front ++ marker_bytes reset
+  pub first : List ℕ
+  pub more : List ℕ
+  pub out_is : out ≡ first ++ more
+  pub hands_out : HandsOut h front h.yd Truncated first
+
 -- The bytes end behind the end marker of this many stripes, or before the first one, in marker segments: it is not known yet
--- whether a height is among these.
-pub record AwaitsHeight (h : Fields) (body : List ℕ) (stripes : ℕ) : Type 0 where
+-- whether a height is among these. These rows were returned, packed: each row that the bytes before the marker fix is one of
+-- them.
+pub record AwaitsHeight (h : Fields) (body : List ℕ) (stripes : ℕ) (out : List ℕ) : Type 0 where
   pub unknown : IsOpen h body
   pub many : length unknown.stripes ≡ stripes
   pub no_code : unknown.code ≡ []
+  pub fixed : 1 ≤ stripes → HoldsFixedRows h unknown.stripes out
 
 -- the number of stripes whose end marker a waiting decoder has read
 abbrev pub stripes_ended : PieceView → ℕ
@@ -109,12 +122,13 @@ RowsWait Before old call =
     rows_given call.new ≤ height
 
 -- No row is returned. If no row waits, and nothing follows the piece, the stream ends too early, and fixes exactly the returned
--- rows. A row waits only as long as it is not known whether a height follows the end marker of its stripe.
+-- rows. A row waits only if the bytes before the end marker of its stripe do not fix it, and only as long as it is not known
+-- whether a height follows the marker.
 abbrev pub WantsMore : (Before After : List ℕ → List ℕ → Type 0) → PieceView → Call → Type 0
 WantsMore Before After old call =
     call.answer ≡ outcome.More → (text out : List ℕ) → Before text out →
     After (text ++ take call.taken call.piece) out × (waits_behind call.new ≡ false → HandsOut (stream_of old) (text ++ call.piece) call.new.height Truncated out)
-    × (waits_behind call.new ≡ true → AwaitsHeight (stream_of old) (text ++ call.piece) (stripes_ended call.new))
+    × (waits_behind call.new ≡ true → AwaitsHeight (stream_of old) (text ++ call.piece) (stripes_ended call.new) out)
 
 -- the image is whole at this height, whatever follows the piece
 abbrev pub IsWhole : (Before : List ℕ → List ℕ → Type 0) → PieceView → Call → Type 0
@@ -204,7 +218,7 @@ PiecesMore =
 abbrev pub PiecesAwait : Type 0
 PiecesAwait =
     (d : PieceView) (calls : List Call) (last : Call) → HasDecoded d [] [] → AreCalls d calls → IsCall (decoder_after d calls) last → last.answer ≡ outcome.More → waits_behind last.new ≡ true →
-    AwaitsHeight (stream_of d) (flat_map bytes_taken calls ++ last.piece) (stripes_ended last.new)
+    AwaitsHeight (stream_of d) (flat_map bytes_taken calls ++ last.piece) (stripes_ended last.new) (flat_map row_given calls)
 
 abbrev pub PiecesWait : Type 0
 PiecesWait =

@@ -60,7 +60,8 @@ pub struct Progress {
 ///
 /// While a new height may still arrive (T.82, 6.2.6.2), rows that only the end of a code determines are held back until
 /// the bytes behind its end marker are known, since a height there may cut them off. All other rows are returned as
-/// soon as the bytes determine them; of a stripe whose end marker has arrived, the contract leaves that open.
+/// soon as the bytes determine them: a call that asks for more bytes has returned every row that the bytes so far
+/// determine or, behind an end marker, that the bytes before the marker determine.
 #[derive(Drop)]
 pub struct PieceDecoder {
     header: Header,

@@ -67,6 +67,10 @@ module _ {h : Fields} {count : ℕ} {text : List ℕ} (ok : IsAccepted h) (s : S
   unfolding next_begins
   next_with fewer = refl
 
+  pub next_stripes : (fewer : count < stripe_count h.yd h.l0) → (next_begins fewer).stripes ≡ s.stripes
+  unfolding next_begins
+  next_stripes fewer = refl
+
   -- its code comes
   code_above : count < stripe_count h.yd h.l0 → (c : code_type.Code) → IsByteOrMarker c → (rest : List ℕ) (n : ℕ) → IsHeight h ((text ++ front) ++ (code_bytes c ++ rest)) n → count * h.l0 < n
   code_above fewer c is rest n i = let k = least_below ok (next_begins fewer) (code_bytes c) (begun c is) rest n (subst (λ z. IsHeight h z n) (sym (append_assoc (text ++ front) (code_bytes c) rest)) i) in omega (arith, k) where

@@ -143,7 +143,7 @@ module _ (old new : PieceView) (held left front back joined : List ℕ) (is_end 
           let m = is.more (told_by e) k.decoded out k.has in (
             fed k m.0,
             (λ w. subst (λ z. HandsOut (stream_of old) z new.height Truncated out) (part k ∙ ap (λ z. text ++ z) (sym (ap (λ z. front ++ z) (whole (told_by e)) ∙ append-nil front))) (m.1 w)),
-            (λ w. subst (λ z. AwaitsHeight (stream_of old) z (stripes_ended new)) (part k ∙ ap (λ z. text ++ z) (sym (ap (λ z. front ++ z) (whole (told_by e)) ∙ append-nil front))) (m.2 w)),
+            (λ w. subst (λ z. AwaitsHeight (stream_of old) z (stripes_ended new) out) (part k ∙ ap (λ z. text ++ z) (sym (ap (λ z. front ++ z) (whole (told_by e)) ∙ append-nil front))) (m.2 w)),
           );
       done = λ n e. let w = is.done n (told_by e) in (w.0, (λ text out more k f. subst (λ z. HoldsImage (stream_of old) z n out) (all_text k more) (w.1 k.decoded out (back ++ more) k.has (follows f))));
       broken = λ fault e text out more k f. subst (λ z. HandsOut (stream_of old) z new.height fault out) (all_text k more) (is.broken fault (told_by e) k.decoded out (back ++ more) k.has (follows f));
@@ -230,7 +230,7 @@ module _ (old mid new : PieceView) (held left front back joined rest : List ℕ)
           let m = next.fed.more e (decoded k) out (mid_fed k) in (
             subst (λ z. HasFed new left z out) (taken_text k) m.0,
             (λ w. subst (λ h. HandsOut h (text ++ piece) new.height Truncated out) is.same (subst (λ z. HandsOut (stream_of mid) z new.height Truncated out) (whole_text k) (m.1 w))),
-            (λ w. subst (λ h. AwaitsHeight h (text ++ piece) (stripes_ended new)) is.same (subst (λ z. AwaitsHeight (stream_of mid) z (stripes_ended new)) (whole_text k) (m.2 w))),
+            (λ w. subst (λ h. AwaitsHeight h (text ++ piece) (stripes_ended new) out) is.same (subst (λ z. AwaitsHeight (stream_of mid) z (stripes_ended new) out) (whole_text k) (m.2 w))),
           );
       done = λ n e. let w = next.fed.done n e in (w.0, (λ text out more k f. subst (λ h. HoldsImage h ((text ++ piece) ++ more) n out) is.same (subst (λ z. HoldsImage (stream_of mid) (z ++ more) n out) (whole_text k) (w.1 (decoded k) out more (mid_fed k) f))));
       broken = λ fault e text out more k f. subst (λ h. HandsOut h ((text ++ piece) ++ more) new.height fault out) is.same (subst (λ z. HandsOut (stream_of mid) (z ++ more) new.height fault out) (whole_text k) (next.fed.broken fault e (decoded k) out more (mid_fed k) f));

@@ -40,6 +40,7 @@ use Rattle.t85_core.proofs.Walks.Segments.{comment_cut}
 use Rattle.t85_core.proofs.Decodings.CarriedDenotes.{stripes_whole}
 use Rattle.t85_core.proofs.Decodings.ImagePut.{image_read}
 use Rattle.t85_core.proofs.Decodings.PieceHead.{passed_ext}
+use Rattle.t85_core.proofs.Decodings.PieceInTime.{in_time_more}
 use Rattle.t85_core.proofs.Decodings.PieceSteps.{at_stage, put_stage, nil_of, last_stripe}
 use Rattle.t85_core.proofs.Decodings.PieceHeights.{at_height, head_raised}
 use Rattle.t85_core.proofs.Decodings.PieceBehind.{front_is, part_of}
@@ -321,6 +322,7 @@ passed_on d d1 b p p1 late waits header height is_open same_waits walk behind on
             walk = subst (WalkStands (sized (fields_of d.header) d.header.yd) d.walk w.done) (sym (append-nil out)) w.walk;
             at = w.at;
             ungiven = w.ungiven;
+            in_time = λ code. in_time_more [] (w.in_time code);
             behind = k.2;
           })))),
     )

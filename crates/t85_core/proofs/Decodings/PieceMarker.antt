@@ -16,7 +16,9 @@ use Rattle.t85_core.specs.Steps.Segments.{IsByteOrMarker, RestFault}
 use Rattle.t85_core.specs.Steps.PieceCode.{ahead_bytes, CodeOpen, EntityEnded, CodeText, SkipsSome, SkipBreaks, MarkerFound, MarkerMissing, CodeKept, FindsMarker, MissesMarker, KeepsCode}
 use Rattle.t85_core.proofs.Bytes.Known.{counted-other}
 use Rattle.t85_core.proofs.Bytes.Lists.{All-append}
-use Rattle.t85_core.proofs.Bytes.Stuffing.{stuffed_append}
+use Rattle.t85_core.specs.Steps.Pieces.{MarkerRead}
+use Rattle.t85_core.proofs.Bytes.Stuffing.{stuffed_append, stuffed_cons}
+use Rattle.t85_core.proofs.Grammar.Cut.{marker_no_code}
 
 -- it was answered
 pub found_before : (first : Option Code) (marker : Option Bool) (p : List ℕ) (reset : Bool) → marker ≡ Some reset → FindsMarker first marker p p reset
@@ -61,6 +63,18 @@ none_ahead first e = record { bs = []; is = ap ahead_bytes e; small = λ _. tt; 
 pub byte_ahead : (first : Option Code) (b : ℕ) → first ≡ Some (code.Byte b) → Ahead first
 byte_ahead first b e = record { bs = b ∷ []; is = ap ahead_bytes e; small = λ h. (subst (λ z. IfSome z IsByteOrMarker) e h, tt); some = inr (omega arith) }
 
+-- before an end marker that follows bytes of a code there are some
+some_code : (bytes given code : List ℕ) (reset : Bool) → 1 ≤ length bytes → stuffed bytes ++ given ≡ stuffed code ++ marker_bytes reset → 1 ≤ length code
+some_code bytes given (b ∷ code) reset some e = omega arith
+some_code [] given [] reset some e = absurd (omega (arith, some))
+some_code (b ∷ bytes) given [] reset some e = absurd (marker_no_code reset [] b (stuffed bytes ++ given) (append-nil (marker_bytes reset) ∙ sym e ∙ stuffed_cons b bytes given))
+
+-- what was read ahead is no end marker
+pub ahead_none : (first : Option Code) (marker : Option Bool) → (MarkerRead marker first → ⊥) → Ahead first
+ahead_none None marker none = none_ahead None refl
+ahead_none (Some (code.Byte b)) marker none = byte_ahead (Some (code.Byte b)) b refl
+ahead_none (Some (code.Marker reset)) marker none = absurd (none (reset, inr refl))
+
 module _ (first : Option Code) (a : Ahead first) (answers : List Pulled) (extra text : List ℕ) (o : CodeOpen first answers extra text) where
   abbrev A : List ℕ
   A = bytes_of answers
@@ -97,6 +111,10 @@ module _ (first : Option Code) (a : Ahead first) (answers : List Pulled) (extra 
     agrees = record { rest = all_extra s.code; is = refl; bytes = all_small s.code s.small; ended = λ e. absurd (not_ended answers o.going e) };
     text_is = all_text s.code (marker_bytes reset);
   }
+
+  -- and its code has a byte
+  pub found_some : (p p' : List ℕ) (reset : Bool) (m : MarkerFound answers text p p' reset) → 1 ≤ length m.code
+  found_some p p' reset m = some_code (A ++ all_extra []) m.given m.code reset (all_some []) (sym (all_text [] m.given) ∙ m.text_is)
 
   missed_on : (p p' : List ℕ) (f : fault.Fault) → SkipBreaks p p' f → MarkerMissing answers text p f
   missed_on p p' f s = record {

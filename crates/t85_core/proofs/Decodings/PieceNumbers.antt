@@ -82,7 +82,7 @@ module _ {w w' : Walk} (k : IsWalkAs w w') (rows : Held) (learned : List Estimat
 
   code_walk_as : {h : Fields} {text out : List ℕ} → CodeWalks h before text out → CodeWalks h (walk_view w' rows learned) text out
   code_walk_as {h} {text} {out} s =
-      subst (λ z. CodeWalks h (walk_view z rows learned) text out) (sym k.same) (let t : CodeWalks h there text out = record { walk = walk_there s.walk; in_code = s.in_code; ungiven = s.ungiven } in t)
+      subst (λ z. CodeWalks h (walk_view z rows learned) text out) (sym k.same) (let t : CodeWalks h there text out = record { walk = walk_there s.walk; in_code = s.in_code; ungiven = s.ungiven; in_time = s.in_time } in t)
 
 -- what was read ahead is a byte or an end marker
 pub ahead_of : (d : PieceView) (text out : List ℕ) → DecoderStands d text out → IfSome d.walk.first IsByteOrMarker
@@ -115,6 +115,7 @@ stands_as d d' w' rows learned text out walk header height is_open waits behind 
         walk = walk_there k rows learned w.walk;
         at = w.at;
         ungiven = w.ungiven;
+        in_time = w.in_time;
         behind = w.behind;
       } in
       put_waits d' text out (is_open ∙ e) (waits ∙ f) known

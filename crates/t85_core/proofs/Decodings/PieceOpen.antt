@@ -12,7 +12,7 @@ use Rattle.t85_core.specs.Options.{fields_of}
 use Rattle.t85_core.specs.Grammar.{ESC, COMMENT, segment_bytes, stripe_bytes, stripe_count, all_segments, lengths, is_move, is_comment}
 use Rattle.t85_core.specs.Refusal.{rest_fault}
 use Rattle.t85_core.specs.Lent.{PieceView}
-use Rattle.t85_core.specs.Pieces.{AwaitsHeight, stripes_ended}
+use Rattle.t85_core.specs.Pieces.{AwaitsHeight, HoldsFixedRows, stripes_ended}
 use Rattle.t85_core.specs.Steps.Behind.{BehindStands, BreaksBehind, StopsBehind, behind_at, move_came}
 use Rattle.t85_core.specs.Steps.Pieces.{HeadStands, IsInCode, HasMarker, head_place}
 use Rattle.t85_core.specs.Steps.PieceStands.{DecoderStands, WalkWaits, IsAtMarker, place_behind, last_behind, entities_behind, is_last}
@@ -22,8 +22,9 @@ use Rattle.t85_core.specs.Steps.SizedImage.{sized}
 use Rattle.t85_core.proofs.Bytes.Lengths.{lengths_append}
 use Rattle.t85_core.proofs.Walks.Segments.{comment_cut}
 use Rattle.t85_core.proofs.Decodings.PieceBehind.{front_is, part_of}
-use Rattle.t85_core.proofs.Decodings.PieceBelow.{next_begins, next_with, stripes_came}
+use Rattle.t85_core.proofs.Decodings.PieceBelow.{next_begins, next_stripes, next_with, stripes_came}
 use Rattle.t85_core.proofs.Decodings.PieceCertain.{CodeBegins, StripesCame, begins_with, code_begins}
+use Rattle.t85_core.proofs.Decodings.PieceInTime.{fixed_rows}
 use Rattle.t85_core.proofs.Decodings.PieceLook.{comments_behind}
 use Rattle.t85_core.proofs.Decodings.PieceSteps.{nil_of, next_stripe, last_stripe}
 use Rattle.t85_core.proofs.Decodings.PieceStood.{own_height, place_at, waits_of, head_segments, in_code_entities, in_code_last}
@@ -33,8 +34,8 @@ abbrev IsCut : Fields → ℕ → ℕ → List ℕ → Type 0
 IsCut h count moves rest = rest_fault h (record { height = h.yd; entities = count; heights = 0 }) moves false rest ≡ Some Truncated
 
 -- in the segments of a stripe
-open_begun : {h : Fields} {count : ℕ} {text : List ℕ} → IsTrue (is_variable h) → (s : CodeBegins h count text) (rest : List ℕ) → IsCut h count (count_by is_move s.segments) rest → AwaitsHeight h (text ++ rest) count
-open_begun {h} {count} {text} variable s rest cut = record {
+open_begun : {h : Fields} {count : ℕ} {text : List ℕ} → IsTrue (is_variable h) → (s : CodeBegins h count text) (rest : List ℕ) → IsCut h count (count_by is_move s.segments) rest → {out : List ℕ} → (1 ≤ count → HoldsFixedRows h s.stripes out) → AwaitsHeight h (text ++ rest) count out
+open_begun {h} {count} {text} variable s rest cut fixed = record {
   unknown = record {
     variable = variable;
     stripes = s.stripes;
@@ -53,12 +54,13 @@ open_begun {h} {count} {text} variable s rest cut = record {
   };
   many = s.many;
   no_code = refl;
+  fixed = fixed;
 }
 
 -- in comments behind the last stripe
 open_last : {h : Fields} {count : ℕ} {text : List ℕ} → IsTrue (is_variable h) → (s : StripesCame h count text) → count ≡ stripe_count h.yd h.l0 → {at : Option move.Move} {moved last : Bool} {front : List ℕ} {comments : ℕ}
-    (p : HasPassed h (record { height = h.yd; entities = count; given = false }) last (Some front) (Some []) (segments_so_far at moved false comments)) → AllByRecursion (λ s. IsTrue (is_comment s)) p.segments → (rest : List ℕ) → IsCut h count 1 rest → AwaitsHeight h (text ++ (front ++ rest)) count
-open_last {h} {count} variable s all {front = front} p comments rest cut = record {
+    (p : HasPassed h (record { height = h.yd; entities = count; given = false }) last (Some front) (Some []) (segments_so_far at moved false comments)) → AllByRecursion (λ s. IsTrue (is_comment s)) p.segments → (rest : List ℕ) → IsCut h count 1 rest → {out : List ℕ} → HoldsFixedRows h s.stripes out → AwaitsHeight h (text ++ (front ++ rest)) count out
+open_last {h} {count} variable s all {front = front} p comments rest cut fixed = record {
   unknown = record {
     variable = variable;
     stripes = s.stripes;
@@ -77,6 +79,7 @@ open_last {h} {count} variable s all {front = front} p comments rest cut = recor
   };
   many = s.many;
   no_code = refl;
+  fixed = λ _. fixed;
 }
 
 -- the rest behind whole segments, and the bytes of all of them
@@ -119,10 +122,10 @@ module _ (d : PieceView) (p : List ℕ) (late : d.is_open ≡ true) (waits : d.w
     all_text front rest e = ap (λ z. z ++ p) w.text_is ∙ append_assoc w.done w.back p ∙ ap (λ z. w.done ++ z) e
 
     -- before the first stripe
-    in_head : (d.walk.stage ≡ stage.Head) × (d.walk.at ≡ None) × (d.walk.entities ≡ 0) → AwaitsHeight H (text ++ p) (stripes_ended d)
+    in_head : (d.walk.stage ≡ stage.Head) × (d.walk.at ≡ None) × (d.walk.entities ≡ 0) → AwaitsHeight H (text ++ p) (stripes_ended d) out
     in_head (is, none, first) =
-        subst (λ z. AwaitsHeight H z (stripes_ended d)) (append_assoc w.done here.front k.rest ∙ sym (all_text here.front k.rest k.all_is)) (subst (AwaitsHeight H ((w.done ++ here.front) ++ k.rest)) (sym (ap (λ z. entities_behind z d.walk.entities) is))
-        (open_begun (s.height.variable late) (code_begins head) k.rest (subst (λ n. IsCut H d.walk.entities n k.rest) (head.passed.found ∙ ap (count_by is_move) (sym (begins_with head))) k.cut)))
+        subst (λ z. AwaitsHeight H z (stripes_ended d) out) (append_assoc w.done here.front k.rest ∙ sym (all_text here.front k.rest k.all_is)) (subst (λ n. AwaitsHeight H ((w.done ++ here.front) ++ k.rest) n out) (sym (ap (λ z. entities_behind z d.walk.entities) is))
+        (open_begun (s.height.variable late) (code_begins head) k.rest (subst (λ n. IsCut H d.walk.entities n k.rest) (head.passed.found ∙ ap (count_by is_move) (sym (begins_with head))) k.cut) (λ some. absurd (omega (arith, some, first)))))
       where
         here : BehindStands H (behind_at (record { height = d.header.yd; entities = d.walk.entities; given = false }) false) d.behind w.back
         here = subst (λ k. BehindStands H (behind_at (record { height = d.header.yd; entities = entities_behind k d.walk.entities; given = false }) (is_last k (nat_le d.walk.left d.header.l0))) d.behind w.back) is w.behind
@@ -134,12 +137,15 @@ module _ (d : PieceView) (p : List ℕ) (late : d.is_open ≡ true) (waits : d.w
         head = head_segments H d.walk d.behind (record { height = d.header.yd; entities = d.walk.entities; given = false }) w.done w.back out w.walk is none w.ungiven refl here
 
     -- behind the end marker of a stripe
-    at_marker : IsInCode d.walk.stage → HasMarker d.walk → AwaitsHeight H (text ++ p) (stripes_ended d)
+    at_marker : IsInCode d.walk.stage → HasMarker d.walk → AwaitsHeight H (text ++ p) (stripes_ended d) out
     at_marker inside marked =
-        subst (AwaitsHeight H (text ++ p)) (sym (in_code_entities d.walk.stage d.walk.entities inside)) (subst (λ z. AwaitsHeight H z (d.walk.entities + 1)) (sym (all_text here.front k.rest k.all_is)) (by (nat_le d.walk.left d.header.l0) refl))
+        subst (λ n. AwaitsHeight H (text ++ p) n out) (sym (in_code_entities d.walk.stage d.walk.entities inside)) (subst (λ z. AwaitsHeight H z (d.walk.entities + 1) out) (sym (all_text here.front k.rest k.all_is)) (by (nat_le d.walk.left d.header.l0) refl))
       where
         came : StripesCame H (d.walk.entities + 1) w.done
         came = stripes_came H ok d.walk w.done out inside marked w.ungiven w.walk
+
+        fixed : HoldsFixedRows H came.stripes out
+        fixed = fixed_rows (own_height d.header) came.text_is (w.in_time inside)
 
         last : Bool
         last = last_behind H d.walk.stage d.walk.left
@@ -153,10 +159,10 @@ module _ (d : PieceView) (p : List ℕ) (late : d.is_open ≡ true) (waits : d.w
         times : (d.walk.entities + 1) * d.header.l0 ≡ d.walk.entities * d.header.l0 + d.header.l0
         times = omega arith
 
-        by : (b : Bool) → nat_le d.walk.left d.header.l0 ≡ b → AwaitsHeight H (w.done ++ (here.front ++ k.rest)) (d.walk.entities + 1)
+        by : (b : Bool) → nat_le d.walk.left d.header.l0 ≡ b → AwaitsHeight H (w.done ++ (here.front ++ k.rest)) (d.walk.entities + 1) out
         by false e =
-            subst (λ z. AwaitsHeight H z (d.walk.entities + 1)) (append_assoc w.done here.front k.rest)
-            (open_begun (s.height.variable late) (next_begins ok came here.passed fewer) k.rest (subst (λ n. IsCut H (d.walk.entities + 1) n k.rest) (counted ∙ found ∙ ap (count_by is_move) (sym (next_with ok came here.passed fewer))) k.cut))
+            subst (λ z. AwaitsHeight H z (d.walk.entities + 1) out) (append_assoc w.done here.front k.rest)
+            (open_begun (s.height.variable late) (next_begins ok came here.passed fewer) k.rest (subst (λ n. IsCut H (d.walk.entities + 1) n k.rest) (counted ∙ found ∙ ap (count_by is_move) (sym (next_with ok came here.passed fewer))) k.cut) (λ _. subst (λ z. HoldsFixedRows H z out) (sym (next_stripes ok came here.passed fewer)) fixed))
           where
             fewer : d.walk.entities + 1 < stripe_count d.header.yd d.header.l0
             fewer = next_stripe d.header.yd d.header.l0 d.walk.entities ok.stripe_from (
@@ -171,7 +177,7 @@ module _ (d : PieceView) (p : List ℕ) (late : d.is_open ≡ true) (waits : d.w
             found = here.passed.found
         by true e =
             open_last (s.height.variable late) came all here.passed (comments_behind H d.walk ok.stripe_from inside w.walk.left_is here.passed all) k.rest
-            (subst (λ n. IsCut H (d.walk.entities + 1) n k.rest) (ap (λ b. cond {A = ℕ} (b || is_some d.behind.at) 1 0) (in_code_last d.walk.stage (nat_le d.walk.left d.header.l0) inside ∙ e)) k.cut)
+            (subst (λ n. IsCut H (d.walk.entities + 1) n k.rest) (ap (λ b. cond {A = ℕ} (b || is_some d.behind.at) 1 0) (in_code_last d.walk.stage (nat_le d.walk.left d.header.l0) inside ∙ e)) k.cut) fixed
           where
             all : d.walk.entities + 1 ≡ stripe_count d.header.yd d.header.l0
             all = last_stripe d.header.yd d.header.l0 d.walk.entities d.header.some_rows (let few = came.within in omega (arith, few)) (
@@ -181,6 +187,6 @@ module _ (d : PieceView) (p : List ℕ) (late : d.is_open ≡ true) (waits : d.w
 
   pub still_open : StaysOpen d d p
   still_open text out s = by (w text out s).at where
-    by : IsAtMarker d.walk → AwaitsHeight H (text ++ p) (stripes_ended d)
+    by : IsAtMarker d.walk → AwaitsHeight H (text ++ p) (stripes_ended d) out
     by (inl head) = in_head text out s head
     by (inr k) = at_marker text out s k.0 k.1

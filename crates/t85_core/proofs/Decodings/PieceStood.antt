@@ -35,14 +35,16 @@ use Rattle.t85_core.specs.Height.{GivesHeight, IsHeight}
 use Rattle.t85_core.specs.Laws.{IsInUse}
 use Rattle.t85_core.specs.Pieces.{AwaitsHeight, HasDecoded, HasHeight, HandsOut, HoldsImage, row_held, stripes_ended}
 use Rattle.t85_core.specs.Steps.Behind.{BehindStands, BreaksBehind, StopsBehind, behind_at}
+use Rattle.t85_core.specs.Steps.InTime.{MarkerAfterRows}
 use Rattle.t85_core.specs.Steps.Pieces.{HeadStands, CommentStands, InRowStands, IsFirstWalk, WalkStands, CutOff, SomeStands, StepsOn, StepsOff, Step, RowStep, RowLeaves, StripesOn, StageStands, KeepsPlace, HasMarker, IsInCode, head_place, code_place}
 use Rattle.t85_core.specs.Steps.SizedImage.{sized}
 use Rattle.t85_core.specs.Steps.PieceStands.{DecoderStands, HeightKnown, StandsAs, CodeWalks, WalkWaits, IsAtMarker, entities_behind, is_last, place_behind, last_behind}
-use Rattle.t85_core.specs.Steps.PieceSteps.{SomeStand, DecoderOn, EndsWhole, EndsBroken, NoHeightBelow, StaysOpen, StepLeaves, KeepsDecoder, StripeLeft, StripeClosed, HeadEntered, RowsAreGiven, head_stage, steps_left}
+use Rattle.t85_core.specs.Steps.PieceSteps.{SomeStand, DecoderOn, DecoderOnAfterRows, EndsWhole, EndsBroken, NoHeightBelow, StaysOpen, StepLeaves, KeepsDecoder, StripeLeft, StripeClosed, HeadEntered, RowsAreGiven, head_stage, steps_left}
 use Rattle.t85_core.specs.Steps.Passage.{passage}
 use Rattle.t85_core.proofs.Decodings.ImagePut.{in_use}
 use Rattle.t85_core.proofs.Decodings.PieceBehind.{behind_first, front_is, part_of}
 use Rattle.t85_core.proofs.Decodings.PieceGiven.{cut_hands, cut_hands_first, piece_other, height_known, read_holds}
+use Rattle.t85_core.proofs.Decodings.PieceInTime.{in_time_more, in_time_empty}
 use Rattle.t85_core.proofs.Decodings.PieceHead.{head_code, head_cut, comment_off}
 
 -- more text
@@ -78,14 +80,15 @@ module _ (d : PieceView) (text out : List ℕ) where
   put_waits late waits k s = record { height = k; stands = subst (λ b. StandsAs b d.waits d text out) (sym late) (subst (λ b. StandsAs true b d text out) (sym waits) s) }
 
 -- a walk begins to wait
-pub waits_first : (h : Fields) (w : WalkView) (b : Behind) (text out : List ℕ) → WalkStands (sized h h.yd) w text out → IsAtMarker w → w.given ≡ false → b.at ≡ None → b.comment ≡ None → WalkWaits h w b text out
-waits_first h w b text out s at ungiven none empty = record {
+pub waits_first : (h : Fields) (w : WalkView) (b : Behind) (text out : List ℕ) → WalkStands (sized h h.yd) w text out → IsAtMarker w → w.given ≡ false → (IsInCode w.stage → MarkerAfterRows (sized h h.yd) text out) → b.at ≡ None → b.comment ≡ None → WalkWaits h w b text out
+waits_first h w b text out s at ungiven in_time none empty = record {
   done = text;
   back = [];
   text_is = sym (append-nil text);
   walk = s;
   at = at;
   ungiven = ungiven;
+  in_time = in_time;
   behind = behind_first h (place_behind h w.stage w.entities) (last_behind h w.stage w.left) b refl none empty;
 }
 
@@ -98,6 +101,13 @@ pub begins_to_wait : (old new : Bool) (p p' : List ℕ) → old ≡ false → ne
 begins_to_wait old new p p' going waits le =
     subst (λ b. 2 * length p' + cond {A = ℕ} new 0 1 < 2 * length p + cond {A = ℕ} b 0 1) (sym going)
     (subst (λ b. 2 * length p' + cond {A = ℕ} b 0 1 < 2 * length p + cond {A = ℕ} false 0 1) (sym waits) (omega (arith, le)))
+
+pub taken_is : (p p' g : List ℕ) → p ≡ g ++ p' → take (length p - length p') p ≡ g
+taken_is p p' g e =
+    let long = length-append g p' in
+    let all : length p ≡ length (g ++ p') = ap length e in
+    let same : length p - length p' ≡ length g = omega (arith, long, all) in
+    ap (λ n. take n p) same ∙ ap (take (length g)) e ∙ take-append_seam g p'
 
 pub taken_less : (p given p' : List ℕ) → p ≡ given ++ p' → length p' ≤ length p
 taken_less p given p' e = let l = length-append given p' in let k : length p ≡ length (given ++ p') = ap length e in omega (arith, l, k)
@@ -249,6 +259,7 @@ row_given d d' late waits code keeps p' r step leaves text out s = (
     walk = step_none (fields_of d.header) d.header.yd d.walk d'.walk p' (row_held d') (on_ok r _ whole.0 step.ok) w.done out w.walk;
     at = inr (code', whole.1);
     ungiven = leaves.place.given ∙ w.ungiven;
+    in_time = λ _. in_time_more (row_held d') (w.in_time code);
     behind = behind_same (fields_of d.header) d.walk d'.walk d.behind w.back code code' leaves.place w.behind;
   }
 
@@ -318,8 +329,9 @@ module _ (is_all : Bool) (d e d' : PieceView) (p p1 p' : List ℕ) (header : e.h
   open_after : StaysOpen e d' p1 → StaysOpen d d' p
   open_after waits text out s =
       let a = on text out s in
-      subst (λ k. AwaitsHeight (fields_of k) (text ++ p) (stripes_ended d')) header
-      (subst (λ z. AwaitsHeight (fields_of e.header) z (stripes_ended d')) (append_assoc text a.0 p1 ∙ ap (λ z. text ++ z) (sym a.1)) (waits (text ++ a.0) (out ++ []) a.2))
+      subst (λ k. AwaitsHeight (fields_of k) (text ++ p) (stripes_ended d') out) header
+      (subst (λ z. AwaitsHeight (fields_of e.header) z (stripes_ended d') out) (append_assoc text a.0 p1 ∙ ap (λ z. text ++ z) (sym a.1))
+      (subst (AwaitsHeight (fields_of e.header) ((text ++ a.0) ++ p1) (stripes_ended d')) (append-nil out) (waits (text ++ a.0) (out ++ []) a.2)))
 
   pub leaves_after : (r : Option Outcome) → StepLeaves is_all e d' p1 p' r → StepLeaves is_all d d' p p' r
   leaves_after r k = record {
@@ -344,15 +356,28 @@ leaves_done is_all d d' p p' n header going height whole = leaves_as is_all d d'
 
 -- a part of a piece was taken
 pub code_on : (d d' : PieceView) (p front behind part' p' row : List ℕ) → d.is_open ≡ true → d.waits ≡ false → KeepsDecoder d d' → p ≡ front ++ behind → (SomeStand d → (g : List ℕ) → front ≡ g ++ part' → p' ≡ part' ++ behind) →
-    StepsOn (sized (fields_of d.header) d.header.yd) d.walk d'.walk front part' row → (SomeStand d → IsInCode d'.walk.stage × (d'.walk.given ≡ d.walk.given)) → DecoderOn d d' p p' row
-code_on d d' p front behind part' p' row late going keeps p_is rest on code text out s =
+    StepsOn (sized (fields_of d.header) d.header.yd) d.walk d'.walk front part' row → (SomeStand d → IsInCode d'.walk.stage × (d'.walk.given ≡ d.walk.given)) → (SomeStand d → HasMarker d'.walk → ⊥) → DecoderOn d d' p p' row
+code_on d d' p front behind part' p' row late going keeps p_is rest on code unmarked text out s =
     let w = code_of d text out late going s in
     let c = code (text, out, s) in
     let k = on text out w.walk in (
       k.0,
       p_is ∙ ap (λ z. z ++ behind) k.1 ∙ append_assoc k.0 part' behind ∙ ap (λ z. k.0 ++ z) (sym (rest (text, out, s) k.0 k.1)),
       put_code d' (text ++ k.0) (out ++ row) (keeps.is_open ∙ late) (keeps.waits ∙ going) (keep_known d d' (text ++ k.0) keeps (known_more (fields_of d.header) d.height d.is_open text k.0 s.height))
-          (subst (λ z. CodeWalks (fields_of z) d'.walk (text ++ k.0) (out ++ row)) (sym keeps.header) (record { walk = k.2; in_code = c.0; ungiven = c.1 ∙ w.ungiven })),
+          (subst (λ z. CodeWalks (fields_of z) d'.walk (text ++ k.0) (out ++ row)) (sym keeps.header) (record { walk = k.2; in_code = c.0; ungiven = c.1 ∙ w.ungiven; in_time = λ m. absurd (unmarked (text, out, s) m) })),
+    )
+
+-- and then an end marker, where the bytes before it fix no further row
+pub on_to_marker : (d e d' : PieceView) (p front behind p' : List ℕ) → d.is_open ≡ true → d.waits ≡ false → e.header ≡ d.header → p ≡ front ++ behind → DecoderOn d e p behind [] → StepsOff (sized (fields_of d.header) d.header.yd) d.walk front Truncated → DecoderOnAfterRows e d' behind p' → DecoderOn d d' p p' []
+on_to_marker d e d' p front behind p' late going header p_is on off next text out s =
+    let a = on text out s in
+    let same : front ≡ a.0 = sym (taken_is p behind front p_is) ∙ taken_is p behind a.0 a.1 in
+    let cut : CutOff (sized (fields_of e.header) e.header.yd) (text ++ a.0) (out ++ []) Truncated = subst (λ k. CutOff (sized (fields_of k) k.yd) (text ++ a.0) (out ++ []) Truncated) (sym header)
+    (subst (λ z. CutOff (sized (fields_of d.header) d.header.yd) (text ++ a.0) z Truncated) (sym (append-nil out)) (subst (λ z. CutOff (sized (fields_of d.header) d.header.yd) (text ++ z) out Truncated) same (off text out (code_of d text out late going s).walk))) in
+    let b = next (text ++ a.0) (out ++ []) a.2 cut in (
+      a.0 ++ b.0,
+      a.1 ∙ ap (λ z. a.0 ++ z) b.1 ∙ sym (append_assoc a.0 b.0 p'),
+      subst (λ z. DecoderStands d' z (out ++ [])) (append_assoc text a.0 b.0) (subst (λ z. DecoderStands d' ((text ++ a.0) ++ b.0) (z ++ [])) (append-nil out) b.2),
     )
 
 -- a fault in a part of the piece
@@ -505,9 +530,9 @@ module _ (d e d' : PieceView) (closed : StripeClosed d e) (keeps : KeepsDecoder 
 -- ---- what comes behind
 
 -- a code begins
-pub code_entered : (d e d' : PieceView) (c : code_type.Code) (dec : Decoder) (p rest : List ℕ) → d.is_open ≡ true → d.waits ≡ true → HeadEntered d e → d.behind.comment ≡ None → IsByteOrMarker c → DecoderIsAt dec start [] → p ≡ code_bytes c ++ rest →
+pub code_entered : (q : CoderLaws) (d e d' : PieceView) (c : code_type.Code) (dec : Decoder) (p rest : List ℕ) → d.is_open ≡ true → d.waits ≡ true → HeadEntered d e → d.behind.comment ≡ None → IsByteOrMarker c → DecoderIsAt dec start [] → p ≡ code_bytes c ++ rest →
     d'.header ≡ e.header → d'.height ≡ e.height → d'.is_open ≡ e.is_open → d'.waits ≡ false → d'.walk ≡ record e.walk { decoder = dec; stage = stage.Code; row = 0; first = Some c; marker = None } → DecoderOn d d' p rest []
-code_entered d e d' c dec p rest late waits head between is at p_is header height is_open going walk text out s = (
+code_entered q d e d' c dec p rest late waits head between is at p_is header height is_open going walk text out s = (
   code_bytes c,
   p_is,
   put_code d' (text ++ code_bytes c) (out ++ []) (is_open ∙ head.keeps.is_open ∙ late) going
@@ -526,6 +551,7 @@ code_entered d e d' c dec p rest late waits head between is at p_is header heigh
     walk = subst (WalkStands (sized (fields_of d.header) d.header.yd) (record e.walk { decoder = dec; stage = stage.Code; row = 0; first = Some c; marker = None }) (text ++ code_bytes c)) (sym (append-nil out)) (walk_at there there.at_is is tt (head_code in_head c is dec at));
     in_code = inl refl;
     ungiven = head.given;
+    in_time = in_time_empty q (own_height d.header) in_head c;
   }
 
 -- a fault comes next
@@ -605,7 +631,7 @@ started d open_is waits height first s at comment = by d.is_open refl where
   }
 
   by : (b : Bool) → d.is_open ≡ b → DecoderStands d [] []
-  by true e = put_waits d [] [] e (waits ∙ e) known (waits_first (fields_of d.header) d.walk d.behind [] [] s (inl (first.stage, first.at, first.entities)) first.given at comment)
+  by true e = put_waits d [] [] e (waits ∙ e) known (waits_first (fields_of d.header) d.walk d.behind [] [] s (inl (first.stage, first.at, first.entities)) first.given (λ code. absurd (not_head d.walk.stage first.stage code)) at comment)
   by false e = put_walks d [] [] e known (subst (λ n. WalkStands (sized (fields_of d.header) n) d.walk [] []) (sym height) s)
 
 -- the same but for how the stream has ended
@@ -622,13 +648,6 @@ stands_same d d' text out header height is_open waits walk behind s = by d.is_op
       (subst (λ z. WalkWaits (fields_of z) d'.walk d'.behind text out) (sym header) (subst (λ w. WalkWaits (fields_of d.header) w d'.behind text out) (sym walk) (subst (λ b. WalkWaits (fields_of d.header) d.walk b text out) (sym behind) (waits_of d text out e f s))))
 
 -- ---- calls
-
-pub taken_is : (p p' g : List ℕ) → p ≡ g ++ p' → take (length p - length p') p ≡ g
-taken_is p p' g e =
-    let long = length-append g p' in
-    let all : length p ≡ length (g ++ p') = ap length e in
-    let same : length p - length p' ≡ length g = omega (arith, long, all) in
-    ap (λ n. take n p) same ∙ ap (take (length g)) e ∙ take-append_seam g p'
 
 -- it goes on
 pub call_on : (d e d' : PieceView) (p p' row : List ℕ) (taken : ℕ) → taken ≡ length p - length p' → d'.header ≡ e.header → d'.height ≡ e.height → d'.is_open ≡ e.is_open → d'.waits ≡ e.waits → d'.walk ≡ e.walk → d'.behind ≡ e.behind → d'.end ≡ None → DecoderOn d e p p' row →

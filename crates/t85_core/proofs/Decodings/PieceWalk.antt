@@ -61,7 +61,7 @@ module _ {h : Fields} {height entities : ℕ} {given : Bool} {at : Option move.M
   head_back : head.back ≡ flat_map segment_bytes head_segments
   head_back = head.passed.taken ∙ append-nil (flat_map segment_bytes head_segments)
 
-  code_off : (p bytes : List ℕ) (f : Fault) (rows : List (List Bool)) (flags : List Bool) → CodeBreaks code p bytes f → BegunRun (open_stripe h head.stripes.next head_segments) (rows_in h height entities) bytes rows flags → out ≡ began ++ flat_map packed_row rows →
+  pub code_off : (p bytes : List ℕ) (f : Fault) (rows : List (List Bool)) (flags : List Bool) → CodeBreaks code p bytes f → BegunRun (open_stripe h head.stripes.next head_segments) (rows_in h height entities) bytes rows flags → out ≡ began ++ flat_map packed_row rows →
       CutOff (sized h height) (text ++ p) out f
   code_off p bytes f rows flags b begun out_is =
       subst (λ z. CutOff (sized h height) z out f) (head_more p) (head_breaks head q use_ out (code ++ p) b.unread f b.counted stripe_cut)
@@ -176,7 +176,7 @@ module _ {h : Fields} {height entities : ℕ} {given : Bool} {at : Option move.M
   abbrev count : ℕ
   count = rows_in h height entities
 
-  with_more : (p : List ℕ) → s.before ++ (s.code ++ p) ≡ text ++ p
+  pub with_more : (p : List ℕ) → s.before ++ (s.code ++ p) ≡ text ++ p
   with_more p = sym (append_assoc s.before s.code p) ∙ ap (λ z. z ++ p) (sym s.text_is)
 
   back_is : s.head.back ≡ flat_map segment_bytes segments

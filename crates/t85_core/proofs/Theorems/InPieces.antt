@@ -61,7 +61,7 @@ more_at d calls last s are is e waits =
 
 pub await_at : PiecesAwait
 await_at d calls last s are is e waits =
-    subst (λ z. AwaitsHeight z (flat_map bytes_taken calls ++ last.piece) (stripes_ended last.new)) (stream_after d calls are)
+    subst (λ z. AwaitsHeight z (flat_map bytes_taken calls ++ last.piece) (stripes_ended last.new) (flat_map row_given calls)) (stream_after d calls are)
     ((is.more e (flat_map bytes_taken calls) (flat_map row_given calls) (taken_at d calls s are)).2 waits)
 
 pub whole_at : PiecesWhole

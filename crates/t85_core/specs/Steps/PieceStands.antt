@@ -9,6 +9,7 @@ use Rattle.t85_core.specs.Header.{Fields, is_variable}
 use Rattle.t85_core.specs.Options.{fields_of}
 use Rattle.t85_core.specs.Height.{GivesHeight}
 use Rattle.t85_core.specs.Steps.Behind.{BehindStands, behind_at}
+use Rattle.t85_core.specs.Steps.InTime.{MarkerAfterRows}
 use Rattle.t85_core.specs.Steps.Pieces.{WalkStands, HasMarker, IsInCode}
 use Rattle.t85_core.specs.Steps.SizedImage.{sized}
 
@@ -46,6 +47,8 @@ pub record CodeWalks (h : Fields) (w : WalkView) (text out : List ℕ) : Type 0 
   pub walk : WalkStands (sized h h.yd) w text out
   pub in_code : IsInCode w.stage
   pub ungiven : w.given ≡ false
+  -- an end marker was read only after the rows that the bytes before it fix
+  pub in_time : HasMarker w → MarkerAfterRows (sized h h.yd) text out
 
 -- where a walk waits: before the first stripe, or at the end marker of one
 abbrev pub IsAtMarker : WalkView → Type 0
@@ -59,6 +62,7 @@ pub record WalkWaits (h : Fields) (w : WalkView) (b : Behind) (text out : List �
   pub walk : WalkStands (sized h h.yd) w done out
   pub at : IsAtMarker w
   pub ungiven : w.given ≡ false
+  pub in_time : IsInCode w.stage → MarkerAfterRows (sized h h.yd) done out
   pub behind : BehindStands h (behind_at (place_behind h w.stage w.entities) (last_behind h w.stage w.left)) b back
 
 abbrev pub StandsAs : Bool → Bool → PieceView → List ℕ → List ℕ → Type 0

@@ -21,6 +21,7 @@ pub fn find_marker(
     ensures err { IfErr result (MissesMarker first.old marker piece.old.rest.now) }
     ensures more { IsErrOf result Truncated → KeepsCode first.old first.new marker
         piece.old.rest.now piece.new.rest.now }
+    ensures gone { IfErr result (λ _. first.new ≡ None) }
     ensures few { IsErrOf result Truncated → length piece.new.rest.now ≤ 1 }
     ensures no_more { length piece.new.rest.now ≤ length piece.old.rest.now }
     ensures whole { (reset : Bool) → (marker ≡ Some reset) ⊎ (first.old ≡ Some (code.Marker reset))

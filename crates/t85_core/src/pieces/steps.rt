@@ -25,7 +25,7 @@ const AHEAD: usize = 256;
 impl PieceDecoder {
     ghost use Rattle.t85_core.specs.declared.pieces.walk.Stage.TheVariants as stage;
     ghost use Rattle.t85_core.specs.Steps.Pieces.{MarkerRead, IsInCode, RowIsLeft};
-    ghost use Rattle.t85_core.specs.Steps.PieceSteps.{DecodesCode, DecoderOn, Lowers, StepLeaves};
+    ghost use Rattle.t85_core.specs.Steps.PieceSteps.{DecodesCode, DecoderOnAfterRows, Lowers, StepLeaves};
 
     /// Continues up to the next row or the end, or as far as the bytes allow.
     pub(super) fn go_on(
@@ -116,7 +116,7 @@ impl PieceDecoder {
     /// Continues after the last row of a stripe, to the end marker.
     fn step_to_marker(&mut self, piece: &mut Piece<'_>, is_all: bool) -> Option<Outcome>
         requires in_code { DecodesCode self.old }
-        requires unmarked { self.old.walk.marker ≡ None }
+        requires unmarked { MarkerRead self.old.walk.marker self.old.walk.first → ⊥ }
         requires stage { self.old.walk.stage ≡ stage.Code }
         requires all { min self.old.walk.left self.old.header.l0 ≤ self.old.walk.row }
         ensures leaves { (rows : Held) (learned : List Estimate) → StepLeaves is_all (decoder_view
@@ -190,9 +190,9 @@ impl PieceDecoder {
         ensures header { self.new.header ≡ self.old.header }
         ensures end { self.new.end ≡ self.old.end }
         ensures on { self.old.walk.first ≡ None → self.old.walk.marker ≡ None → IsInCode
-            self.old.walk.stage → (rows : Held) (learned : List Estimate) → DecoderOn (decoder_view
-            self.old rows learned) (decoder_view self.new rows learned) piece.old.rest.now
-            piece.new.rest.now [] }
+            self.old.walk.stage → (rows : Held) (learned : List Estimate) → DecoderOnAfterRows
+            (decoder_view self.old rows learned) (decoder_view self.new rows learned)
+            piece.old.rest.now piece.new.rest.now }
         ensures stays { ((reset : Bool) (rest : List ℕ) →
             piece.old.rest.now ≡ marker_bytes reset ++ rest → ⊥) → self.new.waits ≡ false }
         ensures no_more { length piece.new.rest.now ≤ length piece.old.rest.now }

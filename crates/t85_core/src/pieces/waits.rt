@@ -164,6 +164,8 @@ impl PieceDecoder {
         ensures lowers { Lowers self.old self.new piece.old.rest.now piece.new.rest.now result }
         ensures lent { KeepsLent lent.old lent.new }
     {
+        // The proof uses these laws of the coder.
+        coder_laws();
         if self.gives_below(lent, self.walk.left.min(self.header.l0)) {
             return Some(Outcome::Row);
         }

@@ -8,6 +8,7 @@ ghost use Rattle.t85_core.specs.declared.fault.Fault.TheVariants.{Changed};
 ghost use Rattle.t85_core.specs.declared.pieces.walk.Stage.TheVariants as stage;
 ghost use Rattle.t85_core.specs.Steps.Buffers.{copies};
 ghost use Rattle.t85_core.specs.Lent.{KeepsLent, walk_view, walk_over, walk_lent as over};
+ghost use Rattle.t85_core.specs.Steps.InTime.{ReachesMarker};
 ghost use Rattle.t85_core.specs.Steps.Pieces.{WalkStands, SomeStands, Alone, Step, HasAllRows, KeepsPlace, MarkerRead, RowIsLeft, StripesOn};
 ghost use Rattle.t85_core.specs.Steps.SizedImage.{sized_of};
 
@@ -89,13 +90,17 @@ impl Walk {
     /// Skips the rest of the code of a stripe, after its last row, up to its end marker, and reads the marker ahead.
     pub fn find_end(&mut self, image: &SizedImage, piece: &mut Piece<'_>) -> Result<(), Fault>
         requires rows { HasAllRows image.now.header.l0 self.old }
-        requires unmarked { self.old.marker ≡ None }
+        requires unmarked { MarkerRead self.old.marker self.old.first → ⊥ }
         ensures step { Alone (λ w w'. Step (sized_of image.now) w w' piece.old.rest.now
             piece.new.rest.now result) self.old self.new }
         ensures place { (rows rows' : Held) (learned learned' : List Estimate) →
             KeepsPlace (walk_view self.old rows learned) (walk_view self.new rows' learned') }
         ensures stage { self.new.stage ≡ stage.Code }
         ensures marked { OnOk result (MarkerRead self.new.marker self.new.first) }
+        ensures in_time { OnOk result ((rows : Held) (learned : List Estimate) → ReachesMarker
+            (sized_of image.now) (walk_view self.old rows learned) piece.old.rest.now
+            piece.new.rest.now) }
+        ensures none { IfErr result (λ _. (self.new.first ≡ None) × (self.new.marker ≡ None)) }
         ensures no_more { length piece.new.rest.now ≤ length piece.old.rest.now }
         ensures other { (rows : Held) (learned : List Estimate) → SomeStands (sized_of
             image.now) (walk_view self.old rows learned) → IfErr result (λ f. f ≢ Changed) }

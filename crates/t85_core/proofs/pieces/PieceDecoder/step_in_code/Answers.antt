@@ -17,7 +17,7 @@ pub returns-then-has_marker-clause-leaves : goal.returns-then-has_marker-clause-
 returns-then-has_marker-clause-leaves c = leaves_on c.args.is_all (decoder_lent c.args.self.now c.args.lent.now) _ c.args.piece.now.rest.now c.args.piece.now.rest.now refl refl
     (on_none (decoder_lent c.args.self.now c.args.lent.now) _ c.args.piece.now.rest.now (λ text out s.
     let w = code_of (decoder_lent c.args.self.now c.args.lent.now) text out c.requires.in_code.0 c.requires.in_code.1 s in
-    put_waits _ text out c.requires.in_code.0 refl s.height (waits_first (fields_of c.args.self.now.header) (walk_lent c.args.self.now.walk c.args.lent.now) c.start-self.result text out w.walk (inr (w.in_code, c.has_marker.ensures.yes (search rules))) w.ungiven c.start-self.ensures.at c.start-self.ensures.comment)))
+    put_waits _ text out c.requires.in_code.0 refl s.height (waits_first (fields_of c.args.self.now.header) (walk_lent c.args.self.now.walk c.args.lent.now) c.start-self.result text out w.walk (inr (w.in_code, c.has_marker.ensures.yes (search rules))) w.ungiven (λ _. w.in_time (c.has_marker.ensures.yes (search rules))) c.start-self.ensures.at c.start-self.ensures.comment)))
 
 pub returns-then-wants_row-clause-leaves : goal.returns-then-wants_row-clause-leaves
 returns-then-wants_row-clause-leaves c = leaves_after c.args.is_all (decoder_lent c.args.self.now c.args.lent.now) _ (decoder_lent c.step_in_rows.new.self c.step_in_rows.new.lent) c.args.piece.now.rest.now c.args.piece.now.rest.now c.step_in_rows.new.piece.rest.now refl refl

@@ -6,8 +6,9 @@ use Rattle.t85_core.specs.Steps.Pieces.{StepsOff}
 use Rattle.t85_core.specs.Steps.SizedImage.{sized}
 use Rattle.raster_core.specs.Window.{held}
 use Rattle.t85_core.specs.Lent.{decoder_lent, walk_lent}
+use Rattle.t85_core.proofs.Decodings.PieceInTime.{none_read}
 use Rattle.t85_core.proofs.Decodings.PieceSteps.{nil_of}
-use Rattle.t85_core.proofs.Decodings.PieceStood.{code_on, code_broken, part_broken, part_left, split_is, shorter_rest, on_compose, leaves_on, leaves_row, leaves_stop, leaves_broken, fewer_bytes, some_code, on_where}
+use Rattle.t85_core.proofs.Decodings.PieceStood.{code_on, code_broken, part_broken, part_left, split_is, shorter_rest, on_to_marker, leaves_on, leaves_row, leaves_stop, leaves_broken, fewer_bytes, some_code, on_where}
 use Rattle.t85_core.proofs.Decodings.PieceBelow.{row_unmarked}
 use Rattle.t85_core.proofs.pieces.PieceDecoder.step_in_rows.Goals as goal
 
@@ -15,7 +16,7 @@ pub returns-in-Ok-clause-leaves : goal.returns-in-Ok-clause-leaves
 returns-in-Ok-clause-leaves c = leaves_row c.args.is_all (decoder_lent c.args.self.now c.args.lent.now) _ c.args.piece.now.rest.now c.split_at-in-Ok.result.1.now refl refl
     (code_on (decoder_lent c.args.self.now c.args.lent.now) _ c.args.piece.now.rest.now c.split_at.result.0.now c.split_at.result.1.now c.give_row.new.piece.rest.now c.split_at-in-Ok.result.1.now _ c.requires.in_code.0 c.requires.in_code.1 (record { header = refl; height = refl; is_open = refl; waits = refl; behind = refl; going = refl }) (split_is c.args.piece.now.rest.now c.split_at.result.0.now c.split_at.result.1.now c.code_len.result c.split_at.ensures.front c.split_at.ensures.back)
     (λ some g e. part_left c.args.piece.now.rest.now c.split_at.result.0.now c.split_at.result.1.now g c.give_row.new.piece.rest.now c.split_at-in-Ok.result.1.now _ (split_is c.args.piece.now.rest.now c.split_at.result.0.now c.split_at.result.1.now c.code_len.result c.split_at.ensures.front c.split_at.ensures.back) e c.saturating_sub.ensures c.split_at-in-Ok.ensures.back)
-    c.in-Ok.ensures.step.ok (λ some. (inl (c.in-Ok.ensures.leaves (some_code (decoder_lent c.args.self.now c.args.lent.now) c.requires.in_code.0 c.requires.in_code.1 some)).row.1, (c.in-Ok.ensures.leaves (some_code (decoder_lent c.args.self.now c.args.lent.now) c.requires.in_code.0 c.requires.in_code.1 some)).place.given)))
+    c.in-Ok.ensures.step.ok (λ some. (inl (c.in-Ok.ensures.leaves (some_code (decoder_lent c.args.self.now c.args.lent.now) c.requires.in_code.0 c.requires.in_code.1 some)).row.1, (c.in-Ok.ensures.leaves (some_code (decoder_lent c.args.self.now c.args.lent.now) c.requires.in_code.0 c.requires.in_code.1 some)).place.given)) (λ some. row_unmarked (decoder_lent c.args.self.now c.args.lent.now) (walk_lent c.give_row.new.self c.give_row.new.lent) c.split_at.result.0.now c.give_row.new.piece.rest.now _ c.requires.in_code.0 c.requires.in_code.1 c.requires.ahead (subst HasNoMarker (sym c.split_at.ensures.front) c.code_len.ensures.unmarked) (c.in-Ok.ensures.leaves (some_code (decoder_lent c.args.self.now c.args.lent.now) c.requires.in_code.0 c.requires.in_code.1 some)).row.1 (c.in-Ok.ensures.leaves (some_code (decoder_lent c.args.self.now c.args.lent.now) c.requires.in_code.0 c.requires.in_code.1 some)).place c.in-Ok.ensures.step.ok some.0 some.1 some.2))
     (λ _ marked text out rest n s follows i. absurd (row_unmarked (decoder_lent c.args.self.now c.args.lent.now) (walk_lent c.give_row.new.self c.give_row.new.lent) c.split_at.result.0.now c.give_row.new.piece.rest.now _ c.requires.in_code.0 c.requires.in_code.1 c.requires.ahead (subst HasNoMarker (sym c.split_at.ensures.front) c.code_len.ensures.unmarked) (c.in-Ok.ensures.leaves (some_code (decoder_lent c.args.self.now c.args.lent.now) c.requires.in_code.0 c.requires.in_code.1 (text, out, s))).row.1 (c.in-Ok.ensures.leaves (some_code (decoder_lent c.args.self.now c.args.lent.now) c.requires.in_code.0 c.requires.in_code.1 (text, out, s))).place c.in-Ok.ensures.step.ok text out s marked))
 
 pub returns-then-front-bytes-clause-leaves : goal.returns-then-front-bytes-clause-leaves
@@ -27,14 +28,14 @@ returns-then-front-bytes-clause-leaves c =
     (λ e. let m = c.in-Err.ensures.step.more (ap Err e) in (
       code_on (decoder_lent c.args.self.now c.args.lent.now) _ c.args.piece.now.rest.now c.split_at.result.0.now c.split_at.result.1.now c.give_row.new.piece.rest.now c.give_row.new.piece.rest.now [] c.requires.in_code.0 c.requires.in_code.1 (record { header = refl; height = refl; is_open = refl; waits = refl; behind = refl; going = refl }) (split_is c.args.piece.now.rest.now c.split_at.result.0.now c.split_at.result.1.now c.code_len.result c.split_at.ensures.front c.split_at.ensures.back)
           (λ _ g is. sym (append-nil c.give_row.new.piece.rest.now) ∙ ap (λ z. c.give_row.new.piece.rest.now ++ z) (sym none))
-          m.0 (λ some. (inr (c.in-Err.ensures.leaves (some_code (decoder_lent c.args.self.now c.args.lent.now) c.requires.in_code.0 c.requires.in_code.1 some)).same_row.1, (c.in-Err.ensures.leaves (some_code (decoder_lent c.args.self.now c.args.lent.now) c.requires.in_code.0 c.requires.in_code.1 some)).place.given)),
+          m.0 (λ some. (inr (c.in-Err.ensures.leaves (some_code (decoder_lent c.args.self.now c.args.lent.now) c.requires.in_code.0 c.requires.in_code.1 some)).same_row.1, (c.in-Err.ensures.leaves (some_code (decoder_lent c.args.self.now c.args.lent.now) c.requires.in_code.0 c.requires.in_code.1 some)).place.given)) (λ some. none_read (c.in-Err.ensures.leaves (some_code (decoder_lent c.args.self.now c.args.lent.now) c.requires.in_code.0 c.requires.in_code.1 some)).same_row.2 ((c.in-Err.ensures.leaves (some_code (decoder_lent c.args.self.now c.args.lent.now) c.requires.in_code.0 c.requires.in_code.1 some)).same_row.3 ∙ c.requires.unmarked)),
       m.1,
     ))
     (code_broken (decoder_lent c.args.self.now c.args.lent.now) c.args.piece.now.rest.now c.in-Err.fault c.requires.in_code.0 c.requires.in_code.1 (subst (λ z. StepsOff (sized (fields_of c.args.self.now.header) c.args.self.now.header.yd) (walk_lent c.args.self.now.walk c.args.lent.now) z c.in-Err.fault) all c.in-Err.ensures.step.err) (λ some. (c.in-Err.ensures.leaves (some_code (decoder_lent c.args.self.now c.args.lent.now) c.requires.in_code.0 c.requires.in_code.1 some)).other))
 
 pub returns-in-Truncated-clause-leaves : goal.returns-in-Truncated-clause-leaves
 returns-in-Truncated-clause-leaves c = on_where c.args.is_all (decoder_lent c.args.self.now c.args.lent.now) (decoder_lent c.wait_at_marker.new.self c.give_row.new.lent) c.args.piece.now.rest.now c.wait_at_marker.new.piece.rest.now c.wait_at_marker.ensures.header c.wait_at_marker.ensures.end (λ some. leaves_on c.args.is_all (decoder_lent c.args.self.now c.args.lent.now) (decoder_lent c.wait_at_marker.new.self c.give_row.new.lent) c.args.piece.now.rest.now c.wait_at_marker.new.piece.rest.now c.wait_at_marker.ensures.header c.wait_at_marker.ensures.end
-    (on_compose (decoder_lent c.args.self.now c.args.lent.now) _ (decoder_lent c.wait_at_marker.new.self c.give_row.new.lent) c.args.piece.now.rest.now c.split_at.result.1.now c.wait_at_marker.new.piece.rest.now [] (code_on (decoder_lent c.args.self.now c.args.lent.now) _ c.args.piece.now.rest.now c.split_at.result.0.now c.split_at.result.1.now c.give_row.new.piece.rest.now c.split_at.result.1.now [] c.requires.in_code.0 c.requires.in_code.1 (record { header = refl; height = refl; is_open = refl; waits = refl; behind = refl; going = refl }) (split_is c.args.piece.now.rest.now c.split_at.result.0.now c.split_at.result.1.now c.code_len.result c.split_at.ensures.front c.split_at.ensures.back) (λ some g e. ap (λ z. z ++ c.split_at.result.1.now) (sym ((c.in-Err.ensures.leaves (some_code (decoder_lent c.args.self.now c.args.lent.now) c.requires.in_code.0 c.requires.in_code.1 some)).drained (subst EndsInNoEscape (sym c.split_at.ensures.front) (c.code_len.ensures.escape (omega (arith, c.code_len.ensures.bound, c.split_at.ensures.front_len, c.if-front-bytes.false))))))) (c.in-Err.ensures.step.more (ap Err c.in-Truncated.is)).0 (λ some. (inr (c.in-Err.ensures.leaves (some_code (decoder_lent c.args.self.now c.args.lent.now) c.requires.in_code.0 c.requires.in_code.1 some)).same_row.1, (c.in-Err.ensures.leaves (some_code (decoder_lent c.args.self.now c.args.lent.now) c.requires.in_code.0 c.requires.in_code.1 some)).place.given))) (c.wait_at_marker.ensures.on (c.in-Err.ensures.leaves (some_code (decoder_lent c.args.self.now c.args.lent.now) c.requires.in_code.0 c.requires.in_code.1 some)).same_row.2 ((c.in-Err.ensures.leaves (some_code (decoder_lent c.args.self.now c.args.lent.now) c.requires.in_code.0 c.requires.in_code.1 some)).same_row.3 ∙ c.requires.unmarked) (inr (c.in-Err.ensures.leaves (some_code (decoder_lent c.args.self.now c.args.lent.now) c.requires.in_code.0 c.requires.in_code.1 some)).same_row.1) (held c.give_row.new.lent.window.now) c.give_row.new.lent.learned.now)))
+    (on_to_marker (decoder_lent c.args.self.now c.args.lent.now) _ (decoder_lent c.wait_at_marker.new.self c.give_row.new.lent) c.args.piece.now.rest.now c.split_at.result.0.now c.split_at.result.1.now c.wait_at_marker.new.piece.rest.now c.requires.in_code.0 c.requires.in_code.1 refl (split_is c.args.piece.now.rest.now c.split_at.result.0.now c.split_at.result.1.now c.code_len.result c.split_at.ensures.front c.split_at.ensures.back) (code_on (decoder_lent c.args.self.now c.args.lent.now) _ c.args.piece.now.rest.now c.split_at.result.0.now c.split_at.result.1.now c.give_row.new.piece.rest.now c.split_at.result.1.now [] c.requires.in_code.0 c.requires.in_code.1 (record { header = refl; height = refl; is_open = refl; waits = refl; behind = refl; going = refl }) (split_is c.args.piece.now.rest.now c.split_at.result.0.now c.split_at.result.1.now c.code_len.result c.split_at.ensures.front c.split_at.ensures.back) (λ some g e. ap (λ z. z ++ c.split_at.result.1.now) (sym ((c.in-Err.ensures.leaves (some_code (decoder_lent c.args.self.now c.args.lent.now) c.requires.in_code.0 c.requires.in_code.1 some)).drained (subst EndsInNoEscape (sym c.split_at.ensures.front) (c.code_len.ensures.escape (omega (arith, c.code_len.ensures.bound, c.split_at.ensures.front_len, c.if-front-bytes.false))))))) (c.in-Err.ensures.step.more (ap Err c.in-Truncated.is)).0 (λ some. (inr (c.in-Err.ensures.leaves (some_code (decoder_lent c.args.self.now c.args.lent.now) c.requires.in_code.0 c.requires.in_code.1 some)).same_row.1, (c.in-Err.ensures.leaves (some_code (decoder_lent c.args.self.now c.args.lent.now) c.requires.in_code.0 c.requires.in_code.1 some)).place.given)) (λ some. none_read (c.in-Err.ensures.leaves (some_code (decoder_lent c.args.self.now c.args.lent.now) c.requires.in_code.0 c.requires.in_code.1 some)).same_row.2 ((c.in-Err.ensures.leaves (some_code (decoder_lent c.args.self.now c.args.lent.now) c.requires.in_code.0 c.requires.in_code.1 some)).same_row.3 ∙ c.requires.unmarked))) (subst (StepsOff (sized (fields_of c.args.self.now.header) c.args.self.now.header.yd) (walk_lent c.args.self.now.walk c.args.lent.now) c.split_at.result.0.now) c.in-Truncated.is c.in-Err.ensures.step.err) (c.wait_at_marker.ensures.on (c.in-Err.ensures.leaves (some_code (decoder_lent c.args.self.now c.args.lent.now) c.requires.in_code.0 c.requires.in_code.1 some)).same_row.2 ((c.in-Err.ensures.leaves (some_code (decoder_lent c.args.self.now c.args.lent.now) c.requires.in_code.0 c.requires.in_code.1 some)).same_row.3 ∙ c.requires.unmarked) (inr (c.in-Err.ensures.leaves (some_code (decoder_lent c.args.self.now c.args.lent.now) c.requires.in_code.0 c.requires.in_code.1 some)).same_row.1) (held c.give_row.new.lent.window.now) c.give_row.new.lent.learned.now)))
 
 pub returns-in-Truncated-clause-lowers : goal.returns-in-Truncated-clause-lowers
 returns-in-Truncated-clause-lowers c = λ _. fewer_bytes c.args.self.now.waits c.wait_at_marker.new.self.waits c.args.piece.now.rest.now c.wait_at_marker.new.piece.rest.now

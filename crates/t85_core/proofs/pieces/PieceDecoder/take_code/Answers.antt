@@ -20,5 +20,5 @@ returns-clause-leaves c = λ is_all.
     let h = c.enter_head.ensures.head (subst (λ z. last_behind (fields_of z.header) z.walk.stage z.walk.left ≡ false) (sym above.same) c.requires.more) (subst SomeStand (sym above.same) some) in
     leaves_of above.same
     (leaves_on is_all (decoder_lent c.gives_below.new.self c.gives_below.new.lent) _ c.args.piece.now.rest.now c.args.rest.now h.keeps.header h.keeps.going
-    (code_entered (decoder_lent c.gives_below.new.self c.gives_below.new.lent) (decoder_lent c.enter_head.new.self c.enter_head.new.lent) _ c.args.code c.start-self.result c.args.piece.now.rest.now c.args.rest.now (ap (λ z. z.is_open) above.same ∙ c.requires.looks.0) (ap (λ z. z.waits) above.same ∙ c.requires.looks.1) h
+    (code_entered c.coder_laws.ensures (decoder_lent c.gives_below.new.self c.gives_below.new.lent) (decoder_lent c.enter_head.new.self c.enter_head.new.lent) _ c.args.code c.start-self.result c.args.piece.now.rest.now c.args.rest.now (ap (λ z. z.is_open) above.same ∙ c.requires.looks.0) (ap (λ z. z.waits) above.same ∙ c.requires.looks.1) h
     (ap (λ z. z.behind.comment) above.same ∙ c.requires.between) c.requires.code c.start-self.ensures.stands c.requires.comes refl refl refl refl refl)))

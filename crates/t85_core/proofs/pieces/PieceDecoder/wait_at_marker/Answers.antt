@@ -5,18 +5,19 @@ use Rattle.t85_core.specs.Steps.Pieces.{WalkStands}
 use Rattle.t85_core.specs.Steps.SizedImage.{sized}
 use Rattle.t85_core.specs.Lent.{decoder_view, walk_view}
 use Rattle.t85_core.proofs.Decodings.Entities.{none_of}
-use Rattle.t85_core.proofs.Decodings.PieceStood.{code_of, put_waits, waits_first, walk_ahead, known_more, marker_split}
+use Rattle.t85_core.proofs.Decodings.PieceInTime.{in_time_here}
+use Rattle.t85_core.proofs.Decodings.PieceStood.{code_of, on_none, put_waits, waits_first, walk_ahead, known_more, marker_split}
 use Rattle.t85_core.proofs.pieces.PieceDecoder.wait_at_marker.Goals as goal
 
 pub returns-in-Some-clause-on : goal.returns-in-Some-clause-on
-returns-in-Some-clause-on c = λ ahead unmarked stage rows learned text out s.
+returns-in-Some-clause-on c = λ ahead unmarked stage rows learned text out s cut.
     let w = code_of (decoder_view c.args.self.now rows learned) text out c.requires.in_code.0 c.requires.in_code.1 s in (
       marker_bytes c.in-Some.reset,
       marker_split c.in-Some.reset c.args.piece.now.rest.now c.in-Some.ensures.some.0 c.split_at.result.1.now c.in-Some.ensures.some.1 c.split_at.ensures.back,
       put_waits _ _ _ c.requires.in_code.0 refl (known_more (fields_of c.args.self.now.header) c.args.self.now.height c.args.self.now.is_open text (marker_bytes c.in-Some.reset) s.height)
           (waits_first (fields_of c.args.self.now.header) _ c.start-self.result _ _
           (subst (WalkStands (sized (fields_of c.args.self.now.header) c.args.self.now.header.yd) _ (text ++ marker_bytes c.in-Some.reset)) (sym (append-nil out)) (walk_ahead (fields_of c.args.self.now.header) c.args.self.now.header.yd (walk_view c.args.self.now.walk rows learned) text out c.in-Some.reset stage ahead unmarked w.walk))
-          (inr (stage, (c.in-Some.reset, inr refl))) w.ungiven c.start-self.ensures.at c.start-self.ensures.comment),
+          (inr (stage, (c.in-Some.reset, inr refl))) w.ungiven (λ _. in_time_here c.in-Some.reset cut) c.start-self.ensures.at c.start-self.ensures.comment),
     )
 
 pub returns-in-Some-clause-stays : goal.returns-in-Some-clause-stays
@@ -24,3 +25,6 @@ returns-in-Some-clause-stays c = λ never. absurd (never c.in-Some.reset c.in-So
 
 pub returns-in_default-clause-marked : goal.returns-in_default-clause-marked
 returns-in_default-clause-marked c = λ reset rest is. absurd (c.marker_at.ensures.none (none_of _ c.in_default.not-Some) reset rest is)
+
+pub returns-in_default-clause-on : goal.returns-in_default-clause-on
+returns-in_default-clause-on c = λ ahead unmarked stage rows learned text out s cut. on_none (decoder_view c.args.self.now rows learned) (decoder_view c.args.self.now rows learned) c.args.piece.now.rest.now (λ text out s. s) text out s
