@@ -325,7 +325,7 @@ uint8_t t85_decode_rows(const uint8_t *stream, size_t len, uint32_t max_rows, si
                         uint32_t *rows_written);
 
 /* Initializes a decoder for a stream in pieces. `size` must be sizeof(t85_decoder). The decoder
-   will reject a header that announces more than max_rows rows; pass UINT32_MAX for no limit.
+   will return at most max_rows rows, and reject an image of more; pass UINT32_MAX for no limit.
    Returns 0; or 50 if `size` is wrong, and then `decoder` is unchanged. */
 T85_NO_NULL((1))
 uint8_t t85_decode_start(t85_decoder *decoder, size_t size, uint32_t max_rows);
@@ -350,7 +350,11 @@ uint8_t t85_decode_start(t85_decoder *decoder, size_t size, uint32_t max_rows);
      t85_stream_facts to find the end of a stream.
    1 to 15: the stream is broken. All rows that the bytes before the error determine have been
      returned.
-   24: the header announces more than max_rows rows.
+   24: the image has more than max_rows rows. Without T85_VARIABLE_HEIGHT in the header, the call
+     that reads the header returns this. With it, a lower height may follow the header's, so 24 is
+     returned in place of T85_ROW or T85_MORE once t85_decode_certain would exceed max_rows (a
+     height above the limit has arrived, or a stripe behind it has begun), or once the bytes
+     determine row max_rows + 1, even if a height might still cut it off.
    19: the window is too short. Nothing was consumed or changed.
    53: the decoder is not initialized. Nothing was consumed or changed.
    After 0, 1 to 15 or 24, further calls return the same status and consume nothing. */
@@ -368,7 +372,7 @@ uint8_t t85_decode_end(t85_decoder *decoder, uint8_t *window, size_t window_len,
    arrives later may cut off further rows. A height has arrived when its whole NEWLEN has been
    decoded.
 
-   This counts rows of the image, not rows that were returned. After a broken end it is the height,
+   This counts rows of the image, not rows that were returned. After 1 to 15 or 24 it is the height,
    too, although only the rows that were returned can be saved. */
 T85_NO_NULL((1))
 uint32_t t85_decode_certain(const t85_decoder *decoder);

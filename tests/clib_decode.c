@@ -369,6 +369,52 @@ static void heights_of_headers(void)
     no_height(T85_TOO_MANY_ROWS, two, 1);
 }
 
+/* Decodes a stream of one pixel per row, in pieces of `step` bytes, with a limit of rows. */
+static void limited(buffer stream, uint32_t max_rows, size_t step, uint8_t wanted, size_t count)
+{
+    size_t at = 0, given = 0, len, taken = 77, place;
+    buffer window = lend(t85_window_bytes(1));
+    uint8_t status = T85_MORE;
+    t85_decoder decoder;
+    if (t85_decode_start(&decoder, sizeof decoder, max_rows))
+        fail("t85_decode_start");
+    while (status >= T85_HEADER_READ) {
+        len = stream.len - at < step ? stream.len - at : step;
+        taken = 0;
+        if (status == T85_MORE && at == stream.len)
+            status = t85_decode_end(&decoder, window.bytes, window.len, &place);
+        else
+            status = t85_decode_bytes(&decoder, stream.bytes + at, len, window.bytes, window.len,
+                                      &taken, &place);
+        at += taken;
+        given += status == T85_ROW;
+    }
+    if (status != wanted || given != count)
+        fail("t85_decode_bytes: status %d and %zu rows, with a limit of %u and pieces of %zu",
+             status, given, max_rows, step);
+    if (t85_decode_bytes(&decoder, stream.bytes, stream.len, window.bytes, window.len, &taken,
+                         &place) != wanted ||
+        taken)
+        fail("t85_decode_bytes: goes on after status %d", wanted);
+    give_back(window);
+}
+
+/* A header announces 2^32 - 1 rows, in stripes of one row. Two arrive, and then the height. */
+static void late_limits(void)
+{
+    static const uint8_t bytes[] = {0,    0,    1,    0,    0,    0,    0, 1, 0xFF, 0xFF, 0xFF, 0xFF,
+                                    0,    0,    0,    1,    0,    0,    0, 0x20, 0xC0, 0xFF, 2,
+                                    0xC0, 0xFF, 2,    0xFF, 5,    0,    0, 0, 2, 0xFF, 2};
+    buffer stream = copied(bytes, sizeof bytes);
+    size_t step;
+    for (step = 1; step <= stream.len; step++) {
+        limited(stream, 0, step, T85_TOO_MANY_ROWS, 0);
+        limited(stream, 1, step, T85_TOO_MANY_ROWS, 1);
+        limited(stream, 2, step, T85_OK, 2);
+    }
+    give_back(stream);
+}
+
 void decoder_faults(buffer rows, uint32_t width, uint32_t height)
 {
     size_t row = t85_row_bytes(width), three = t85_window_bytes(width), window, stride;
@@ -388,4 +434,5 @@ void decoder_faults(buffer rows, uint32_t width, uint32_t height)
     give_back(stream);
     decoder_states();
     heights_of_headers();
+    late_limits();
 }

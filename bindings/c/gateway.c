@@ -1,6 +1,7 @@
-/* Writes the packed rows of a stream into a file as the stream arrives: gateway ROWS < STREAM.jbg
-   At the end it prints the width and the height. If it is killed, the file contains the rows that
-   the bytes so far determine. */
+/* Writes the packed rows of a stream into a file as the stream arrives:
+       gateway ROWS LIMIT < STREAM.jbg
+   LIMIT is the greatest number of rows. At the end it prints the width and the height. If it is
+   killed, the file contains the rows that the bytes so far determine. */
 #define _POSIX_C_SOURCE 200809L
 #include <fcntl.h>
 #include <stdio.h>
@@ -11,12 +12,15 @@
 
 int main(int count, char **names)
 {
-    int out = count == 2 ? open(names[1], O_WRONLY | O_CREAT | O_TRUNC, 0666) : -1;
+    char *end = NULL;
+    unsigned long limit = count == 3 ? strtoul(names[2], &end, 10) : 0;
+    int out = end && !*end ? open(names[1], O_WRONLY | O_CREAT | O_TRUNC, 0666) : -1;
     uint8_t piece[1500], head[20], *window = NULL, status;
     size_t window_len = 0, head_len = 0, row_len = 0, at, taken, row;
     t85_header_fields fields = {0};
     t85_decoder decoder;
-    if (out < 0 || t85_decode_start(&decoder, sizeof decoder, UINT32_MAX) != T85_OK)
+    if (out < 0 || limit > UINT32_MAX ||
+        t85_decode_start(&decoder, sizeof decoder, (uint32_t)limit) != T85_OK)
         return 1;
     do {
         ssize_t len = read(STDIN_FILENO, piece, sizeof piece);

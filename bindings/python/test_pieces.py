@@ -63,6 +63,21 @@ class Pieces(unittest.TestCase):
             t85.Decoder(max_rows=159).feed(STREAM)
         self.assertEqual(raised.exception.number, 24)
 
+    def test_limit(self):
+        # The header announces 2^32 - 1 rows. Two arrive, and then the height.
+        stream = head(1, 0xFFFFFFFF, 1, 0, 0x20) + b"\xc0\xff\x02\xc0\xff\x02\xff\x05\0\0\0\x02\xff\x02"
+        for size in range(1, len(stream) + 1):
+            for limit in range(4):
+                with self.subTest(size=size, limit=limit):
+                    decoder, rows, number = t85.Decoder(max_rows=limit), [], 0
+                    try:
+                        for at in range(0, len(stream), size):
+                            rows.extend(decoder.rows(stream[at : at + size]))
+                        rows.extend(decoder.last_rows())
+                    except t85.Error as error:
+                        number = error.number
+                    self.assertEqual((rows, number), ([b"\x80"] * min(limit, 2), 24 if limit < 2 else 0))
+
     def test_asyncio(self):
         # The example of docs/PYTHON.md.
         names = {"t85": t85}

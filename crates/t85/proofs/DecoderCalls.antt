@@ -1,6 +1,6 @@
 -- A decoder that a C caller holds.
 use Rattle.std.proofs.Common.{cond, ◌≡◌, ◌≤◌, ◌<◌, ◌+◌, ◌*◌, ◌⊎◌, inl, inr, ℕ, suc, ◌==◌, Bool, true, false, not, List, [], ◌++◌, length, take, drop, None, Some, refl, sym, ap, subst, ◌∙◌, arith, append_assoc, append-nil, length-append, length-take, take_all, take-append-drop, true≢false}
-use Rattle.std.specs.Prelude.{◌&&◌, ◌||◌}
+use Rattle.std.specs.Prelude.{◌/◌, ◌%◌, ◌^◌, ◌&&◌, ◌||◌}
 use Rattle.std.proofs.lemmas.Bool.Decides.{nat_tests}
 use Rattle.std.proofs.lemmas.List.{length-drop, length-take-le, take-append-le}
 use Rattle.std.proofs.Math.Nat.{mul-le-mul_right, suc-mul}
@@ -18,8 +18,9 @@ use Rattle.t85_core.specs.declared.pieces.Outcome.{Outcome}
 use Rattle.t85_core.specs.declared.pieces.Outcome.TheVariants as outcome
 use Rattle.t85_core.specs.declared.pieces.PieceDecoder.{PieceDecoder}
 use Rattle.t85_core.specs.declared.pieces.Progress.{Progress}
-use Rattle.t85_core.specs.Header.{HeaderOf, header_fault}
+use Rattle.t85_core.specs.Header.{Fields, HeaderOf, VLENGTH, header_fault, is_variable}
 use Rattle.t85_core.specs.Laws.{HeaderLaws}
+use Rattle.t85_core.specs.Height.{GivesHeight, IsHeight}
 use Rattle.t85_core.specs.Lent.{decoder_over, decoder_view}
 use Rattle.t85_core.specs.Numbers.{piece_numbers, stage_number}
 use Rattle.t85_core.specs.Steps.PieceStands.{entities_behind}
@@ -27,11 +28,13 @@ use Rattle.t85_core.specs.declared.pieces.walk.Stage.{Stage}
 use Rattle.t85_core.specs.declared.pieces.walk.Stage.TheVariants as stage
 use Rattle.t85_core.specs.Options.{fields_of}
 use Rattle.t85_core.specs.Feeds.{HasFed, IsFeed}
-use Rattle.t85_core.specs.Pieces.{AwaitsHeight, HasDecoded, HandsOut, HoldsImage, stripes_ended}
+use Rattle.t85_core.specs.Pieces.{AreCertain, AwaitsHeight, HasDecoded, HandsOut, HoldsImage, IsLeastHeight, stripes_ended}
 use Rattle.t85_core.specs.Pieces.{call_of as piece_call}
 use Rattle.t85.specs.Decoded.{window_bytes}
-use Rattle.t85.specs.Decoder.{AnnouncesMore, Answers, AwaitsBehindHeader, BehindHeader, BreaksBehindHeader, BytesCall, GivesRowAt, HasRead, Hold, InHeader, InRows, IsBrokenStream, IsImageOf, IsShort, LacksWindow, ReadsHeader, StandAt, TellsAnswer, bytes_of_call, bytes_call, bytes_held_by, hold_of, is_waiting, numbers_of_decoder, stripes_ended_by}
-use Rattle.t85.specs.DecoderSteps.{IsAwaited, IsFilled, IsJudged, IsOfEngine, IsToldOf}
+use Rattle.t85.specs.Decoder.{Answers, AwaitsBehindHeader, BreaksBehindHeader, BytesCall, GivesRowAt, IsBrokenStream, IsImageOf, IsShort, LacksWindow, ReadsHeader, StandAt, TellsAnswer, TellsCertain, bytes_of_call, bytes_call, is_waiting, stripes_ended_by}
+use Rattle.t85.specs.DecoderLimit.{AnnouncesMore, IsCertainOfMore, IsWithinLimit, StaysWithinLimit}
+use Rattle.t85.specs.DecoderState.{BehindHeader, CountsRows, HasRead, Hold, InHeader, InRows, bytes_held_by, hold_of, numbers_of_decoder}
+use Rattle.t85.specs.DecoderSteps.{CountsOneMore, IsAwaited, IsFilled, IsJudged, IsOfEngine, IsOverLimit, IsToldOf}
 use Rattle.t85.specs.declared.decoder.T85Decoder.{T85Decoder}
 use Rattle.t85.specs.declared.decoder.Report.{Report}
 use Rattle.t85.specs.declared.decoder.Answer.{Answer}
@@ -63,10 +66,13 @@ in_header hold stream out e has = grind arith
 pub behind_header : (hold : Hold) (stream out : List ℕ) → hold.decoder.next ≡ 1 → HasRead hold stream out → BehindHeader hold.decoder stream out
 behind_header hold stream out e has = grind arith
 
-pub in_rows : (hold : Hold) (stream out : List ℕ) → hold.decoder.next ≡ 2 → HasRead hold stream out → InRows hold stream out
-in_rows hold stream out e (inl h) = absurd (omega (arith, e, h.next_is))
-in_rows hold stream out e (inr (inl h)) = absurd (omega (arith, e, h.next_is))
-in_rows hold stream out e (inr (inr h)) = h
+pub counted : (hold : Hold) (stream out : List ℕ) → hold.decoder.next ≡ 2 → HasRead hold stream out → CountsRows hold stream out
+counted hold stream out e (inl h) = absurd (omega (arith, e, h.next_is))
+counted hold stream out e (inr (inl h)) = absurd (omega (arith, e, h.next_is))
+counted hold stream out e (inr (inr h)) = h
+
+in_rows : (hold : Hold) (stream out : List ℕ) → hold.decoder.next ≡ 2 → HasRead hold stream out → InRows hold stream out
+in_rows hold stream out e has = (counted hold stream out e has).rows
 
 -- ---- answers, where less is known
 
@@ -75,6 +81,7 @@ answers_from old mid new call answer.Row k of a = record { bound = a.bound; tell
 answers_from old mid new call answer.More k of a = record { bound = a.bound; tells = (a.tells.0, (λ s o h. a.tells.1 s o (k s o h)), a.tells.2, (λ n w s o h. a.tells.3 n w s o (k s o h)), (λ n w s o h. a.tells.4 n w s o (k s o h))) }
 answers_from old mid new call answer.Done k of a = record { bound = a.bound; tells = (a.tells.0, λ s o r h m. a.tells.1 s o r (k s o h) m) }
 answers_from old mid new call (answer.Broken fault) k of a = record { bound = a.bound; tells = (a.tells.0, λ s o r h m. a.tells.1 s o r (k s o h) m) }
+answers_from old mid new call answer.TooManyRows k of a = record { bound = a.bound; tells = (a.tells.0, λ s o h. a.tells.1 s o (k s o h)) }
 answers_from old mid new call what k of a = absurd of
 
 -- ---- the header
@@ -133,6 +140,12 @@ header_cut d mid bytes window count fill few reads =
     let b = fill.len_is in
     omega (arith, whole, sum, short, few, a, b)
 
+-- then no row is certain
+pub awaited_within : (d mid new : T85Decoder) (bytes : List ℕ) (count : ℕ) (is_all : Bool) (what : Answer) → d.next ≡ 0 → IsFilled d mid bytes count → IsAwaited mid new is_all what → StaysWithinLimit what new
+awaited_within d mid new bytes count is_all answer.More next fill (all, same) = λ window stream out k rows least. (let two = k.next_is in absurd (omega (arith, two, ap (λ z. z.next) same, fill.next_is, next)))
+awaited_within d mid new bytes count is_all (answer.Broken fault) next fill is = tt
+awaited_within d mid new bytes count is_all what next fill none = absurd none
+
 -- what was filled is the stream so far
 module _ (laws : HeaderLaws) (d mid new : T85Decoder) (bytes window : List ℕ) (count : ℕ) (is_all : Bool) (version : d.version ≡ 1) (next : d.next ≡ 0) (few : d.header_len < 20) (fill : IsFilled d mid bytes count) (full : 20 ≤ mid.header_len) where
   stream_is : (stream out : List ℕ) → HasRead (hold_of d window) stream out → stream ++ take count bytes ≡ mid.header
@@ -163,7 +176,7 @@ module _ (laws : HeaderLaws) (d mid new : T85Decoder) (bytes window : List ℕ) 
   }
   header_judged answer.TooManyRows is = record {
     bound = omega (arith, fill.count_is);
-    tells = (is.0, λ stream out has. (subst (λ s. AnnouncesMore s new.max_rows) (sym (stream_is stream out has)) is.1, is.2 ∙ height_is stream out has));
+    tells = (is.0, λ stream out has. inl (subst (λ s. AnnouncesMore s new.max_rows) (sym (stream_is stream out has)) is.1, is.2 ∙ height_is stream out has));
   }
   header_judged (answer.Broken fault) is = record {
     bound = omega (arith, fill.count_is);
@@ -182,11 +195,18 @@ module _ (laws : HeaderLaws) (d mid new : T85Decoder) (bytes window : List ℕ) 
       let all : reads.stream ++ bytes ≡ mid.header ++ drop count bytes = all_of_stream reads in
       let same = laws.one (mid.header ++ drop count bytes) is.1.header reads.header (laws.stands mid.header (drop count bytes) is.1.header is.1.header_of) (subst (λ s. HeaderOf s reads.header) all reads.header_of) in
       let high : new.max_rows < reads.header.yd = subst (λ h. new.max_rows < h.yd) same is.1.more in
-      let low = reads.within in
+      let low = reads.within (subst (λ h. is_variable h ≡ false) same is.1.fixed) in
       absurd (omega (arith, high, low, limit))
   header_reads (answer.Broken fault) is limit reads =
       absurd (not_some fault (sym (laws.not_refused (reads.stream ++ bytes) reads.header reads.header_of) ∙ ap header_fault (all_of_stream reads) ∙ laws.refusal_stands mid.header (drop count bytes) (omega (arith, fill.long)) ∙ is.1))
   header_reads what is limit reads = absurd is
+
+  -- no row is certain
+  pub judged_within : (what : Answer) → IsJudged mid new what → StaysWithinLimit what new
+  judged_within answer.Header is = tt
+  judged_within answer.TooManyRows is = tt
+  judged_within (answer.Broken fault) is = tt
+  judged_within what is = absurd is
 
 -- ---- the rows
 
@@ -195,29 +215,35 @@ pub window_rows : (window : Window) (place width : ℕ) (memory : List ℕ) → 
 window_rows window place width memory at wide is =
     ap (λ p. rows_at p window.width window.rows.now) at ∙ ap (λ n. rows_at place n window.rows.now) wide ∙ ap (λ m. rows_at place width m) (sym is)
 
+none_times : (w : ℕ) → 0 * w ≡ 0
+none_times w = grind arith
+
 -- they begin behind the header
 pub rows_entered : (old new : T85Decoder) (memory memory' : List ℕ) (header : Header) (e : PieceDecoder) (window : Window) (learned : List Estimate) (stream out : List ℕ) → old.next ≡ 1 → HeaderOf old.header (fields_of header) → length memory' ≡ window_bytes header.xd →
-    e.header ≡ header → HasDecoded (decoder_over e window learned) [] [] → new.version ≡ 1 → new.next ≡ 2 → new.header ≡ old.header → new.place < 3 → current_place window ≡ new.place → width_of window ≡ header.xd → memory' ≡ window.rows.now → new.learned ≡ learned → numbers_of_decoder new ≡ piece_numbers e → bytes_held_by new ≡ [] →
-    HasRead (hold_of old memory) stream out → InRows (hold_of new memory') stream out
-rows_entered old new memory memory' header e window learned stream out next header_of long header_is has version next' head small at wide is learned_is numbers held_is read =
+    e.header ≡ header → HasDecoded (decoder_over e window learned) [] [] → new.version ≡ 1 → new.next ≡ 2 → new.header ≡ old.header → new.place < 3 → current_place window ≡ new.place → width_of window ≡ header.xd → memory' ≡ window.rows.now → new.learned ≡ learned → numbers_of_decoder new ≡ piece_numbers e → bytes_held_by new ≡ [] → new.given ≡ 0 →
+    HasRead (hold_of old memory) stream out → CountsRows (hold_of new memory') stream out
+rows_entered old new memory memory' header e window learned stream out next header_of long header_is has version next' head small at wide is learned_is numbers held_is none read =
     let was = behind_header (hold_of old memory) stream out next read in
     record {
-      version_is = version;
-      next_is = next';
-      place_to = small;
-      decoder = e;
-      header_of = subst (λ h. HeaderOf h (fields_of e.header)) (sym head) (subst (λ h. HeaderOf old.header (fields_of h)) (sym header_is) header_of);
-      numbers_are = numbers;
-      text = [];
-      stream_is = was.stream_is ∙ sym head ∙ sym (append-nil new.header);
-      has = record {
-        decoded = [];
-        text_is = sym held_is;
-        has = subst (λ o. HasDecoded (decoder_view e (rows_at new.place e.header.xd (take (window_bytes e.header.xd) memory')) new.learned) [] o) (sym was.out_is)
-            (subst (λ h. HasDecoded (decoder_view e (rows_at new.place h.xd (take (window_bytes h.xd) memory')) new.learned) [] []) (sym header_is)
-            (subst (λ m. HasDecoded (decoder_view e (rows_at new.place header.xd m) new.learned) [] []) (sym (take_all (window_bytes header.xd) memory' (omega (arith, long))))
-            (subst (λ l. HasDecoded (decoder_view e (rows_at new.place header.xd memory') l) [] []) (sym learned_is)
-            (subst (λ rows. HasDecoded (decoder_view e rows learned) [] []) (window_rows window new.place header.xd memory' at wide is) has))));
+      count_is = ap length was.out_is ∙ sym (ap (λ n. n * div_ceil e.header.xd 8) none ∙ none_times (div_ceil e.header.xd 8));
+      rows = record {
+        version_is = version;
+        next_is = next';
+        place_to = small;
+        decoder = e;
+        header_of = subst (λ h. HeaderOf h (fields_of e.header)) (sym head) (subst (λ h. HeaderOf old.header (fields_of h)) (sym header_is) header_of);
+        numbers_are = numbers;
+        text = [];
+        stream_is = was.stream_is ∙ sym head ∙ sym (append-nil new.header);
+        has = record {
+          decoded = [];
+          text_is = sym held_is;
+          has = subst (λ o. HasDecoded (decoder_view e (rows_at new.place e.header.xd (take (window_bytes e.header.xd) memory')) new.learned) [] o) (sym was.out_is)
+              (subst (λ h. HasDecoded (decoder_view e (rows_at new.place h.xd (take (window_bytes h.xd) memory')) new.learned) [] []) (sym header_is)
+              (subst (λ m. HasDecoded (decoder_view e (rows_at new.place header.xd m) new.learned) [] []) (sym (take_all (window_bytes header.xd) memory' (omega (arith, long))))
+              (subst (λ l. HasDecoded (decoder_view e (rows_at new.place header.xd memory') l) [] []) (sym learned_is)
+              (subst (λ rows. HasDecoded (decoder_view e rows learned) [] []) (window_rows window new.place header.xd memory' at wide is) has))));
+        };
       };
     }
 
@@ -260,12 +286,40 @@ stands_placed long place at memory small whole is = record {
   place_is = length-take-le (place * long) memory (omega (arith, placed_fits long place memory small whole)) ∙ sym is;
 }
 
+-- a count of one more row
+one_more : (out row given given' w : ℕ) → out ≡ given * w → row ≡ w → given' ≡ given + 1 → out + row ≡ given' * w
+one_more out row given given' w all one more =
+    let next : given' ≡ suc given = omega (arith, more) in
+    let sum : suc given * w ≡ given * w + w = suc-mul given w in
+    let is : given' * w ≡ suc given * w = ap (λ n. n * w) next in
+    omega (arith, all, one, sum, is)
+
+-- the same rows in a struct with the same numbers
+rows_moved : (d d' : T85Decoder) (memory stream out : List ℕ) → d'.version ≡ d.version → d'.next ≡ d.next → d'.header ≡ d.header → d'.learned ≡ d.learned → d'.place ≡ d.place → numbers_of_decoder d' ≡ numbers_of_decoder d → bytes_held_by d' ≡ bytes_held_by d →
+    InRows (hold_of d memory) stream out → InRows (hold_of d' memory) stream out
+rows_moved d d' memory stream out version next header learned place numbers held k = record {
+  version_is = version ∙ k.version_is;
+  next_is = next ∙ k.next_is;
+  place_to = subst (λ n. n < 3) (sym place) k.place_to;
+  decoder = k.decoder;
+  header_of = subst (λ h. HeaderOf h (fields_of k.decoder.header)) (sym header) k.header_of;
+  numbers_are = numbers ∙ k.numbers_are;
+  text = k.text;
+  stream_is = k.stream_is ∙ ap (λ h. h ++ k.text) (sym header);
+  has = record {
+    decoded = k.has.decoded;
+    text_is = k.has.text_is ∙ ap (λ b. k.has.decoded ++ b) (sym held);
+    has = subst (λ n. HasDecoded (decoder_view k.decoder (rows_at n k.decoder.header.xd (take (window_bytes k.decoder.header.xd) memory)) d'.learned) k.has.decoded out) (sym place)
+        (subst (λ l. HasDecoded (decoder_view k.decoder (rows_at d.place k.decoder.header.xd (take (window_bytes k.decoder.header.xd) memory)) l) k.has.decoded out) (sym learned) k.has.has);
+  };
+}
+
 module _ (laws : HeaderLaws) (old kept new : T85Decoder) (memory memory' : List ℕ) (header : Header) (e e' : PieceDecoder) (learned' : List Estimate) (held' bytes : List ℕ) (is_all : Bool) (progress : Progress) (told : Report)
     (long : length memory ≡ window_bytes header.xd) (long' : length memory' ≡ window_bytes header.xd) (head : length old.header ≡ 20) (header_of : HeaderOf old.header (fields_of header)) (version : old.version ≡ 1) (next : old.next ≡ 2)
     (resumes : (d : PieceDecoder) (rows : Held) (learned : List Estimate) (text out : List ℕ) → HasDecoded (decoder_view d rows learned) text out → fields_of d.header ≡ fields_of header → numbers_of_decoder old ≡ piece_numbers d → HasDecoded (decoder_view e rows learned) text out)
-    (header_is : e.header ≡ header) (numbers : numbers_of_decoder kept ≡ piece_numbers e') (small : kept.place < 3) (header_kept : kept.header ≡ old.header) (version_kept : kept.version ≡ old.version) (next_kept : kept.next ≡ old.next) (learned_kept : kept.learned ≡ learned') (held_kept : bytes_held_by kept ≡ held')
+    (header_is : e.header ≡ header) (numbers : numbers_of_decoder kept ≡ piece_numbers e') (small : kept.place < 3) (header_kept : kept.header ≡ old.header) (version_kept : kept.version ≡ old.version) (next_kept : kept.next ≡ old.next) (learned_kept : kept.learned ≡ learned') (held_kept : bytes_held_by kept ≡ held') (given_kept : kept.given ≡ old.given) (certain : ℕ) (certain_is : TellsCertain kept certain)
     (call : IsFeed (decoder_view e (rows_at old.place header.xd memory) old.learned) (bytes_held_by old) held' (piece_call bytes is_all progress (decoder_view e' (rows_at kept.place header.xd memory') learned')))
-    (taken : told.taken ≡ progress.taken) where
+    (taken : told.taken ≡ progress.taken) (at : told.row ≡ kept.place * div_ceil header.xd 8) where
   fields_same : fields_of e'.header ≡ fields_of header
   fields_same = call.fed.same ∙ ap fields_of header_is
 
@@ -315,50 +369,100 @@ module _ (laws : HeaderLaws) (old kept new : T85Decoder) (memory memory' : List 
   height_of : kept.height ≡ e'.height
   height_of = ap (λ n. n.height) numbers
 
-  told_as : (what : Answer) → told.answer ≡ what → IsOfEngine what → TellsAnswer (InRows (hold_of old memory)) (hold_of old memory) (hold_of new memory') (bytes_call bytes is_all told.taken told.row) what →
-      IsOfEngine told.answer × Answers (InRows (hold_of old memory)) (hold_of old memory) (hold_of new memory') (bytes_call bytes is_all told.taken told.row) told.answer
-  told_as what is of tells = subst (λ a. IsOfEngine a × Answers (InRows (hold_of old memory)) (hold_of old memory) (hold_of new memory') (bytes_call bytes is_all told.taken told.row) a) (sym is) (of, record { bound = bound; tells = tells })
+  told_as : (what : Answer) → told.answer ≡ what → IsOfEngine what → TellsAnswer (CountsRows (hold_of old memory)) (hold_of old memory) (hold_of new memory') (bytes_call bytes is_all told.taken told.row) what →
+      IsOfEngine told.answer × Answers (CountsRows (hold_of old memory)) (hold_of old memory) (hold_of new memory') (bytes_call bytes is_all told.taken told.row) told.answer
+  told_as what is of tells = subst (λ a. IsOfEngine a × Answers (CountsRows (hold_of old memory)) (hold_of old memory) (hold_of new memory') (bytes_call bytes is_all told.taken told.row) a) (sym is) (of, record { bound = bound; tells = tells })
 
-  pub row_told : (what : Outcome) → progress.outcome ≡ what → IsToldOf what header kept new told → IsOfEngine told.answer × Answers (InRows (hold_of old memory)) (hold_of old memory) (hold_of new memory') (bytes_call bytes is_all told.taken told.row) told.answer
-  unfolding rows_of
-  row_told outcome.Row e1 (is, same, at) =
-      told_as answer.Row is tt (λ stream out k.
-      subst (λ d. GivesRowAt (hold_of d memory') (bytes_call bytes is_all told.taken told.row) (stream ++ take told.taken bytes) out) (sym same)
-      (let has = rows_of (stream ++ take told.taken bytes) out (k.text ++ take progress.taken bytes) (out ++ (rows_at kept.place header.xd memory').current) (further stream out k) (call.fed.row e1 k.text out (has_of stream out k)) in
-      let wide = placed_within (div_ceil header.xd 8) kept.place memory' small long' in
-      record {
-        row = (rows_at kept.place header.xd memory').current;
+  -- the row that the engine returns
+  row' : List ℕ
+  row' = (rows_at kept.place header.xd memory').current
+
+  wide_of : (stream out : List ℕ) (k : InRows (hold_of old memory) stream out) → k.decoder.header.xd ≡ e'.header.xd
+  wide_of stream out k = ap (λ f. f.xd) (laws.one old.header (fields_of k.decoder.header) (fields_of header) k.header_of header_of ∙ sym fields_same)
+
+  count_of : (stream out : List ℕ) → CountsRows (hold_of old memory) stream out → length out ≡ kept.given * div_ceil e'.header.xd 8
+  count_of stream out k = k.count_is ∙ ap (λ w. old.given * div_ceil w 8) (wide_of stream out k.rows) ∙ ap (λ n. n * div_ceil e'.header.xd 8) (sym given_kept)
+
+  row_long : length row' ≡ div_ceil e'.header.xd 8
+  unfolding row'
+  row_long = placed_within (div_ceil header.xd 8) kept.place memory' small long' ∙ ap (λ f. div_ceil f.xd 8) (sym fields_same)
+
+  with_row : progress.outcome ≡ outcome.Row → (stream out : List ℕ) → CountsRows (hold_of old memory) stream out → InRows (hold_of kept memory') (stream ++ take told.taken bytes) (out ++ row')
+  unfolding row'
+  with_row e1 stream out k = rows_of (stream ++ take told.taken bytes) out (k.rows.text ++ take progress.taken bytes) (out ++ row') (further stream out k.rows) (call.fed.row e1 k.rows.text out (has_of stream out k.rows))
+
+  without_row : progress.outcome ≡ outcome.More → (stream out : List ℕ) → CountsRows (hold_of old memory) stream out → InRows (hold_of kept memory') (stream ++ take told.taken bytes) out
+  without_row e1 stream out k = rows_of (stream ++ take told.taken bytes) out (k.rows.text ++ take progress.taken bytes) out (further stream out k.rows) (call.fed.more e1 k.rows.text out (has_of stream out k.rows)).0
+
+  -- more rows are certain than the limit
+  certain_of_more : (stream out : List ℕ) → kept.max_rows < certain → IsOverLimit kept new told.answer → InRows (hold_of kept memory') stream out → IsCertainOfMore new stream
+  certain_of_more stream out more over has = record {
+    hold = hold_of kept memory';
+    out = out;
+    has = has;
+    rows = certain;
+    certain = certain_is memory' stream out has;
+    more = subst (λ n. n < certain) (sym over.limit_is) more;
+    height_is = over.height_is;
+  }
+
+  pub row_told : (what : Outcome) → progress.outcome ≡ what → IsToldOf what kept new certain told.answer → IsOfEngine told.answer × Answers (CountsRows (hold_of old memory)) (hold_of old memory) (hold_of new memory') (bytes_call bytes is_all told.taken told.row) told.answer
+  unfolding rows_of rows_moved with_row without_row row'
+  row_told outcome.Row e1 (inl is) =
+      told_as answer.Row is.what_is tt (λ stream out k. record {
+        row = row';
         stands = stands_placed (div_ceil header.xd 8) kept.place told.row memory' small long' at;
-        has = has;
-        whole = wide ∙ ap (λ f. div_ceil f.xd 8) (sym fields_same);
-      }))
-  row_told outcome.More e1 (is, same) =
-      told_as answer.More is tt (
+        has = record {
+          rows = rows_moved kept new memory' (stream ++ take told.taken bytes) (out ++ row') is.counts.version is.counts.next is.counts.header is.counts.learned is.counts.place is.counts.numbers is.counts.held (with_row e1 stream out k);
+          count_is = length-append out row' ∙ one_more (length out) (length row') kept.given new.given (div_ceil e'.header.xd 8) (count_of stream out k) row_long is.counts.given;
+        };
+        whole = row_long;
+        within = subst (λ n. new.given ≤ n) (sym is.counts.limit) is.given_to;
+      })
+  row_told outcome.Row e1 (inr (over, inl more)) =
+      told_as answer.TooManyRows over.what_is tt (over.ended, λ stream out k. inr (inl (certain_of_more (stream ++ take told.taken bytes) (out ++ row') more over (with_row e1 stream out k))))
+  row_told outcome.Row e1 (inr (over, inr more)) =
+      told_as answer.TooManyRows over.what_is tt (
+        over.ended,
+        λ stream out k. inr (inr (record {
+          hold = hold_of kept memory';
+          row = row';
+          has = with_row e1 stream out k;
+          whole = row_long;
+          more = subst (λ n. new.max_rows * div_ceil e'.header.xd 8 ≤ n) (sym (count_of stream out k)) (mul-le-mul_right {m = new.max_rows} {n = kept.given} (div_ceil e'.header.xd 8) (subst (λ n. n ≤ kept.given) (sym over.limit_is) more));
+          height_is = over.height_is;
+        })),
+      )
+  row_told outcome.More e1 (inr (over, more)) =
+      told_as answer.TooManyRows over.what_is tt (over.ended, λ stream out k. inr (inl (certain_of_more (stream ++ take told.taken bytes) out more over (without_row e1 stream out k))))
+  row_told outcome.More e1 (inl is) =
+      let same : new ≡ kept = is.same in
+      told_as answer.More is.what_is tt (
         taken ∙ call.all e1,
         (λ stream out k.
             subst (λ d. HasRead (hold_of d memory') (stream ++ take told.taken bytes) out) (sym same)
-            (inr (inr (rows_of (stream ++ take told.taken bytes) out (k.text ++ take progress.taken bytes) out (further stream out k) (call.fed.more e1 k.text out (has_of stream out k)).0)))),
+            (inr (inr (record { rows = without_row e1 stream out k; count_is = count_of stream out k })))),
         (λ all. call.fed.ends all e1),
         (λ n w stream out k.
             let high : e'.height ≡ new.height = sym (ap (λ d. d.height) same ∙ height_of) in
             let quiet : (e'.is_open && e'.waits) ≡ false = sym (ap (λ z. z.is_open && z.waits) numbers) ∙ (sym (ap is_waiting same) ∙ w) in
-            subst (λ s. BreaksBehindHeader s new.height Truncated out) (sym (ap (λ s. s ++ bytes) k.stream_is ∙ append_assoc old.header k.text bytes))
+            subst (λ s. BreaksBehindHeader s new.height Truncated out) (sym (ap (λ s. s ++ bytes) k.rows.stream_is ∙ append_assoc old.header k.rows.text bytes))
             (record {
               header = fields_of header;
-              header_of = laws.stands old.header (k.text ++ bytes) (fields_of header) header_of;
-              hands = subst (λ b. HandsOut (fields_of header) b new.height Truncated out) (sym (behind (k.text ++ bytes)))
-                  (subst (λ n. HandsOut (fields_of header) (k.text ++ bytes) n Truncated out) high
-                  (subst (λ h. HandsOut (fields_of h) (k.text ++ bytes) e'.height Truncated out) header_is ((call.fed.more e1 k.text out (has_of stream out k)).1 quiet)));
+              header_of = laws.stands old.header (k.rows.text ++ bytes) (fields_of header) header_of;
+              hands = subst (λ b. HandsOut (fields_of header) b new.height Truncated out) (sym (behind (k.rows.text ++ bytes)))
+                  (subst (λ n. HandsOut (fields_of header) (k.rows.text ++ bytes) n Truncated out) high
+                  (subst (λ h. HandsOut (fields_of h) (k.rows.text ++ bytes) e'.height Truncated out) header_is ((call.fed.more e1 k.rows.text out (has_of stream out k.rows)).1 quiet)));
             })),
         (λ n w stream out k.
             let ended : stripes_ended (decoder_view e' (rows_at kept.place header.xd memory') learned') ≡ stripes_ended_by new = sym (ap stripes_ended_by same ∙ ended_same e'.walk.stage kept e'.walk.entities (ap (λ z. z.stage) numbers) (ap (λ z. z.entities) numbers)) in
             let late : (e'.is_open && e'.waits) ≡ true = sym (ap (λ z. z.is_open && z.waits) numbers) ∙ (sym (ap is_waiting same) ∙ w) in
-            subst (λ s. AwaitsBehindHeader s (stripes_ended_by new) out) (sym (ap (λ s. s ++ bytes) k.stream_is ∙ append_assoc old.header k.text bytes)) (
+            subst (λ s. AwaitsBehindHeader s (stripes_ended_by new) out) (sym (ap (λ s. s ++ bytes) k.rows.stream_is ∙ append_assoc old.header k.rows.text bytes)) (
               fields_of header,
-              laws.stands old.header (k.text ++ bytes) (fields_of header) header_of,
-              subst (λ b. AwaitsHeight (fields_of header) b (stripes_ended_by new) out) (sym (behind (k.text ++ bytes)))
-                  (subst (λ n. AwaitsHeight (fields_of header) (k.text ++ bytes) n out) ended
-                  (subst (λ h. AwaitsHeight (fields_of h) (k.text ++ bytes) (stripes_ended (decoder_view e' (rows_at kept.place header.xd memory') learned')) out) header_is ((call.fed.more e1 k.text out (has_of stream out k)).2 late))),
+              laws.stands old.header (k.rows.text ++ bytes) (fields_of header) header_of,
+              subst (λ b. AwaitsHeight (fields_of header) b (stripes_ended_by new) out) (sym (behind (k.rows.text ++ bytes)))
+                  (subst (λ n. AwaitsHeight (fields_of header) (k.rows.text ++ bytes) n out) ended
+                  (subst (λ h. AwaitsHeight (fields_of h) (k.rows.text ++ bytes) (stripes_ended (decoder_view e' (rows_at kept.place header.xd memory') learned')) out) header_is ((call.fed.more e1 k.rows.text out (has_of stream out k.rows)).2 late))),
             )),
       )
   row_told (outcome.Done height) e1 (is, ended, same) =
@@ -366,13 +470,13 @@ module _ (laws : HeaderLaws) (old kept new : T85Decoder) (memory memory' : List 
         ended,
         λ stream out rest k follows.
             let high : height ≡ new.height = sym (same ∙ height_of ∙ (call.fed.done height e1).0) in
-            subst (λ s. IsImageOf s new.height out) (sym (all_of stream out rest k))
+            subst (λ s. IsImageOf s new.height out) (sym (all_of stream out rest k.rows))
             (record {
               header = fields_of header;
-              header_of = laws.stands old.header ((k.text ++ bytes) ++ rest) (fields_of header) header_of;
-              holds = subst (λ b. HoldsImage (fields_of header) b new.height out) (sym (behind ((k.text ++ bytes) ++ rest)))
-                  (subst (λ n. HoldsImage (fields_of header) ((k.text ++ bytes) ++ rest) n out) high
-                  (subst (λ h. HoldsImage (fields_of h) ((k.text ++ bytes) ++ rest) height out) header_is ((call.fed.done height e1).1 k.text out rest (has_of stream out k) follows)));
+              header_of = laws.stands old.header ((k.rows.text ++ bytes) ++ rest) (fields_of header) header_of;
+              holds = subst (λ b. HoldsImage (fields_of header) b new.height out) (sym (behind ((k.rows.text ++ bytes) ++ rest)))
+                  (subst (λ n. HoldsImage (fields_of header) ((k.rows.text ++ bytes) ++ rest) n out) high
+                  (subst (λ h. HoldsImage (fields_of h) ((k.rows.text ++ bytes) ++ rest) height out) header_is ((call.fed.done height e1).1 k.rows.text out rest (has_of stream out k.rows) follows)));
             }),
       )
   row_told (outcome.Broken fault) e1 (is, ended, same) =
@@ -380,15 +484,69 @@ module _ (laws : HeaderLaws) (old kept new : T85Decoder) (memory memory' : List 
         ended,
         λ stream out rest k follows.
             let high : e'.height ≡ new.height = sym (same ∙ height_of) in
-            subst (λ s. IsBrokenStream s new.height fault out) (sym (all_of stream out rest k))
+            subst (λ s. IsBrokenStream s new.height fault out) (sym (all_of stream out rest k.rows))
             (inr (record {
               header = fields_of header;
-              header_of = laws.stands old.header ((k.text ++ bytes) ++ rest) (fields_of header) header_of;
-              hands = subst (λ b. HandsOut (fields_of header) b new.height fault out) (sym (behind ((k.text ++ bytes) ++ rest)))
-                  (subst (λ n. HandsOut (fields_of header) ((k.text ++ bytes) ++ rest) n fault out) high
-                  (subst (λ h. HandsOut (fields_of h) ((k.text ++ bytes) ++ rest) e'.height fault out) header_is (call.fed.broken fault e1 k.text out rest (has_of stream out k) follows)));
+              header_of = laws.stands old.header ((k.rows.text ++ bytes) ++ rest) (fields_of header) header_of;
+              hands = subst (λ b. HandsOut (fields_of header) b new.height fault out) (sym (behind ((k.rows.text ++ bytes) ++ rest)))
+                  (subst (λ n. HandsOut (fields_of header) ((k.rows.text ++ bytes) ++ rest) n fault out) high
+                  (subst (λ h. HandsOut (fields_of h) ((k.rows.text ++ bytes) ++ rest) e'.height fault out) header_is (call.fed.broken fault e1 k.rows.text out rest (has_of stream out k.rows) follows)));
             })),
       )
+
+-- ---- the certain rows, if the stream goes on
+
+-- a header without VLENGTH fixes the height
+pub fixed_certain : HeaderLaws → (d : T85Decoder) (header : Header) → HeaderOf d.header (fields_of header) → is_variable (fields_of header) ≡ false → TellsCertain d header.yd
+fixed_certain laws d header header_of fixed = λ window stream out k.
+    subst (λ h. IsLeastHeight h k.has.decoded header.yd) (laws.one d.header (fields_of header) (fields_of k.decoder.header) header_of k.header_of)
+    (least (fields_of header) k.has.decoded fixed)
+  where
+    never : (h : Fields) (body : List ℕ) (other : ℕ) → is_variable h ≡ false → GivesHeight h body other → ⊥
+    never h body other fixed gives = true≢false (sym gives.variable ∙ fixed)
+
+    exact : (h : Fields) (body : List ℕ) (height : ℕ) → is_variable h ≡ false → IsHeight h body height → h.yd ≤ height
+    exact h body height fixed (inl gives) = absurd (never h body height fixed gives)
+    exact h body height fixed (inr (same, none)) = omega (arith, same)
+
+    least : (h : Fields) (text : List ℕ) → is_variable h ≡ false → IsLeastHeight h text h.yd
+    least h text fixed = record {
+      below = λ rest height is. exact h (text ++ rest) height fixed is;
+      reached = ([], inr (refl, λ other. never h (text ++ []) other fixed));
+    }
+
+pub no_variable : (options : ℕ) → (options / 32 % 2 ≡ 1 → ⊥) → (options / 2 ^ VLENGTH % 2 == 1) ≡ false
+no_variable options clear = grind (arith, nat_tests)
+
+-- those of a decoder that was rebuilt from its numbers
+pub resumed_certain : HeaderLaws → (d : T85Decoder) (header : Header) (e : PieceDecoder) (certain : ℕ) → HeaderOf d.header (fields_of header) → e.header ≡ header →
+    ((d' : PieceDecoder) (rows : Held) (learned : List Estimate) (text out : List ℕ) → HasDecoded (decoder_view d' rows learned) text out → fields_of d'.header ≡ fields_of header → numbers_of_decoder d ≡ piece_numbers d' → HasDecoded (decoder_view e rows learned) text out) →
+    ((rows : Held) (learned : List Estimate) → AreCertain (decoder_view e rows learned) certain) → TellsCertain d certain
+resumed_certain laws d header e certain header_of header_is resumes is = λ window stream out k.
+    let same : fields_of k.decoder.header ≡ fields_of header = laws.one d.header (fields_of k.decoder.header) (fields_of header) k.header_of header_of in
+    subst (λ h. IsLeastHeight h k.has.decoded certain) (ap fields_of header_is ∙ sym same)
+    (is (rows_at d.place k.decoder.header.xd (take (window_bytes k.decoder.header.xd) window)) d.learned k.has.decoded out
+    (resumes k.decoder (rows_at d.place k.decoder.header.xd (take (window_bytes k.decoder.header.xd) window)) d.learned k.has.decoded out k.has.has same k.numbers_are))
+
+-- no greater number of rows is certain
+least_to : (h : Fields) (text : List ℕ) (rows certain limit : ℕ) → IsLeastHeight h text rows → IsLeastHeight h text certain → certain ≤ limit → rows ≤ limit
+least_to h text rows certain limit least is to = (let most : rows ≤ certain = least.below is.reached.0 certain is.reached.1 in omega (arith, most, to))
+
+asked_within : (d d' : T85Decoder) (certain : ℕ) → d' ≡ d → TellsCertain d certain → certain ≤ d.max_rows → IsWithinLimit d'
+asked_within d d' certain same is to = subst IsWithinLimit (sym same) (λ window stream out k rows least. least_to (fields_of k.decoder.header) k.has.decoded rows certain d.max_rows least (is window stream out k) to)
+
+counted_within : (d d' : T85Decoder) (certain : ℕ) → CountsOneMore d d' → TellsCertain d certain → certain ≤ d.max_rows → IsWithinLimit d'
+unfolding rows_moved
+counted_within d d' certain c is to = λ window stream out k rows least.
+    least_to (fields_of k.decoder.header) k.has.decoded rows certain d'.max_rows least (is window stream out (rows_moved d' d window stream out (sym c.version) (sym c.next) (sym c.header) (sym c.learned) (sym c.place) (sym c.numbers) (sym c.held) k)) (subst (λ n. certain ≤ n) (sym c.limit) to)
+
+pub told_within : (d d' : T85Decoder) (certain : ℕ) (outcome : Outcome) (what : Answer) → TellsCertain d certain → IsToldOf outcome d d' certain what → StaysWithinLimit what d'
+told_within d d' certain outcome.Row what is (inl counted) = subst (λ a. StaysWithinLimit a d') (sym counted.what_is) (counted_within d d' certain counted.counts is counted.certain_to)
+told_within d d' certain outcome.Row what is (inr (over, why)) = subst (λ a. StaysWithinLimit a d') (sym over.what_is) tt
+told_within d d' certain outcome.More what is (inl asked) = subst (λ a. StaysWithinLimit a d') (sym asked.what_is) (asked_within d d' certain asked.same is asked.certain_to)
+told_within d d' certain outcome.More what is (inr (over, why)) = subst (λ a. StaysWithinLimit a d') (sym over.what_is) tt
+told_within d d' certain (outcome.Done height) what is (told, ended, high) = subst (λ a. StaysWithinLimit a d') (sym told) tt
+told_within d d' certain (outcome.Broken fault) what is (told, ended, high) = subst (λ a. StaysWithinLimit a d') (sym told) tt
 
 -- ---- nothing taken
 
@@ -421,10 +579,14 @@ rows_with d memory memory' stream out k same = record {
   has = subst (λ m. HasFed (decoder_view k.decoder (rows_at d.place k.decoder.header.xd m) d.learned) (bytes_held_by d) k.text out) same k.has;
 }
 
+counted_with : (d : T85Decoder) (memory memory' stream out : List ℕ) (k : CountsRows (hold_of d memory) stream out) → take (window_bytes k.rows.decoder.header.xd) memory ≡ take (window_bytes k.rows.decoder.header.xd) memory' → CountsRows (hold_of d memory') stream out
+unfolding rows_with
+counted_with d memory memory' stream out k same = record { rows = rows_with d memory memory' stream out k.rows same; count_is = k.count_is }
+
 read_with : (d : T85Decoder) (memory memory' : List ℕ) → ((stream out : List ℕ) (k : InRows (hold_of d memory) stream out) → take (window_bytes k.decoder.header.xd) memory ≡ take (window_bytes k.decoder.header.xd) memory') → (stream out : List ℕ) → HasRead (hold_of d memory) stream out → HasRead (hold_of d memory') stream out
 read_with d memory memory' same stream out (inl h) = inl h
 read_with d memory memory' same stream out (inr (inl h)) = inr (inl h)
-read_with d memory memory' same stream out (inr (inr k)) = inr (inr (rows_with d memory memory' stream out k (same stream out k)))
+read_with d memory memory' same stream out (inr (inr k)) = inr (inr (counted_with d memory memory' stream out k (same stream out k.rows)))
 
 module _ (laws : HeaderLaws) (d d' : T85Decoder) (window memory' rest : List ℕ) (needed : ℕ) (header : Header) (header_of : HeaderOf d.header (fields_of header)) (same : d'.header ≡ d.header) (needed_is : needed ≡ window_bytes header.xd) (long' : length memory' ≡ needed) where
   wide : (hold : Hold) (stream out : List ℕ) → hold.decoder.header ≡ d.header → (k : InRows hold stream out) → window_bytes k.decoder.header.xd ≡ needed
@@ -437,7 +599,7 @@ module _ (laws : HeaderLaws) (d d' : T85Decoder) (window memory' rest : List ℕ
   same_back stream out k = sym (take-append-le (window_bytes k.decoder.header.xd) memory' rest (omega (arith, wide (hold_of d' memory') stream out same k, long')))
 
   row_back : (call : BytesCall) (stream out : List ℕ) → GivesRowAt (hold_of d' memory') call stream out → GivesRowAt (hold_of d' (memory' ++ rest)) call stream out
-  unfolding rows_with
+  unfolding rows_with counted_with
   row_back call stream out g = record {
     row = g.row;
     stands = record {
@@ -446,8 +608,9 @@ module _ (laws : HeaderLaws) (d d' : T85Decoder) (window memory' rest : List ℕ
       others_are = ap (λ m. m ++ rest) g.stands.others_are ∙ append_assoc g.stands.front (g.row ++ g.stands.back) rest ∙ ap (λ m. g.stands.front ++ m) (append_assoc g.row g.stands.back rest);
       place_is = g.stands.place_is;
     };
-    has = rows_with d' memory' (memory' ++ rest) stream (out ++ g.row) g.has (same_back stream (out ++ g.row) g.has);
+    has = counted_with d' memory' (memory' ++ rest) stream (out ++ g.row) g.has (same_back stream (out ++ g.row) g.has.rows);
     whole = g.whole;
+    within = g.within;
   }
 
   pub window_cut : (call : BytesCall) (what : Answer) → IsOfEngine what → Answers (HasRead (hold_of d (take needed window))) (hold_of d (take needed window)) (hold_of d' memory') call what → Answers (HasRead (hold_of d window)) (hold_of d window) (hold_of d' (memory' ++ rest)) call what
@@ -455,6 +618,7 @@ module _ (laws : HeaderLaws) (d d' : T85Decoder) (window memory' rest : List ℕ
   window_cut call answer.More of a = record { bound = a.bound; tells = (a.tells.0, (λ s o h. read_with d' memory' (memory' ++ rest) same_back (s ++ bytes_of_call call) o (a.tells.1 s o (lent s o h))), a.tells.2, (λ n w s o h. a.tells.3 n w s o (lent s o h)), (λ n w s o h. a.tells.4 n w s o (lent s o h))) }
   window_cut call answer.Done of a = record { bound = a.bound; tells = (a.tells.0, λ s o r h m. a.tells.1 s o r (lent s o h) m) }
   window_cut call (answer.Broken fault) of a = record { bound = a.bound; tells = (a.tells.0, λ s o r h m. a.tells.1 s o r (lent s o h) m) }
+  window_cut call answer.TooManyRows of a = record { bound = a.bound; tells = (a.tells.0, λ s o h. a.tells.1 s o (lent s o h)) }
   window_cut call what of a = absurd of
 
 -- ---- when a call answers that the window is short

@@ -1,62 +1,18 @@
--- A decoder in a C caller's struct, and the effect of its calls.
+-- The effect of the calls of a decoder in a C caller's struct.
 use Rattle.std.specs.Prelude.{ℕ, ◌+◌, ◌≡◌, ◌≢◌, ◌≤◌, ◌<◌, ◌⊎◌, ◌==◌, ◌||◌, ◌&&◌, not, if◌then◌else◌, Bool, true, false, List, [], ◌++◌, length, take, drop, Some}
 use Rattle.std.specs.Int.{div_ceil}
-use Rattle.raster_core.specs.Packed.{rows_at}
 use Rattle.t85_core.specs.declared.fault.Fault.{Fault}
-use Rattle.t85_core.specs.declared.pieces.PieceDecoder.{PieceDecoder}
-use Rattle.t85_core.specs.declared.pieces.numbers.PieceNumbers.{PieceNumbers}
 use Rattle.t85_core.specs.declared.fault.Fault.TheVariants.{Truncated}
 use Rattle.t85_core.specs.Fault.{fault_number}
-use Rattle.t85_core.specs.Header.{Fields, HeaderOf, header_fault}
-use Rattle.t85_core.specs.Lent.{decoder_view}
-use Rattle.t85_core.specs.Numbers.{piece_numbers}
+use Rattle.t85_core.specs.Header.{Fields, HeaderOf, header_fault, is_variable}
 use Rattle.t85_core.specs.Options.{fields_of}
-use Rattle.t85_core.specs.Feeds.{HasFed}
 use Rattle.t85_core.specs.Pieces.{AwaitsHeight, HandsOut, HoldsImage, IsLeastHeight, MayFollow}
 use Rattle.t85.specs.Decoded.{window_bytes}
 use Rattle.t85.specs.declared.decoder.T85Decoder.{T85Decoder}
 use Rattle.t85.specs.declared.decoder.Answer.{Answer}
 use Rattle.t85.specs.declared.decoder.Answer.TheVariants as answer
-
--- the numbers of the engine's decoder in the struct
-abbrev pub numbers_of_decoder : T85Decoder → PieceNumbers
-numbers_of_decoder d = record {
-  height = d.height;
-  is_open = not (d.is_open == 0);
-  waits = not (d.waits == 0);
-  move_behind = record { is_there = not (d.has_move_behind == 0); row = d.move_behind_row; offset = d.move_behind_offset };
-  has_comment_behind = not (d.has_comment_behind == 0);
-  comment_behind = d.comment_behind;
-  stage = d.stage;
-  entities = d.entities;
-  left = d.left;
-  is_given = not (d.is_given == 0);
-  move_here = record { is_there = not (d.has_move == 0); row = d.move_row; offset = d.move_offset };
-  comment = d.comment;
-  row = d.row;
-  place = record { is_begun = not (d.is_begun == 0); done = d.done; past_high = d.past_high; past_low = d.past_low };
-  ahead = d.ahead;
-  marker = d.marker;
-  offset = d.offset;
-  is_previous_typical = not (d.is_previous_typical == 0);
-  decoder = record { code = d.code; span = d.span; bits = d.bits; has_ended = not (d.has_ended == 0) };
-}
-
--- the bytes that were consumed and are not decoded yet
-abbrev pub bytes_held_by : T85Decoder → List ℕ
-bytes_held_by d = take d.held_len d.held
-
--- the reported height
-abbrev pub height_of_decoder : T85Decoder → ℕ
-height_of_decoder d = if not (d.version == 1) || (d.next == 0) then 0 else d.height
-
--- the state between two calls: the struct, and the bytes of the window
-pub record Hold : Type 0 where
-  pub decoder : T85Decoder
-  pub window : List ℕ
-
-abbrev pub hold_of : T85Decoder → List ℕ → Hold
-hold_of decoder window = record { decoder = decoder; window = window }
+use Rattle.t85.specs.DecoderState.{Hold, hold_of, BehindHeader, InRows, CountsRows, HasRead}
+use Rattle.t85.specs.DecoderLimit.{IsAboveLimit, StaysWithinLimit}
 
 -- a call: the bytes, whether they are the last, the number of consumed bytes, and the place of the row in the window
 pub record BytesCall : Type 0 where
@@ -70,44 +26,6 @@ bytes_call bytes is_all taken row = record { bytes = bytes; is_all = is_all; tak
 
 abbrev pub bytes_of_call : BytesCall → List ℕ
 bytes_of_call call = take call.taken call.bytes
-
--- ---- the states of a decoder that has consumed these bytes of a stream, and has returned these rows, packed
-
--- in the header
-pub record InHeader (d : T85Decoder) (stream out : List ℕ) : Type 0 where
-  pub version_is : d.version ≡ 1
-  pub next_is : d.next ≡ 0
-  pub few : d.header_len < 20
-  pub height_is : d.height ≡ 0
-  pub stream_is : stream ≡ take d.header_len d.header
-  pub out_is : out ≡ []
-
--- behind the header, which announces no more rows than the limit
-pub record BehindHeader (d : T85Decoder) (stream out : List ℕ) : Type 0 where
-  pub version_is : d.version ≡ 1
-  pub next_is : d.next ≡ 1
-  pub header : Fields
-  pub header_of : HeaderOf d.header header
-  pub within : header.yd ≤ d.max_rows
-  pub height_is : d.height ≡ header.yd
-  pub stream_is : stream ≡ d.header
-  pub out_is : out ≡ []
-
--- among the rows: the struct contains the numbers of a decoder that has decoded these bytes except the last ones
-pub record InRows (hold : Hold) (stream out : List ℕ) : Type 0 where
-  pub version_is : hold.decoder.version ≡ 1
-  pub next_is : hold.decoder.next ≡ 2
-  pub place_to : hold.decoder.place < 3
-  pub decoder : PieceDecoder
-  pub header_of : HeaderOf hold.decoder.header (fields_of decoder.header)
-  pub numbers_are : numbers_of_decoder hold.decoder ≡ piece_numbers decoder
-  pub text : List ℕ
-  pub stream_is : stream ≡ hold.decoder.header ++ text
-  pub has : HasFed (decoder_view decoder (rows_at hold.decoder.place decoder.header.xd (take (window_bytes decoder.header.xd) hold.window)) hold.decoder.learned) (bytes_held_by hold.decoder) text out
-
--- The struct and the window are as calls leave them that consumed these bytes of a stream, and returned these rows, packed.
-abbrev pub HasRead : Hold → List ℕ → List ℕ → Type 0
-HasRead hold stream out = InHeader hold.decoder stream out ⊎ BehindHeader hold.decoder stream out ⊎ InRows hold stream out
 
 -- ---- the effect of a call
 
@@ -129,12 +47,13 @@ pub record StandAt (place : ℕ) (bytes others : List ℕ) : Type 0 where
   pub others_are : others ≡ front ++ (bytes ++ back)
   pub place_is : length front ≡ place
 
--- One more row was returned. It is in the window, packed.
+-- One more row was returned, and with it no more than the limit. It is in the window, packed.
 pub record GivesRowAt (new : Hold) (call : BytesCall) (stream out : List ℕ) : Type 0 where
   pub row : List ℕ
   pub stands : StandAt call.row row new.window
-  pub has : InRows new stream (out ++ row)
-  pub whole : length row ≡ div_ceil has.decoder.header.xd 8
+  pub has : CountsRows new stream (out ++ row)
+  pub whole : length row ≡ div_ceil has.rows.decoder.header.xd 8
+  pub within : new.decoder.given ≤ new.decoder.max_rows
 
 -- a stream with a whole image, of this height and with these rows
 pub record IsImageOf (stream : List ℕ) (height : ℕ) (out : List ℕ) : Type 0 where
@@ -154,12 +73,6 @@ IsBrokenStream stream height fault out = ((header_fault stream ≡ Some fault) �
 -- It is not known whether a height follows the end marker of this many stripes, or precedes the first. These rows were returned.
 abbrev pub AwaitsBehindHeader : List ℕ → ℕ → List ℕ → Type 0
 AwaitsBehindHeader stream stripes out = (header : Fields) × HeaderOf stream header × AwaitsHeight header (drop 20 stream) stripes out
-
--- a stream's header announces more rows than the limit
-pub record AnnouncesMore (stream : List ℕ) (rows : ℕ) : Type 0 where
-  pub header : Fields
-  pub header_of : HeaderOf stream header
-  pub more : rows < header.yd
 
 -- a window is shorter than three rows of a stream
 pub record IsShort (window stream : List ℕ) : Type 0 where
@@ -198,7 +111,7 @@ TellsAnswer Has old new call answer.Done =
     HasEnded new.decoder 0 × ((stream out rest : List ℕ) → Has stream out → MayFollow call.is_all rest → IsImageOf ((stream ++ call.bytes) ++ rest) new.decoder.height out)
 TellsAnswer Has old new call (answer.Broken fault) =
     HasEnded new.decoder (fault_number fault) × ((stream out rest : List ℕ) → Has stream out → MayFollow call.is_all rest → IsBrokenStream ((stream ++ call.bytes) ++ rest) new.decoder.height fault out)
-TellsAnswer Has old new call answer.TooManyRows = HasEnded new.decoder 24 × ((stream out : List ℕ) → Has stream out → AnnouncesMore (stream ++ bytes_of_call call) new.decoder.max_rows × (new.decoder.height ≡ 0))
+TellsAnswer Has old new call answer.TooManyRows = HasEnded new.decoder 24 × ((stream out : List ℕ) → Has stream out → IsAboveLimit new.decoder (stream ++ bytes_of_call call) out)
 TellsAnswer Has old new call answer.ShortWindow = KeepsHold old new call × ((stream out : List ℕ) → Has stream out → IsShort old.window stream)
 TellsAnswer Has old new call answer.NotBegun = KeepsHold old new call × ((stream out : List ℕ) → Has stream out → ⊥)
 TellsAnswer Has old new call (answer.Ended status) = KeepsHold old new call × HasEnded old.decoder status
@@ -220,7 +133,7 @@ pub record LacksWindow (old : Hold) : Type 0 where
   pub read : HasRead old stream out
   pub short : IsShort old.window stream
 
--- The header is complete with these bytes, and announces no more rows than the limit.
+-- The header is complete with these bytes, and without VLENGTH announces no more rows than the limit.
 pub record ReadsHeader (old : Hold) (bytes : List ℕ) : Type 0 where
   pub next_is : old.decoder.next ≡ 0
   pub stream : List ℕ
@@ -228,7 +141,7 @@ pub record ReadsHeader (old : Hold) (bytes : List ℕ) : Type 0 where
   pub read : HasRead old stream out
   pub header : Fields
   pub header_of : HeaderOf (stream ++ bytes) header
-  pub within : header.yd ≤ old.decoder.max_rows
+  pub within : is_variable header ≡ false → header.yd ≤ old.decoder.max_rows
 
 -- the effect of a call, and its status
 pub record IsAnswered (old new : Hold) (call : BytesCall) (status : ℕ) : Type 0 where
@@ -243,6 +156,7 @@ pub record IsAnswered (old new : Hold) (call : BytesCall) (status : ℕ) : Type 
   pub once : what ≡ answer.Header → old.decoder.next ≡ 0
   pub header : ReadsHeader old call.bytes → what ≡ answer.Header
   pub short : LacksWindow old → what ≡ answer.ShortWindow
+  pub within : StaysWithinLimit what new.decoder
 
 -- This many rows are certain: no height that can still arrive is lower, and one is equal.
 abbrev pub TellsCertain : T85Decoder → ℕ → Type 0

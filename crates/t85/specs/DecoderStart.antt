@@ -1,6 +1,6 @@
 -- The start of a decoder in a C caller's struct.
 use Rattle.std.specs.Prelude.{ℕ, ◌≡◌, ◌≢◌, ◌⊎◌, []}
-use Rattle.t85.specs.Decoder.{InHeader}
+use Rattle.t85.specs.DecoderState.{InHeader}
 use Rattle.t85.specs.declared.decoder.T85Decoder.{T85Decoder}
 
 -- Nothing has been consumed.

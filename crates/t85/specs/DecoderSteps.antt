@@ -1,6 +1,5 @@
 -- The effects of the steps of a decoder in a C caller's struct.
-use Rattle.std.specs.Prelude.{ℕ, ◌+◌, ◌-◌, ◌≡◌, ◌*◌, ◌<◌, ◌++◌, ⊤, length, min, take, ◌⊎◌, Bool, true, false, List, [], Some}
-use Rattle.std.specs.Int.{div_ceil}
+use Rattle.std.specs.Prelude.{ℕ, ◌+◌, ◌-◌, ◌≡◌, ◌≤◌, ◌<◌, ◌++◌, ⊤, length, min, take, ◌⊎◌, Bool, true, false, List, [], Some}
 use Rattle.t85_core.specs.declared.fault.Fault.TheVariants.{ShortHeader}
 use Rattle.t85_core.specs.declared.pieces.Outcome.{Outcome}
 use Rattle.t85_core.specs.declared.pieces.Outcome.TheVariants as outcome
@@ -8,10 +7,11 @@ use Rattle.t85_core.specs.Fault.{fault_number}
 use Rattle.t85_core.specs.Header.{HeaderOf, header_fault}
 use Rattle.t85_core.specs.Options.{fields_of}
 use Rattle.t85_core.specs.declared.header.Header.{Header}
-use Rattle.t85.specs.Decoder.{AnnouncesMore, BehindHeader, HasEnded}
+use Rattle.t85.specs.Decoder.{HasEnded}
+use Rattle.t85.specs.DecoderLimit.{AnnouncesMore}
+use Rattle.t85.specs.DecoderState.{BehindHeader, bytes_held_by, numbers_of_decoder}
 use Rattle.t85.specs.declared.decoder.T85Decoder.{T85Decoder}
 use Rattle.t85.specs.declared.decoder.Answer.{Answer}
-use Rattle.t85.specs.declared.decoder.Report.{Report}
 use Rattle.t85.specs.declared.decoder.Answer.TheVariants as answer
 
 -- everything but the numbers of the engine, the place of the row, and the stored bytes
@@ -21,6 +21,19 @@ pub record KeepsRest (d d' : T85Decoder) : Type 0 where
   pub limit : d'.max_rows ≡ d.max_rows
   pub header : d'.header ≡ d.header
   pub learned : d'.learned ≡ d.learned
+  pub given : d'.given ≡ d.given
+
+-- a row more is counted, and nothing else is changed
+pub record CountsOneMore (d d' : T85Decoder) : Type 0 where
+  pub version : d'.version ≡ d.version
+  pub next : d'.next ≡ d.next
+  pub limit : d'.max_rows ≡ d.max_rows
+  pub header : d'.header ≡ d.header
+  pub learned : d'.learned ≡ d.learned
+  pub place : d'.place ≡ d.place
+  pub numbers : numbers_of_decoder d' ≡ numbers_of_decoder d
+  pub held : bytes_held_by d' ≡ bytes_held_by d
+  pub given : d'.given ≡ d.given + 1
 
 -- The result of parsing twenty bytes as a header. A header that is rejected leaves the height as it is.
 abbrev pub IsJudged : T85Decoder → T85Decoder → Answer → Type 0
@@ -59,12 +72,38 @@ IsAwaited d d' is_all answer.ShortWindow = ⊥
 IsAwaited d d' is_all answer.NotBegun = ⊥
 IsAwaited d d' is_all (answer.Ended status) = ⊥
 
--- The report for a result of the engine. After an end, the height stays.
-abbrev pub IsToldOf : Outcome → Header → T85Decoder → T85Decoder → Report → Type 0
-IsToldOf outcome.Row h d d' told = (told.answer ≡ answer.Row) × (d' ≡ d) × (told.row ≡ d.place * div_ceil h.xd 8)
-IsToldOf outcome.More h d d' told = (told.answer ≡ answer.More) × (d' ≡ d)
-IsToldOf (outcome.Done height) h d d' told = (told.answer ≡ answer.Done) × HasEnded d' 0 × (d'.height ≡ d.height)
-IsToldOf (outcome.Broken fault) h d d' told = (told.answer ≡ answer.Broken fault) × HasEnded d' (fault_number fault) × (d'.height ≡ d.height)
+-- The stream is rejected for the limit. The height stays.
+pub record IsOverLimit (d d' : T85Decoder) (what : Answer) : Type 0 where
+  pub what_is : what ≡ answer.TooManyRows
+  pub ended : HasEnded d' 24
+  pub height_is : d'.height ≡ d.height
+  pub limit_is : d'.max_rows ≡ d.max_rows
+
+-- a row is returned, where this many are certain
+pub record IsCounted (d d' : T85Decoder) (certain : ℕ) (what : Answer) : Type 0 where
+  pub what_is : what ≡ answer.Row
+  pub counts : CountsOneMore d d'
+  pub certain_to : certain ≤ d.max_rows
+  pub given_to : d'.given ≤ d.max_rows
+
+-- more bytes are needed, where this many rows are certain
+pub record IsAsked (d d' : T85Decoder) (certain : ℕ) (what : Answer) : Type 0 where
+  pub what_is : what ≡ answer.More
+  pub same : d' ≡ d
+  pub certain_to : certain ≤ d.max_rows
+
+abbrev pub IsRowTold : T85Decoder → T85Decoder → ℕ → Answer → Type 0
+IsRowTold d d' certain what = IsCounted d d' certain what ⊎ (IsOverLimit d d' what × ((d.max_rows < certain) ⊎ (d.max_rows ≤ d.given)))
+
+abbrev pub IsMoreTold : T85Decoder → T85Decoder → ℕ → Answer → Type 0
+IsMoreTold d d' certain what = IsAsked d d' certain what ⊎ (IsOverLimit d d' what × (d.max_rows < certain))
+
+-- The result for one of the engine, where this many rows are certain. After an end, the height stays.
+abbrev pub IsToldOf : Outcome → T85Decoder → T85Decoder → ℕ → Answer → Type 0
+IsToldOf outcome.Row d d' certain what = IsRowTold d d' certain what
+IsToldOf outcome.More d d' certain what = IsMoreTold d d' certain what
+IsToldOf (outcome.Done height) d d' certain what = (what ≡ answer.Done) × HasEnded d' 0 × (d'.height ≡ d.height)
+IsToldOf (outcome.Broken fault) d d' certain what = (what ≡ answer.Broken fault) × HasEnded d' (fault_number fault) × (d'.height ≡ d.height)
 
 -- this many of these bytes were added to those of the header
 pub record IsFilled (d d' : T85Decoder) (bytes : List ℕ) (count : ℕ) : Type 0 where
@@ -77,14 +116,14 @@ pub record IsFilled (d d' : T85Decoder) (bytes : List ℕ) (count : ℕ) : Type 
   pub long : length d'.header ≡ 20
   pub filled : take d'.header_len d'.header ≡ take d.header_len d.header ++ take count bytes
 
--- a result of the engine
+-- a result among the rows
 abbrev pub IsOfEngine : Answer → Type 0
 IsOfEngine answer.Row = ⊤
 IsOfEngine answer.More = ⊤
 IsOfEngine answer.Done = ⊤
 IsOfEngine (answer.Broken fault) = ⊤
 IsOfEngine answer.Header = ⊥
-IsOfEngine answer.TooManyRows = ⊥
+IsOfEngine answer.TooManyRows = ⊤
 IsOfEngine answer.ShortWindow = ⊥
 IsOfEngine answer.NotBegun = ⊥
 IsOfEngine (answer.Ended status) = ⊥

@@ -6,7 +6,9 @@ pub mod Summary
 pub mod Decoded
 pub mod DecodedRows
 pub mod Decoder
+pub mod DecoderLimit
 pub mod DecoderStart
+pub mod DecoderState
 pub mod Encoded
 pub mod Encoder
 pub mod BestOffset

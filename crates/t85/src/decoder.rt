@@ -3,13 +3,19 @@
 ghost use Rattle.std.specs.Prelude.{◌≡◌, ◌≢◌, ◌<◌, ◌*◌, ◌⊎◌, List, ℕ, length, [], false, true};
 ghost use Rattle.t85_core.specs.Lent.{decoder_over};
 ghost use Rattle.t85_core.specs.Feeds.{IsFeed, held_bytes};
+ghost use Rattle.t85_core.specs.Header.{HeaderOf};
+ghost use Rattle.t85_core.specs.Options.{fields_of};
 ghost use Rattle.t85_core.specs.Pieces.{call_of as piece_call};
 ghost use Rattle.raster_core.specs.Window.{memory_of, width_of};
 ghost use Rattle.t85.specs.Decoded.{window_bytes as window_of};
-ghost use Rattle.t85.specs.Decoder.{Answers, HasEnded, HasRead, InRows, IsAnswered, DecoderIsNotBegun, LacksWindow, ReadsHeader, TellsCertain, bytes_call, height_of_decoder, bytes_held_by, hold_of, numbers_of_decoder, status_told};
+ghost use Rattle.t85.specs.Decoder.{Answers, HasEnded, IsAnswered, DecoderIsNotBegun, LacksWindow, ReadsHeader, TellsCertain, bytes_call, status_told};
+ghost use Rattle.t85.specs.DecoderLimit.{StaysWithinLimit};
+ghost use Rattle.t85.specs.DecoderState.{CountsRows, HasRead, height_of_decoder, bytes_held_by, hold_of, numbers_of_decoder};
 ghost use Rattle.t85.specs.DecoderStart.{BeginsDecoder, IsDecoderBegun};
 ghost use Rattle.t85.specs.declared.decoder.Answer.TheVariants as answer;
-ghost use Rattle.t85.specs.DecoderSteps.{IsAwaited, IsFilled, IsJudged, IsOfEngine, IsToldOf, KeepsRest, MayEnterRows, MayTakeRows};
+ghost use Rattle.t85.specs.DecoderSteps.{IsAwaited, IsFilled, IsJudged, IsOfEngine, KeepsRest, MayEnterRows, MayTakeRows};
+
+mod limit;
 
 use crate::opened::read_header;
 use crate::status::OTHER_VERSION;
@@ -17,9 +23,7 @@ use pbm_core::row_bytes;
 use qm_core::{DecoderRegisters, Learned};
 use raster_core::{RowPlaceNumbers, Window, window_bytes};
 use t85_core::laws::headers;
-use t85_core::{
-    Fault, Header, HeldBytes, MoveNumbers, Outcome, PieceDecoder, PieceNumbers, Progress,
-};
+use t85_core::{Fault, Header, HeldBytes, MoveNumbers, PieceDecoder, PieceNumbers, Progress};
 
 /// The version of `T85Decoder`, and its size in bytes.
 const VERSION: u32 = 1;
@@ -43,9 +47,10 @@ pub struct T85Decoder {
     pub version: u32,
     /// The next event: `HEADER`, `FIRST_ROW`, `ROWS` or `ENDED`.
     pub next: u32,
-    /// The greatest number of rows that a header may announce.
+    /// The greatest number of rows.
     pub max_rows: u32,
-    pub spare: u32,
+    /// The number of rows returned.
+    pub given: u32,
     pub header: [u8; 20],
     // The fields of `PieceNumbers`. A flag is true if it is not 0.
     pub height: u32,
@@ -238,7 +243,7 @@ impl T85Decoder {
             version: VERSION,
             next: HEADER,
             max_rows,
-            spare: 0,
+            given: 0,
             header: [0; 20],
             height: 0,
             move_behind_row: 0,
@@ -370,8 +375,22 @@ impl T85Decoder {
         // The proof uses these laws about headers.
         headers();
         match read_header(&self.header) {
-            Ok(header) => PieceDecoder::resume(header, &self.numbers()).certain(),
+            Ok(header) => self.certain_of(&header),
             Err(_) => 0,
+        }
+    }
+
+    /// The same, for a decoder with this header.
+    fn certain_of(&self, header: &Header) -> u32
+        requires header { HeaderOf self.now.header (fields_of header.now) }
+        ensures { TellsCertain self.now result }
+    {
+        // The proof uses these laws about headers.
+        headers();
+        if header.options / 32 % 2 == 1 {
+            PieceDecoder::resume(*header, &self.numbers()).certain()
+        } else {
+            header.yd
         }
     }
 
@@ -419,6 +438,7 @@ impl T85Decoder {
         ensures ended { self.old.version ≡ 1 → self.old.next ≡ 3 →
             result.answer ≡ answer.Ended self.old.status }
         ensures limit { self.new.max_rows ≡ self.old.max_rows }
+        ensures within { StaysWithinLimit result.answer self.new }
         ensures once { result.answer ≡ answer.Header → self.old.next ≡ 0 }
         ensures header { ReadsHeader (hold_of self.old window.old) bytes.now →
             result.answer ≡ answer.Header }
@@ -445,6 +465,7 @@ impl T85Decoder {
             (hold_of self.old window) (hold_of self.new window)
             (bytes_call bytes.now is_all result.taken result.row) result.answer }
         ensures limit { self.new.max_rows ≡ self.old.max_rows }
+        ensures within { StaysWithinLimit result.answer self.new }
         ensures header { (window : List ℕ) → ReadsHeader (hold_of self.old window) bytes.now →
             result.answer ≡ answer.Header }
     {
@@ -494,7 +515,9 @@ impl T85Decoder {
     {
         match read_header(&self.header) {
             Ok(header) => {
-                if header.yd > self.max_rows {
+                // With VLENGTH a lower height may follow.
+                let is_variable = header.options / 32 % 2 == 1;
+                if !is_variable && header.yd > self.max_rows {
                     self.end(24);
                     return Answer::TooManyRows;
                 }
@@ -532,6 +555,7 @@ impl T85Decoder {
             (hold_of self.old window.old) (hold_of self.new window.new)
             (bytes_call bytes.now is_all result.taken result.row) result.answer }
         ensures limit { self.new.max_rows ≡ self.old.max_rows }
+        ensures within { StaysWithinLimit result.answer self.new }
         ensures no_header { result.answer ≢ answer.Header }
         ensures short { LacksWindow (hold_of self.old window.old) →
             result.answer ≡ answer.ShortWindow }
@@ -568,6 +592,7 @@ impl T85Decoder {
         ensures engine { IsOfEngine result.answer }
         ensures same_header { self.new.header ≡ self.old.header }
         ensures limit { self.new.max_rows ≡ self.old.max_rows }
+        ensures within { StaysWithinLimit result.answer self.new }
         ensures no_header { result.answer ≢ answer.Header }
     {
         if self.next != FIRST_ROW {
@@ -584,7 +609,7 @@ impl T85Decoder {
         requires next { self.old.next ≡ 1 }
         ensures may { MayTakeRows header.now self.new }
         ensures has { (stream out : List ℕ) → HasRead (hold_of self.old memory.old) stream out →
-            InRows (hold_of self.new memory.new) stream out }
+            CountsRows (hold_of self.new memory.new) stream out }
         ensures same_header { self.new.header ≡ self.old.header }
         ensures limit { self.new.max_rows ≡ self.old.max_rows }
     {
@@ -592,6 +617,7 @@ impl T85Decoder {
         let decoder = PieceDecoder::start(*header, &mut window, &mut self.learned);
         self.keep(decoder.numbers(), window.place());
         self.hold(HeldBytes::none());
+        self.given = 0;
         self.next = ROWS;
     }
 
@@ -599,12 +625,13 @@ impl T85Decoder {
     fn take_row(&mut self, header: &Header, memory: &mut [u8], bytes: &[u8], is_all: bool) -> Report
         requires long { length memory.old ≡ window_of header.now.xd }
         requires may { MayTakeRows header.now self.old }
-        ensures answers { Answers (InRows (hold_of self.old memory.old))
+        ensures answers { Answers (CountsRows (hold_of self.old memory.old))
             (hold_of self.old memory.old) (hold_of self.new memory.new)
             (bytes_call bytes.now is_all result.taken result.row) result.answer }
         ensures engine { IsOfEngine result.answer }
         ensures same_header { self.new.header ≡ self.old.header }
         ensures limit { self.new.max_rows ≡ self.old.max_rows }
+        ensures within { StaysWithinLimit result.answer self.new }
         ensures no_header { result.answer ≢ answer.Header }
     {
         // The proof uses these laws about headers.
@@ -623,34 +650,12 @@ impl T85Decoder {
         );
         self.keep(decoder.numbers(), window.place());
         self.hold(held);
-        self.report(header, progress)
-    }
-
-    /// Reports the engine's result.
-    fn report(&mut self, header: &Header, progress: Progress) -> Report
-        requires version { self.old.version ≡ 1 }
-        ensures taken { result.taken ≡ progress.taken }
-        ensures told { IsToldOf progress.outcome header.now self.old self.new result }
-        ensures same_header { self.new.header ≡ self.old.header }
-        ensures limit { self.new.max_rows ≡ self.old.max_rows }
-        ensures no_header { result.answer ≢ answer.Header }
-    {
-        let answer = match progress.outcome {
-            Outcome::Row => Answer::Row,
-            Outcome::More => Answer::More,
-            Outcome::Done(_) => {
-                self.end(0);
-                Answer::Done
-            }
-            Outcome::Broken(fault) => {
-                self.end(fault.number());
-                Answer::Broken(fault)
-            }
-        };
+        let certain = self.certain_of(header);
+        let row = usize::from(self.place) * row_bytes(header.xd);
         Report {
-            answer,
+            answer: self.tell(progress.outcome, certain),
             taken: progress.taken,
-            row: usize::from(self.place) * row_bytes(header.xd),
+            row,
         }
     }
 }

@@ -142,7 +142,78 @@ fn heights_in_pieces_are_told(rt: HostRuntime) {
     assert!(rt; in_pieces(LATE, 1, 9).1 == 2);
     assert!(rt; in_pieces(TWO_ROWS, 3, 2).1 == 2);
     assert!(rt; in_pieces(&LATE[..19], 3, 9).1 == 0);
-    assert!(rt; in_pieces(LATE, 1, 8).0.status == 24);
+    assert!(rt; in_pieces(TWO_ROWS, 3, 1).1 == 0);
+    assert!(rt; in_pieces(EARLY, 1, 1).1 == 2);
+}
+
+/// Five rows are announced in one stripe, whose code means one row or more, and one arrives.
+const ONE_OF_FIVE: &[u8] =
+    b"\0\0\x01\0\0\0\0\x01\0\0\0\x05\0\0\0\x80\0\0\0\x20\xc0\xff\x02\xff\x05\0\0\0\x01\xff\x02";
+/// The same, but the code contains the zeros that usually follow it unwritten, so it determines further rows by itself.
+const WITH_ZEROS: &[u8] =
+    b"\0\0\x01\0\0\0\0\x01\0\0\0\x05\0\0\0\x80\0\0\0\x20\xc0\0\0\0\xff\x02\xff\x05\0\0\0\x01\xff\x02";
+/// As many rows as the header can announce, in stripes of one row. Two arrive, and then the height.
+const TWO_OF_MOST: &[u8] =
+    b"\0\0\x01\0\0\0\0\x01\xff\xff\xff\xff\0\0\0\x01\0\0\0\x20\xc0\xff\x02\xc0\xff\x02\xff\x05\0\0\0\x02\xff\x02";
+/// Nine rows are announced. The height precedes the first of two stripes.
+const EARLY: &[u8] =
+    b"\0\0\x01\0\0\0\0\x01\0\0\0\x09\0\0\0\x01\0\0\0\x20\xff\x05\0\0\0\x02\xc0\xff\x02\xc0\xff\x02";
+/// The height may change, but it does not.
+const UNCHANGED: &[u8] =
+    b"\0\0\x01\0\0\0\0\x01\0\0\0\x02\0\0\0\x01\0\0\0\x20\xc0\xff\x02\xc0\xff\x02";
+
+/// Whether a stream ends with this status after this many rows of one black pixel, however it is cut.
+fn ends(stream: &[u8], max_rows: u32, status: u8, count: usize) -> bool {
+    for step in [1, 2, 3, 5, 7, 100] {
+        let (given, _) = in_pieces(stream, step, max_rows);
+        let rows = &given.rows[..given.count.min(4)];
+        if given.status != status || given.count != count || rows.iter().any(|row| *row != 0x80) {
+            return false;
+        }
+    }
+    true
+}
+
+#[test]
+fn limit_counts_late_where_the_height_may_change(rt: HostRuntime) {
+    assert!(rt; ends(TWO_OF_MOST, 0, 24, 0));
+    assert!(rt; ends(TWO_OF_MOST, 1, 24, 1));
+    assert!(rt; ends(TWO_OF_MOST, 2, 0, 2));
+    assert!(rt; ends(TWO_OF_MOST, 9, 0, 2));
+    assert!(rt; ends(ONE_OF_FIVE, 0, 24, 0));
+    assert!(rt; ends(ONE_OF_FIVE, 1, 0, 1));
+    assert!(rt; ends(EARLY, 1, 24, 0));
+    assert!(rt; ends(EARLY, 2, 0, 2));
+    assert!(rt; ends(UNCHANGED, 1, 24, 1));
+    assert!(rt; ends(UNCHANGED, 2, 0, 2));
+    assert!(rt; ends(LATE, 1, 24, 1));
+    assert!(rt; ends(TWO_STRIPES, 1, 24, 0));
+}
+
+#[test]
+fn rows_beyond_the_limit_are_not_returned(rt: HostRuntime) {
+    assert!(rt; ends(WITH_ZEROS, 1, 24, 1));
+    assert!(rt; in_pieces(WITH_ZEROS, 1, 5).0.status == 0);
+    assert!(rt; in_pieces(WITH_ZEROS, 1, 5).1 == 1);
+}
+
+#[test]
+fn cut_streams_are_above_the_limit_once_it_is_certain(rt: HostRuntime) {
+    for len in 20..EARLY.len() {
+        assert!(rt; ends(&EARLY[..len], 1, if len < 26 { 9 } else { 24 }, 0));
+    }
+    // The second stripe begins with byte 23.
+    for len in 20..TWO_OF_MOST.len() {
+        let certain = if len < 24 { 9 } else { 24 };
+        assert!(rt;
+            ends(
+                &TWO_OF_MOST[..len],
+                1,
+                certain,
+                if len < 23 { 0 } else { 1 }
+            )
+        );
+    }
 }
 
 /// The statuses of a first call with the header of `LATE`, for a decoder with this version, and of a second call with a

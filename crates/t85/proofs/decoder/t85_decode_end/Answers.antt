@@ -1,5 +1,6 @@
 use Rattle.std.proofs.Common.{◌≡◌, [], true, subst, arith}
-use Rattle.t85.specs.Decoder.{Answers, HasRead, bytes_call, hold_of}
+use Rattle.t85.specs.Decoder.{Answers, bytes_call}
+use Rattle.t85.specs.DecoderState.{HasRead, hold_of}
 use Rattle.t85.proofs.decoder.t85_decode_end.Goals as goal
 
 pub returns : goal.returns
@@ -15,4 +16,5 @@ returns c =
       once = c.go_on-told.ensures.once;
       header = c.go_on-told.ensures.header;
       short = c.go_on-told.ensures.short;
+      within = c.go_on-told.ensures.within;
     }

@@ -1,5 +1,5 @@
-use Rattle.std.proofs.Common.{rules}
-use Rattle.t85.proofs.DecoderCalls.{header_cut, header_judged, header_reads, header_waits}
+use Rattle.std.proofs.Common.{[], rules}
+use Rattle.t85.proofs.DecoderCalls.{awaited_within, header_cut, header_judged, header_reads, header_waits, judged_within}
 use Rattle.t85.proofs.decoder.T85Decoder.take_header.Goals as goal
 
 pub returns-then-from-lt-HEADER_LEN-clause-answers : goal.returns-then-from-lt-HEADER_LEN-clause-answers
@@ -16,3 +16,11 @@ returns-then-from-lt-HEADER_LEN-clause-header c = λ window reads. absurd (heade
 pub returns-else-from-lt-HEADER_LEN-clause-header : goal.returns-else-from-lt-HEADER_LEN-clause-header
 returns-else-from-lt-HEADER_LEN-clause-header c = λ window reads.
     header_reads c.headers.ensures c.args.self.now c.fill_header-taken.new.self c.judge_header-answer.new.self c.args.bytes.now window c.fill_header-taken.result c.args.is_all c.requires.version c.requires.next (search rules) c.fill_header-taken.ensures.filled (search rules) c.judge_header-answer.result c.judge_header-answer.ensures.judged (search rules) reads
+
+pub returns-then-from-lt-HEADER_LEN-clause-within : goal.returns-then-from-lt-HEADER_LEN-clause-within
+returns-then-from-lt-HEADER_LEN-clause-within c =
+    awaited_within c.args.self.now c.fill_header-taken.new.self c.wait_for_header-answer.new.self c.args.bytes.now c.fill_header-taken.result c.args.is_all c.wait_for_header-answer.result c.requires.next c.fill_header-taken.ensures.filled c.wait_for_header-answer.ensures.awaited
+
+pub returns-else-from-lt-HEADER_LEN-clause-within : goal.returns-else-from-lt-HEADER_LEN-clause-within
+returns-else-from-lt-HEADER_LEN-clause-within c =
+    judged_within c.headers.ensures c.args.self.now c.fill_header-taken.new.self c.judge_header-answer.new.self c.args.bytes.now [] c.fill_header-taken.result c.args.is_all c.requires.version c.requires.next (search rules) c.fill_header-taken.ensures.filled (search rules) c.judge_header-answer.result c.judge_header-answer.ensures.judged

@@ -1,5 +1,5 @@
 use Rattle.std.proofs.Common.{rules}
-use Rattle.t85.specs.Decoder.{hold_of}
+use Rattle.t85.specs.DecoderState.{hold_of}
 use Rattle.t85.proofs.DecoderCalls.{long_enough, none_refused, not_begun, short_of, short_window, window_cut}
 use Rattle.t85.proofs.decoder.T85Decoder.take_rows.Goals as goal
 

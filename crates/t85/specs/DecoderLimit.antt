@@ -1,0 +1,56 @@
+-- The limit of rows of a decoder in a C caller's struct.
+use Rattle.std.specs.Prelude.{ℕ, ◌*◌, ◌≡◌, ◌≤◌, ◌<◌, ⊤, ◌⊎◌, false, List, ◌++◌, length}
+use Rattle.std.specs.Int.{div_ceil}
+use Rattle.t85_core.specs.Header.{Fields, HeaderOf, is_variable}
+use Rattle.t85_core.specs.Options.{fields_of}
+use Rattle.t85_core.specs.Pieces.{IsLeastHeight}
+use Rattle.t85.specs.declared.decoder.T85Decoder.{T85Decoder}
+use Rattle.t85.specs.declared.decoder.Answer.{Answer}
+use Rattle.t85.specs.declared.decoder.Answer.TheVariants as answer
+use Rattle.t85.specs.DecoderState.{Hold, hold_of, InRows}
+
+-- a stream's header, without VLENGTH, announces more rows than the limit
+pub record AnnouncesMore (stream : List ℕ) (rows : ℕ) : Type 0 where
+  pub header : Fields
+  pub header_of : HeaderOf stream header
+  pub fixed : is_variable header ≡ false
+  pub more : rows < header.yd
+
+-- A decoder that has consumed these bytes, and has ended since then, is certain of more rows than the limit.
+pub record IsCertainOfMore (d : T85Decoder) (stream : List ℕ) : Type 0 where
+  pub hold : Hold
+  pub out : List ℕ
+  pub has : InRows hold stream out
+  pub rows : ℕ
+  pub certain : IsLeastHeight (fields_of has.decoder.header) has.has.decoded rows
+  pub more : d.max_rows < rows
+  pub height_is : d.height ≡ hold.decoder.height
+
+-- The decoder had returned at least as many rows as the limit, and these bytes determine one more.
+pub record HasRowAbove (d : T85Decoder) (stream out : List ℕ) : Type 0 where
+  pub hold : Hold
+  pub row : List ℕ
+  pub has : InRows hold stream (out ++ row)
+  pub whole : length row ≡ div_ceil has.decoder.header.xd 8
+  pub more : d.max_rows * div_ceil has.decoder.header.xd 8 ≤ length out
+  pub height_is : d.height ≡ hold.decoder.height
+
+-- Why a decoder that has consumed these bytes, and has returned these rows, rejects the stream for its limit.
+abbrev pub IsAboveLimit : T85Decoder → List ℕ → List ℕ → Type 0
+IsAboveLimit d stream out = (AnnouncesMore stream d.max_rows × (d.height ≡ 0)) ⊎ IsCertainOfMore d stream ⊎ HasRowAbove d stream out
+
+-- no more rows than the limit are certain
+abbrev pub IsWithinLimit : T85Decoder → Type 0
+IsWithinLimit d = (window stream out : List ℕ) (k : InRows (hold_of d window) stream out) (rows : ℕ) → IsLeastHeight (fields_of k.decoder.header) k.has.decoded rows → rows ≤ d.max_rows
+
+-- This holds if the stream goes on.
+abbrev pub StaysWithinLimit : Answer → T85Decoder → Type 0
+StaysWithinLimit answer.Row d = IsWithinLimit d
+StaysWithinLimit answer.More d = IsWithinLimit d
+StaysWithinLimit answer.Header d = ⊤
+StaysWithinLimit answer.Done d = ⊤
+StaysWithinLimit (answer.Broken fault) d = ⊤
+StaysWithinLimit answer.TooManyRows d = ⊤
+StaysWithinLimit answer.ShortWindow d = ⊤
+StaysWithinLimit answer.NotBegun d = ⊤
+StaysWithinLimit (answer.Ended status) d = ⊤
