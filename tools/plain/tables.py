@@ -1,0 +1,102 @@
+"""What plain Rust has in place of Rattle's forms. A form that no table lists is rejected."""
+from __future__ import annotations
+
+# The crates, lowest first, and their dependencies besides std: crates of the workspace, and of crates.io.
+CRATES = {
+    "pbm_core": ["thiserror"],
+    "qm_core": [],
+    "raster_core": ["qm_core"],
+    "t85_core": ["pbm_core", "qm_core", "raster_core", "kit", "byteorder", "memchr", "thiserror"],
+    "t85": ["pbm_core", "qm_core", "raster_core", "t85_core", "kit"],
+    "program_core": ["t85_core", "pbm_core", "kit", "clap"],
+    "jbgtopbm85": ["pbm_core", "program_core", "kit"],
+    "pbmtojbg85": ["pbm_core", "program_core", "kit"],
+    "layer_tests": ["pbm_core", "qm_core", "raster_core", "kit"],
+    "tests": ["pbm_core", "qm_core", "raster_core", "t85_core", "program_core", "kit"],
+}
+# The C library is the package libt85: a Rust caller's crate is called t85.
+PACKAGES = {"t85": "libt85"}
+ABOUT = {
+    "pbm_core": "Devices, and images in the PBM format",
+    "qm_core": "The arithmetic coder of JBIG1",
+    "raster_core": "Rows, templates and typical prediction of JBIG1",
+    "t85_core": "The stream layer of JBIG1 in the fax profile T.85",
+    "t85": "A C library for JBIG1 in the fax profile T.85",
+    "program_core": "The command lines of pbmtojbg85 and jbgtopbm85",
+    "jbgtopbm85": "Converts a JBIG1 stream of the fax profile T.85 to a PBM image",
+    "pbmtojbg85": "Converts a PBM image to a JBIG1 stream of the fax profile T.85",
+    "layer_tests": "Tests of the lowest three crates",
+    "tests": "Tests of the engine and of both programs",
+}
+DEPENDENCIES = {
+    "byteorder": 'byteorder = { version = "1", default-features = false }',
+    "memchr": 'memchr = { version = "2", default-features = false }',
+    "thiserror": 'thiserror = "1"',
+    "clap": 'clap = { path = "../kit_clap", package = "kit_clap" }',
+}
+# Crates that need only Rust's core, unless the feature `std` is on: the modules, the exports and the dependencies that need it.
+WITHOUT_STD = {"pbm_core", "qm_core", "raster_core", "t85_core", "t85"}
+STD_MODULES = {"pbm_core": ["adapters"], "t85_core": ["conversion"]}
+STD_DEPENDENCIES = {"thiserror", "kit"}
+STD_FEATURES = {
+    "pbm_core": ["dep:thiserror"],
+    "t85_core": ["pbm_core/std", "memchr/std", "dep:kit", "dep:thiserror"],
+    "t85": ["pbm_core/std", "t85_core/std"],
+}
+# Items of std that Rust has under the same name, and those of the crate `kit`, by module.
+OF_RUST = {
+    "io": {"self", "Read", "Write", "Result", "ErrorKind"},
+    "process": {"ExitCode"},
+    "ops": {"Range"},
+    "mem": {"replace", "size_of"},
+    "fmt": {"self", "Display", "Write"},
+    "cell": {"Cell"},
+}
+OF_CORE = {"ops", "mem", "fmt", "cell"}
+OF_KIT = {
+    "alloc": {"AllocError", "AllocFailed", "Global"},
+    "convert": {"AsStr"},
+    "env": {"args"},
+    "fmt": {"InlineText"},
+    "fs": {"self", "File", "FileType"},
+    "io": {"Stdin", "Stdout"},
+    "os": {"AsRawFd", "RawFd"},
+    "process": {"Abort"},
+    "str": {"FromStr"},
+    "test": {"Fail"},
+}
+# In crates that contain only tests, `Vec` and `String` are those of `kit`, and these methods take an allocator.
+OF_TESTS = {"layer_tests", "tests"}
+WITH_ALLOC = {"to_vec": "ToVec", "repeat": "Repeat"}
+# Methods that Rust's library has only since a version after 1.63, and the trait of the crate `newer` that supplies them.
+NEWER = {"div_ceil": "DivCeil", "first_chunk": "FirstChunk"}
+# Names of Rattle's prelude that Rust's does not have.
+PRELUDE = {"HostRuntime"}
+# Macros that take a handle, and those with another name in Rust.
+WITH_HANDLE = {"vec", "format", "assert", "assert_eq", "assert_ne"}
+RENAMED = {"prove": "debug_assert", "prove_eq": "debug_assert_eq", "prove_ne": "debug_assert_ne"}
+SAME_MACROS = {"matches", "unreachable", "write", "format_args", "macro_rules", "value_parser"}
+KEPT_ATTRIBUTES = {
+    "inline", "inline(always)", "inline(never)", "cold", "cfg(test)", "repr(C)", "must_use",
+}  # fmt: skip
+DERIVES = {"Clone", "Copy", "Debug", "PartialEq", "Eq", "PartialOrd", "Ord", "Default", "Error"}
+# Words that Rattle and Rust read differently, or that have no place in these crates.
+REJECTED = {
+    "clone", "size_of", "size_of_val", "async", "await", "dyn", "static_mut", "transmute", "spawn", "final", "union",
+    "expect",
+}  # fmt: skip
+# A type's size is proved by this line alone, and Rust checks it as it compiles.
+SIZE_CHECK = r"const _: \(\) = prove!\(std::mem::size_of::<\w+>\(\) == \w+\)"
+ROOT_LINES = "#![allow(unused_labels, unused_variables, dead_code, unused_imports, unused_must_use)]\n#![allow(clippy::all, unstable_name_collisions)]\n"
+# Without std, the C library needs a panic handler. The proofs show that no call of it panics.
+PANIC_LINES = """
+#[cfg(not(any(feature = "std", test)))]
+#[panic_handler]
+fn panic(_: &core::panic::PanicInfo<'_>) -> ! {
+    loop {}
+}
+
+#[cfg(not(any(feature = "std", test)))]
+#[no_mangle]
+pub extern "C" fn rust_eh_personality() {}
+"""
