@@ -1,4 +1,10 @@
 # make               builds both programs into bin/, and runs them on a real page
+# make rust          writes the crates as plain Rust for cargo, without contracts and not proved, to dist/rust and dist/rust.tar.gz
+# make rust-test     builds these, and compares the results with the proved build
+# make wasm          proves and builds the library as WebAssembly: bin/t85.wasm, with t85.mjs and t85.d.mts for JavaScript
+# make arm           proves and builds the library for ARM: bin/aarch64/libt85.a and bin/aarch64/libt85.so.1.0.0
+# make page          writes the page that shows a stream in a browser, dist/page/index.html
+# make targets-test  tests these three: ARM under qemu, WebAssembly in node, and the page in Chromium
 # make static        builds both programs again in bin/static/, statically linked with the C library, and tests them
 # make library       builds bin/libt85.a and bin/libt85.so.1.0.0
 # make test          the gate: checks the documents; runs `rt ci`, which covers every proof, every edit that must fail and
@@ -56,8 +62,8 @@ MODULE = $(patsubst bindings/python/%,%,$(wildcard bindings/python/t85/*.py bind
 BUILT = $(PROGRAMS:%=bin/%)
 LIBRARY = bin/libt85.a bin/$(SHARED) bin/$(SONAME) bin/libt85.so
 # The targets that first build the programs, and those that first build the library.
-OF_PROGRAMS = show static turns library-test interop charts libtiff fuzz-python against bench pictures
-OF_LIBRARY = library-test interop charts libtiff fuzz fuzz-python bench wheel pictures jbig85
+OF_PROGRAMS = show static turns library-test interop charts libtiff fuzz-python against bench pictures rust-test targets-test
+OF_LIBRARY = library-test interop charts libtiff fuzz fuzz-python bench wheel pictures jbig85 rust-test targets-test
 
 # quoted TEXT: TEXT as one shell word, with its spaces
 quoted = '$(subst ','\'',$(1))'
@@ -122,6 +128,31 @@ bin/libjbig85.a: bin/libt85.a $(wildcard bindings/jbig85/jbig85.*) include/t85.h
 	made=bin/jbig85.$$$$ && mkdir $$made && \
 		$(CC) -std=c99 -O2 -fPIC -Wall -Wextra -Wpedantic $(CFLAGS) -I include -c bindings/jbig85/jbig85.c -o $$made/jbig85.o && \
 		cp bin/libt85.a $$made && $(AR) rs $$made/libt85.a $$made/jbig85.o && mv -f $$made/libt85.a $@ && rm -r $$made
+
+# The same source without its contracts, with what cargo needs beside it. The archive has the same bytes each time.
+rust:
+	tools/plain_rust dist/rust
+	cp include/t85.h t85.pc.in dist/rust/libt85
+	tar --sort=name --mtime=@0 --owner=0 --group=0 --numeric-owner -C dist -cf - rust | gzip -n > dist/rust.tar.gz
+
+rust-test:
+	tests/plain_rust bin/rust bin
+
+# The proved library for other machines.
+wasm:
+	@$(locked) && tools/target wasm bin 9>&-
+	tools/page bin/t85.mjs
+	cp bindings/wasm/t85.d.mts bin
+
+arm:
+	@$(locked) && tools/target aarch64 bin/aarch64 9>&-
+
+page: wasm
+	tools/page bin/t85.wasm dist/page/index.html
+
+targets-test: arm page
+	tests/targets bin
+	tests/page.py bin dist/page/index.html
 
 # Links the proved and compiled objects statically, so that no loader runs: starting takes half the instructions.
 static:
@@ -308,5 +339,5 @@ endif
 clean:
 	rm -rf bin dist crates/*/out
 
-.PHONY: show build library static processor documents proofs test turns library-test wheel pictures manuals debian jbig85 \
+.PHONY: show build library rust rust-test wasm arm page targets-test static processor documents proofs test turns library-test wheel pictures manuals debian jbig85 \
 	interop charts libtiff fuzz fuzz-python against bench install install-programs install-library uninstall clean
