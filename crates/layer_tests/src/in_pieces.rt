@@ -144,7 +144,7 @@ fn row_of<'a>(
             RowOutcome::Broken(fault) => return (fault.number(), rest),
         }
     }
-    (reader.end(size, form).number(), rest)
+    (reader.end().number(), rest)
 }
 
 #[test]

@@ -1,13 +1,14 @@
 -- The state of a row that is read from pieces, after one more pixel or byte.
 use Rattle.std.proofs.Common.{cond, ◌≡◌, ◌≢◌, ◌≤◌, ◌<◌, ◌+◌, ◌*◌, ◌-◌, ◌%◌, ◌^◌, ℕ, Bool, List, [], ◌∷◌, ◌++◌, length, slice_index, slice_set, get_or, take, take_all, refl, sym, ap, ◌∙◌, subst, arith, append-nil, append_assoc, length-append, get_or-set_same, get_or-set_other, below_more, length-set}
 use Rattle.std.proofs.lemmas.List.{length_push}
-use Rattle.pbm_core.specs.declared.fault.PbmFault.TheVariants.{BadDigit}
+use Rattle.pbm_core.specs.declared.fault.PbmFault.TheVariants.{BadDigit, Truncated}
+use Rattle.pbm_core.specs.declared.form.Form.{Form}
 use Rattle.pbm_core.specs.declared.form.Form.TheVariants.{Raw, Plain}
 use Rattle.pbm_core.specs.declared.row_reader.RowReader.{RowReader}
 use Rattle.pbm_core.specs.Pbm.{bytes_of_row, IsWhite, masked_row, IsMasked}
-use Rattle.pbm_core.specs.Image.{binary, packed_row, pixels_of, digit_of, EndsInPixels, IsRowOf}
+use Rattle.pbm_core.specs.Image.{binary, packed_row, pixels_of, digit_of, EndsInPixels, RowFault, IsRowOf}
 use Rattle.pbm_core.specs.Steps.{byte_at}
-use Rattle.pbm_core.specs.RowPieces.{HoldsPixels, ScansPixels}
+use Rattle.pbm_core.specs.RowPieces.{HasFilled, HoldsPixels, ScansPixels}
 use borrow.Rule.Slice.PartMut.{put_mid}
 use Rattle.std.proofs.lemmas.Grind.{common_steps}
 use Rattle.std.proofs.lemmas.List.{length-take-le}
@@ -168,3 +169,20 @@ cleared_row width given bytes row some whole same cleared small =
       cleared = (λ _. cleared);
       masked = subst (IsMasked width) (sym cleared) (masked_is width bytes some whole);
     })
+
+-- ---- the end
+
+-- the bytes that a reader represents are truncated if no more follow
+pub filled_cut : (form : Form) (reader : RowReader) (width : ℕ) (row bytes : List ℕ) → HasFilled form reader width row bytes → RowFault form width bytes Truncated
+filled_cut Raw reader width row bytes is = (is.1, refl)
+filled_cut Plain reader width row bytes is = record {
+  pixels = is.pixels;
+  digits = is.digits;
+  space = is.space;
+  following = [];
+  bytes_are = is.bytes_are ∙ ap (λ z. is.digits ++ z) (sym (append-nil is.space));
+  few = is.holds.below;
+  are_pixels = is.are_pixels;
+  is_space = is.is_space;
+  has_fault = refl;
+}

@@ -1,5 +1,5 @@
 -- A row that is read from pieces: the state after some of its bytes, and the effect of a call.
-use Rattle.std.specs.Prelude.{ℕ, ◌≡◌, ◌≢◌, ◌≤◌, ◌<◌, ◌*◌, Bool, true, false, List, [], ◌++◌, length, take, slice_index}
+use Rattle.std.specs.Prelude.{ℕ, ◌≡◌, ◌≢◌, ◌<◌, ◌*◌, Bool, true, false, List, [], ◌++◌, length, take, slice_index}
 use Rattle.std.specs.List.{AllByRecursion}
 use Rattle.pbm_core.specs.declared.fault.PbmFault.TheVariants.{Truncated}
 use Rattle.pbm_core.specs.declared.form.Form.{Form}
@@ -55,6 +55,5 @@ DecidesRow form width bytes reader row (outcome.Broken fault) = RowFault form wi
 -- A piece after the bytes before it: the reader consumes no byte behind the row or behind its error, and leaves none
 -- before either.
 pub record TakesRow (form : Form) (width : ℕ) (before piece : List ℕ) (new : RowReader) (row : List ℕ) (progress : RowProgress) : Type 0 where
-  pub within : progress.taken ≤ length piece
   pub decides : DecidesRow form width (before ++ take progress.taken piece) new row progress.outcome
   pub all_taken : progress.outcome ≡ outcome.More → progress.taken ≡ length piece

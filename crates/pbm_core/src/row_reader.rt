@@ -1,6 +1,8 @@
 //! Reads a row from pieces.
 
 ghost use Rattle.std.specs.Prelude.{◌≡◌, ◌≤◌, ◌∷◌, ◌++◌, ℕ, Bool, List, [], length};
+ghost use Rattle.pbm_core.specs.declared.fault.PbmFault.TheVariants.{Truncated};
+ghost use Rattle.pbm_core.specs.declared.form.Form.{Form};
 ghost use Rattle.pbm_core.specs.declared.form.Form.TheVariants.{Raw, Plain};
 ghost use Rattle.pbm_core.specs.Pbm.{bytes_of_row};
 ghost use Rattle.pbm_core.specs.Image.{RowFault};
@@ -54,7 +56,8 @@ impl RowReader {
     /// its pixels, packed, with the bits after the last pixel set to 0. After an error, its contents are unspecified.
     pub fn read(&mut self, size: Size, form: Form, row: &mut [u8], piece: &[u8]) -> RowProgress
         requires { length row.old ≡ bytes_of_row size.width }
-        ensures { (before : List ℕ) → HasFilled form self.old size.width row.old before →
+        ensures within { result.taken ≤ length piece.now }
+        ensures takes { (before : List ℕ) → HasFilled form self.old size.width row.old before →
             TakesRow form size.width before piece.now self.new row.new result }
     {
         match form {
@@ -64,9 +67,10 @@ impl RowReader {
     }
 
     /// The error of a row that ends here.
-    pub fn end(&self, size: Size, form: Form) -> PbmFault
-        ensures { (before row : List ℕ) → HasFilled form self.now size.width row before →
-            RowFault form size.width before result }
+    pub fn end(&self) -> PbmFault
+        ensures ends { (form : Form) → (width : ℕ) → (before : List ℕ) → (row : List ℕ) →
+            HasFilled form self.now width row before → RowFault form width before result }
+        ensures truncated { result ≡ Truncated }
     {
         PbmFault::Truncated
     }
@@ -74,7 +78,8 @@ impl RowReader {
     /// Copies the bytes of a row of the raw form.
     fn read_raw(&mut self, size: Size, row: &mut [u8], piece: &[u8]) -> RowProgress
         requires { length row.old ≡ bytes_of_row size.width }
-        ensures { (before : List ℕ) → HasFilled Raw self.old size.width row.old before →
+        ensures within { result.taken ≤ length piece.now }
+        ensures takes { (before : List ℕ) → HasFilled Raw self.old size.width row.old before →
             TakesRow Raw size.width before piece.now self.new row.new result }
     {
         let at = row.len().min(self.filled as usize);
@@ -98,7 +103,8 @@ impl RowReader {
     /// Reads digits of a row of the plain form.
     fn read_plain(&mut self, size: Size, row: &mut [u8], piece: &[u8]) -> RowProgress
         requires { length row.old ≡ bytes_of_row size.width }
-        ensures { (before : List ℕ) → HasFilled Plain self.old size.width row.old before →
+        ensures within { result.taken ≤ length piece.now }
+        ensures takes { (before : List ℕ) → HasFilled Plain self.old size.width row.old before →
             TakesRow Plain size.width before piece.now self.new row.new result }
     {
         let mut taken = 0;

@@ -31,13 +31,12 @@ bytes-preserved c =
           (white_more (get_or c.args.piece.now c.bytes.taken 0) (v.scans before is) white));
     }
 
-pub returns-else-not-put : goal.returns-else-not-put
-returns-else-not-put c before is =
+pub returns-else-not-put-clause-takes : goal.returns-else-not-put-clause-takes
+returns-else-not-put-clause-takes c before is =
     let v = c.bytes.invariant in
     let s = v.scans before is in
     let last = c.if-not-put.ensures s.pixels s.holds in
     record {
-      within = omega (arith, c.bytes-test.true);
       decides = (
         subst (λ z. IsRowOf Plain c.args.size.width z c.put.new.row) (sym (taken_more before c.args.piece.now c.bytes.taken c.bytes-test.true))
             (digit_last (get_or c.args.piece.now c.bytes.taken 0) c.in-Some.black s c.in-Some.ensures.some c.args.size.some_width last.0 last.1),
@@ -46,12 +45,11 @@ returns-else-not-put c before is =
       all_taken = (λ h. cc);
     }
 
-pub returns-else-is_white : goal.returns-else-is_white
-returns-else-is_white c before is =
+pub returns-else-is_white-clause-takes : goal.returns-else-is_white-clause-takes
+returns-else-is_white-clause-takes c before is =
     let v = c.bytes.invariant in
     let other : ¬ IsWhite (get_or c.args.piece.now c.bytes.taken 0) = search rules in
     record {
-      within = omega (arith, c.bytes-test.true);
       decides = (
         subst (λ z. EndsInPixels c.args.size.width z BadDigit) (sym (taken_more before c.args.piece.now c.bytes.taken c.bytes-test.true))
             (no_digit (get_or c.args.piece.now c.bytes.taken 0) (v.scans before is) other (c.in-None.ensures.none refl)),

@@ -3,8 +3,8 @@ use Rattle.std.proofs.lemmas.List.{length-take-le}
 use Rattle.pbm_core.proofs.RowSteps.{length_mid, filled_row, cleared_row}
 use Rattle.pbm_core.proofs.row_reader.RowReader.read_raw.Goals as goal
 
-pub returns : goal.returns
-returns c before is =
+pub returns-clause-takes : goal.returns-clause-takes
+returns-clause-takes c before is =
     let at : ℕ = c.min-at.result in
     let n : ℕ = c.min-taken.result in
     let from = is.1 in
@@ -16,7 +16,6 @@ returns c before is =
     let same = length_mid at n c.args.row.now c.copy_from_slice.new.self fits long in
     let whole : at + n ≡ length c.args.row.now = omega (arith, same, fits, c.if-at-taken.false) in
     record {
-      within = within;
       decides = (
         cleared_row c.args.size.width (before ++ take n c.args.piece.now) _ c.clear_padding.new.row c.args.size.some_width (same ∙ c.requires)
             (filled_row before c.args.piece.now c.args.row.now c.copy_from_slice.new.self at n begun is.2 whole ys within) c.clear_padding.ensures
