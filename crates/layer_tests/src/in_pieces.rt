@@ -1,7 +1,10 @@
-//! Headers that are read from pieces, however these are cut.
+//! Headers and rows that are read from pieces, however these are cut.
 
-use crate::pbm::{HEADERS, SHOWN};
-use pbm_core::{Form, HeaderOutcome, HeaderReader};
+ghost use Rattle.std.specs.Prelude.{◌≡◌, length};
+ghost use Rattle.pbm_core.specs.Pbm.{bytes_of_row};
+
+use crate::pbm::{HEADERS, IMAGES, SHOWN};
+use pbm_core::{Form, HeaderOutcome, HeaderReader, RowOutcome, RowReader, Size, row_bytes};
 
 /// The result of a header in pieces of this length: the error's number or 0, the width, the height, and the number of
 /// bytes left. The plain form is reported as 255.
@@ -75,6 +78,81 @@ fn prefixes_of_headers(rt: HostRuntime) {
         for length in 0..shows.min(text.len()) {
             let found = in_two(&text[..length], length / 2);
             assert!(rt; found == (length, 100), "{length} bytes of {text:?}");
+        }
+    }
+}
+
+/// The error's number or 0, and the rows of an image in pieces of this length; dots mark bytes that were not read. More
+/// than two rows, or rows of more than two bytes, give 255.
+fn rows(text: &[u8], length: usize) -> (u8, [[u8; 2]; 2]) {
+    let rows = [*b".."; 2];
+    let mut reader = HeaderReader::start();
+    let progress = reader.read(text);
+    match progress.outcome {
+        HeaderOutcome::Header(size, form) => match text.get(progress.taken..) {
+            Some(raster) => raster_of(raster, length, size, form),
+            None => (255, rows),
+        },
+        HeaderOutcome::More => (reader.end().number(), rows),
+        HeaderOutcome::Broken(fault) => (fault.number(), rows),
+    }
+}
+
+/// The rows of the bytes after a header.
+fn raster_of(raster: &[u8], length: usize, size: Size, form: Form) -> (u8, [[u8; 2]; 2]) {
+    let mut rows = [*b".."; 2];
+    let bytes = row_bytes(size.width);
+    if size.height > 2 || bytes > 2 {
+        return (255, rows);
+    }
+    let mut rest = raster;
+    for y in 0..size.height {
+        let mut row = *b"..";
+        let (number, after) = row_of(rest, length, size, form, &mut row[..bytes]);
+        if number != 0 {
+            return (number, rows);
+        }
+        rest = after;
+        rows[y as usize] = row;
+    }
+    (0, rows)
+}
+
+/// Reads a row in pieces of this length. Returns the error's number or 0, and the bytes behind the row.
+fn row_of<'a>(
+    text: &'a [u8],
+    length: usize,
+    size: Size,
+    form: Form,
+    row: &mut [u8],
+) -> (u8, &'a [u8])
+    requires { length row.old ≡ bytes_of_row size.width }
+{
+    let mut reader = RowReader::start();
+    let mut rest = text;
+    while !rest.is_empty() {
+        let piece = &rest[..length.clamp(1, rest.len())];
+        let progress = reader.read(size, form, row, piece);
+        if progress.taken > rest.len() {
+            return (255, rest);
+        }
+        rest = &rest[progress.taken..];
+        match progress.outcome {
+            RowOutcome::More if progress.taken == 0 => return (255, rest),
+            RowOutcome::More => {}
+            RowOutcome::Row => return (0, rest),
+            RowOutcome::Broken(fault) => return (fault.number(), rest),
+        }
+    }
+    (reader.end().number(), rest)
+}
+
+#[test]
+fn rows_in_pieces(rt: HostRuntime) {
+    for &(text, number, wanted) in &IMAGES {
+        for &length in &[1, 2, 3, 5, 4096] {
+            let found = rows(text, length);
+            assert!(rt; found == (number, wanted), "{text:?} in pieces of {length}");
         }
     }
 }

@@ -87,6 +87,5 @@ DecidesHeader bytes reader (outcome.Broken fault) = IsBroken bytes fault
 -- A piece after the bytes before it: the reader consumes no byte behind the header or behind its error, and leaves none
 -- before either.
 pub record TakesHeader (before piece : List ℕ) (new : HeaderReader) (progress : HeaderProgress) : Type 0 where
-  pub within : progress.taken ≤ length piece
   pub decides : DecidesHeader (before ++ take progress.taken piece) new progress.outcome
   pub all_taken : progress.outcome ≡ outcome.More → progress.taken ≡ length piece

@@ -1,8 +1,8 @@
 //! Reads a header from pieces, byte by byte.
 
-ghost use Rattle.std.specs.Prelude.{◌≡◌, ◌≢◌, ◌≤◌, ◌⊎◌, ◌↔◌, ◌∷◌, ◌++◌, ℕ, List, [], codes, IfOk, IfErr, IfSome, IsNone, IsTrue};
+ghost use Rattle.std.specs.Prelude.{◌≡◌, ◌≢◌, ◌≤◌, ◌⊎◌, ◌↔◌, ◌∷◌, ◌++◌, ℕ, List, [], codes, length, IfOk, IfErr, IfSome, IsNone, IsTrue};
 ghost use Rattle.std.specs.List.{AllByRecursion, flat_map};
-ghost use Rattle.pbm_core.specs.declared.fault.PbmFault.TheVariants.{TooWide, TooTall};
+ghost use Rattle.pbm_core.specs.declared.fault.PbmFault.TheVariants.{TooWide, TooTall, Truncated};
 ghost use Rattle.pbm_core.specs.declared.form.Form.{Form};
 ghost use Rattle.pbm_core.specs.declared.header_reader.Place.TheVariants as place;
 ghost use Rattle.pbm_core.specs.Pbm.{letter_of, BeginsSpace, IsDigit, IsLineEnd, IsPbmHeader, IsSpace, IsWhite};
@@ -88,7 +88,8 @@ impl HeaderReader {
     /// Reads the next piece, up to the end of the header, or to the byte at which its error shows. Without either, it
     /// consumes the whole piece. After the header or an error, the reader is of no more use.
     pub fn read(&mut self, piece: &[u8]) -> HeaderProgress
-        ensures { (before : List ℕ) → HasScanned self.old before →
+        ensures within { result.taken ≤ length piece.now }
+        ensures takes { (before : List ℕ) → HasScanned self.old before →
             TakesHeader before piece.now self.new result }
     {
         let mut taken = 0;
@@ -113,7 +114,8 @@ impl HeaderReader {
 
     /// The error of a header that ends here.
     pub fn end(&self) -> PbmFault
-        ensures { (before : List ℕ) → HasScanned self.now before → HeaderFault before result }
+        ensures ends { (before : List ℕ) → HasScanned self.now before → HeaderFault before result }
+        ensures truncated { result ≡ Truncated }
     {
         PbmFault::Truncated
     }

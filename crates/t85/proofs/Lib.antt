@@ -12,3 +12,4 @@ pub mod RawRows
 pub mod Rowed
 pub mod Stored
 pub mod Taken
+pub mod PbmCalls

@@ -15,6 +15,7 @@ pub mod BestOffset
 pub mod Bound
 pub mod Message
 pub mod Parts
+pub mod Pbm
 -- Laws: the meaning of status 0.
 pub mod Laws
 -- Definitions that only serve the proofs.

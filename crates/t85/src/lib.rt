@@ -18,6 +18,7 @@ mod message;
 mod opened;
 mod options;
 mod parts;
+mod pbm;
 mod status;
 mod summary;
 #[cfg(test)]
@@ -43,6 +44,7 @@ pub use crate::header::{T85Header, t85_header};
 pub use crate::message::t85_message;
 pub use crate::options::T85Options;
 pub use crate::parts::{T85Part, t85_next_part};
+pub use crate::pbm::{T85Pbm, t85_pbm_end, t85_pbm_header, t85_pbm_row, t85_pbm_start};
 pub use crate::summary::{T85Summary, t85_info};
 
 /// Returns the version of the library: one byte each for the major number, the minor number and the patch.

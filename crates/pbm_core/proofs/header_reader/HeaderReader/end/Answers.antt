@@ -1,5 +1,5 @@
 use Rattle.pbm_core.proofs.HeaderSteps.{scanned_cut}
 use Rattle.pbm_core.proofs.header_reader.HeaderReader.end.Goals as goal
 
-pub returns : goal.returns
-returns c = scanned_cut c.args.self.now.place c.args.self.now
+pub returns-clause-ends : goal.returns-clause-ends
+returns-clause-ends c = scanned_cut c.args.self.now.place c.args.self.now

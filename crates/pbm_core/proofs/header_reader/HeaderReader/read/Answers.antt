@@ -4,22 +4,20 @@ use Rattle.pbm_core.proofs.Lists.{taken_more}
 use Rattle.pbm_core.proofs.HeaderSteps.{scanned_cut}
 use Rattle.pbm_core.proofs.header_reader.HeaderReader.read.Goals as goal
 
-pub returns-in-Broken : goal.returns-in-Broken
-returns-in-Broken c before is =
+pub returns-in-Broken-clause-takes : goal.returns-in-Broken-clause-takes
+returns-in-Broken-clause-takes c before is =
     let v = c.bytes.invariant in
     let broken = c.in-Broken.ensures (before ++ take c.bytes.taken c.args.piece.now) (v.scanned before is) in
     record {
-      within = omega (arith, c.bytes-test.true);
       decides = subst (λ z. IsBroken z c.in-Broken.fault) (sym (taken_more before c.args.piece.now c.bytes.taken c.bytes-test.true)) broken;
       all_taken = (λ h. cc);
     }
 
-pub returns : goal.returns
-returns c before is =
+pub returns-clause-takes : goal.returns-clause-takes
+returns-clause-takes c before is =
     let v = c.bytes.invariant in
     let scanned = v.scanned before is in
     record {
-      within = v.within;
       decides = (scanned, scanned_cut c.bytes.self.place c.bytes.self (before ++ take c.bytes.taken c.args.piece.now) scanned);
       all_taken = (λ h. omega (arith, v.within, c.bytes-test.false));
     }

@@ -1,0 +1,436 @@
+//! A PBM that is read from pieces, in a struct that a C caller owns.
+
+ghost use Rattle.std.specs.Prelude.{◌≡◌, ◌≢◌, ◌≤◌, ◌+◌, ℕ, List, Bool, length, take, [], IfSome, IsNone};
+ghost use Rattle.pbm_core.specs.Pbm.{bytes_of_row};
+ghost use Rattle.pbm_core.specs.HeaderPieces.{TakesHeader};
+ghost use Rattle.t85.specs.Pbm.{BeginsPbm, EndsPbm, InPbmHeader, InPbmRows, IsPbmStatus, PbmHasEnded, ReadsPbmHeader, ReadsPbmRow, TellsHeader, TellsPart, form_of, header_reader_of, pbm_call, pbm_hold, pbm_status, place_of, row_reader_of};
+
+use crate::status::{NOT_BEGUN, OTHER_VERSION};
+use pbm_core::{
+    Form, HeaderOutcome, HeaderReader, PbmFault, Place, RowOutcome, RowReader, Size, row_bytes,
+};
+
+/// The version of `T85Pbm`, and its size in bytes.
+const VERSION: u32 = 1;
+
+const SIZE: usize = 64;
+/// What is read next: the header, rows, or nothing more after an error.
+const HEADER: u32 = 0;
+
+const ROWS: u32 = 1;
+
+const ENDED: u32 = 2;
+
+const MOST_WIDTH: u32 = 1_048_576;
+
+/// The state of a PBM, which the caller owns. A call is safe whatever bytes it contains.
+#[repr(C)]
+#[derive(Clone, Copy)]
+pub struct T85Pbm {
+    pub version: u32,
+    /// What is read next: `HEADER`, `ROWS` or `ENDED`.
+    pub next: u32,
+    /// The size and the form, once the header is read.
+    pub width: u32,
+    pub height: u32,
+    /// Not 0 if the rows consist of digits.
+    pub is_plain: u32,
+    /// The number of rows still to come.
+    pub rows_left: u32,
+    // The fields of `RowReader`, and others of `HeaderReader`.
+    pub filled: u32,
+    pub made: u8,
+    pub place: u8,
+    /// How the PBM has ended, if it has an error.
+    pub status: u8,
+    pub spare: u8,
+    pub value: u64,
+    pub reserved: [u64; 3],
+}
+
+/// The result of a call.
+#[derive(Clone, Copy)]
+pub enum PbmAnswer {
+    /// The header is read.
+    Header,
+    Row,
+    More,
+    /// All rows were read.
+    Done,
+    Broken(PbmFault),
+    /// The caller's row is shorter than the width.
+    ShortRow,
+    /// The struct was not initialized, or has another version, or its header is not read.
+    NotBegun,
+    /// An error was returned before, with this status.
+    Ended(u8),
+}
+
+/// The result of a call, and the number of bytes consumed.
+#[derive(Clone, Copy)]
+pub struct PbmReport {
+    pub answer: PbmAnswer,
+    pub taken: usize,
+}
+
+/// Initializes the state. `size` is the size of the caller's struct. Returns 0; or 50 if the size is wrong, and then
+/// `pbm` is unchanged.
+#[unsafe(no_mangle)]
+pub extern "C" fn t85_pbm_start(pbm: &mut T85Pbm, size: usize) -> u8
+    ensures { BeginsPbm size pbm.old pbm.new result }
+{
+    if size != SIZE {
+        return OTHER_VERSION;
+    }
+    *pbm = T85Pbm::first();
+    0
+}
+
+/// Consumes bytes of a PBM, up to the end of its header, to the byte at which its error shows, or all of them.
+///
+/// Returns 60 if the header is read; 62 if all bytes were consumed; 31 to 35 for an error. Returns 53 if the struct was
+/// not initialized; then nothing is consumed or changed. After an error it returns the same status again, and after the
+/// header 60 again.
+///
+/// `taken` is the number of bytes consumed.
+#[unsafe(no_mangle)]
+pub extern "C" fn t85_pbm_header(pbm: &mut T85Pbm, bytes: &[u8], taken: &mut usize) -> u8
+    ensures { IsPbmStatus (ReadsPbmHeader pbm.old pbm.new (pbm_call bytes.now taken.new)) result }
+{
+    let told = pbm.read_header(bytes);
+    *taken = told.taken;
+    told.answer.status()
+}
+
+/// Consumes bytes after the header, up to the end of a row, to a byte that is not a digit, or all of them. `row` is the
+/// same memory in each call until its row is complete.
+///
+/// Returns 61 if the row is complete: the first bytes of `row`, as the width requires; 62 if all bytes were consumed; 0
+/// after the last row; 38 for a byte that is not a digit. Returns 55 if the row is shorter than its width, and 53 if the
+/// struct was not initialized or its header is not read; then nothing is consumed or changed. After an error it returns
+/// the same status again.
+///
+/// `taken` is the number of bytes consumed.
+#[unsafe(no_mangle)]
+pub extern "C" fn t85_pbm_row(
+    pbm: &mut T85Pbm,
+    bytes: &[u8],
+    row: &mut [u8],
+    taken: &mut usize,
+) -> u8
+    ensures { IsPbmStatus (ReadsPbmRow (pbm_hold pbm.old row.old) (pbm_hold pbm.new row.new)
+        (pbm_call bytes.now taken.new)) result }
+{
+    let told = pbm.read_row(bytes, row);
+    *taken = told.taken;
+    told.answer.status()
+}
+
+/// Returns the status of a PBM that ends here: 0 after the last row; 36 in the header or before the last row is
+/// complete; the status of an error that was returned before; 53 if the struct was not initialized.
+#[unsafe(no_mangle)]
+pub extern "C" fn t85_pbm_end(pbm: &T85Pbm) -> u8
+    ensures { EndsPbm pbm.now result }
+{
+    if pbm.version != VERSION {
+        return NOT_BEGUN;
+    }
+    if pbm.next == HEADER {
+        return 30 + pbm.header_reader().end().number();
+    }
+    if pbm.next == ROWS {
+        if pbm.rows_left == 0 {
+            return 0;
+        }
+        return 30 + pbm.row_reader().end().number();
+    }
+    if pbm.next == ENDED {
+        return pbm.status;
+    }
+    NOT_BEGUN
+}
+
+impl PbmAnswer {
+    fn status(self) -> u8
+        ensures { result ≡ pbm_status self }
+    {
+        match self {
+            PbmAnswer::Done => 0,
+            PbmAnswer::Broken(fault) => 30 + fault.number(),
+            PbmAnswer::NotBegun => 53,
+            PbmAnswer::ShortRow => 55,
+            PbmAnswer::Header => 60,
+            PbmAnswer::Row => 61,
+            PbmAnswer::More => 62,
+            PbmAnswer::Ended(status) => status,
+        }
+    }
+
+    /// This result, with nothing consumed.
+    fn alone(self) -> PbmReport
+        ensures answer { result.answer ≡ self }
+        ensures taken { result.taken ≡ 0 }
+    {
+        PbmReport {
+            answer: self,
+            taken: 0,
+        }
+    }
+}
+
+impl T85Pbm {
+    /// The state before the first byte.
+    fn first() -> T85Pbm
+        ensures { InPbmHeader result [] }
+    {
+        T85Pbm {
+            version: VERSION,
+            next: HEADER,
+            width: 0,
+            height: 0,
+            is_plain: 0,
+            rows_left: 0,
+            filled: 0,
+            made: 0,
+            place: 0,
+            status: 0,
+            spare: 0,
+            value: 0,
+            reserved: [0; 3],
+        }
+    }
+
+    /// Consumes bytes of the header.
+    fn read_header(&mut self, bytes: &[u8]) -> PbmReport
+        ensures { ReadsPbmHeader self.old self.new (pbm_call bytes.now result.taken) result.answer }
+    {
+        if self.version != VERSION {
+            return PbmAnswer::NotBegun.alone();
+        }
+        if self.next == HEADER {
+            return self.take_header(bytes);
+        }
+        if self.next == ROWS {
+            return PbmAnswer::Header.alone();
+        }
+        if self.next == ENDED {
+            return PbmAnswer::Ended(self.status).alone();
+        }
+        PbmAnswer::NotBegun.alone()
+    }
+
+    /// Consumes bytes of a header that is not complete.
+    fn take_header(&mut self, bytes: &[u8]) -> PbmReport
+        requires version { self.old.version ≡ 1 }
+        requires next { self.old.next ≡ 0 }
+        ensures within { result.taken ≤ length bytes.now }
+        ensures tells { (before : List ℕ) → InPbmHeader self.old before →
+            TellsHeader before self.new (pbm_call bytes.now result.taken) result.answer }
+    {
+        let mut reader = self.header_reader();
+        let progress = reader.read(bytes);
+        let answer = match progress.outcome {
+            HeaderOutcome::More => {
+                self.keep(reader);
+                PbmAnswer::More
+            }
+            HeaderOutcome::Header(size, form) => {
+                self.enter_rows(size, form);
+                PbmAnswer::Header
+            }
+            HeaderOutcome::Broken(fault) => {
+                self.end(30 + fault.number());
+                PbmAnswer::Broken(fault)
+            }
+        };
+        PbmReport {
+            answer,
+            taken: progress.taken,
+        }
+    }
+
+    /// Consumes bytes of a row.
+    fn read_row(&mut self, bytes: &[u8], row: &mut [u8]) -> PbmReport
+        ensures { ReadsPbmRow (pbm_hold self.old row.old) (pbm_hold self.new row.new)
+            (pbm_call bytes.now result.taken) result.answer }
+    {
+        if self.version != VERSION {
+            return PbmAnswer::NotBegun.alone();
+        }
+        if self.next == ENDED {
+            return PbmAnswer::Ended(self.status).alone();
+        }
+        if self.next != ROWS {
+            return PbmAnswer::NotBegun.alone();
+        }
+        if self.rows_left == 0 {
+            return PbmAnswer::Done.alone();
+        }
+        let Some(size) = self.size() else {
+            return PbmAnswer::NotBegun.alone();
+        };
+        let needed = row_bytes(size.width);
+        if row.len() < needed {
+            return PbmAnswer::ShortRow.alone();
+        }
+        self.take_row(size, bytes, &mut row[..needed])
+    }
+
+    /// Consumes bytes of a row that is not complete.
+    fn take_row(&mut self, size: Size, bytes: &[u8], row: &mut [u8]) -> PbmReport
+        requires width { self.old.width ≡ size.width }
+        requires whole { length row.old ≡ bytes_of_row size.width }
+        requires left { 1 ≤ self.old.rows_left }
+        ensures within { result.taken ≤ length bytes.now }
+        ensures tells { (before : List ℕ) → (rows : List (List Bool)) →
+            InPbmRows self.old row.old before rows →
+            TellsPart before rows (pbm_hold self.new row.new)
+            (pbm_call bytes.now result.taken) result.answer }
+        ensures same_width { self.new.width ≡ self.old.width }
+    {
+        let mut reader = self.row_reader();
+        let progress = reader.read(size, self.form(), row, bytes);
+        self.filled = reader.filled;
+        self.made = reader.made;
+        let answer = match progress.outcome {
+            RowOutcome::More => PbmAnswer::More,
+            RowOutcome::Row => {
+                self.rows_left -= 1;
+                PbmAnswer::Row
+            }
+            RowOutcome::Broken(fault) => {
+                self.end(30 + fault.number());
+                PbmAnswer::Broken(fault)
+            }
+        };
+        PbmReport {
+            answer,
+            taken: progress.taken,
+        }
+    }
+
+    /// The size in the struct, if an image may have it.
+    fn size(&self) -> Option<Size>
+        ensures some { IfSome result (λ size. (size.width ≡ self.now.width) × (size.height ≡ self.now.height)) }
+        ensures none { IsNone result → 1 ≤ self.now.width → self.now.width ≤ 1048576 → ¬ (1 ≤ self.now.height) }
+    {
+        let (width, height) = (self.width, self.height);
+        if width == 0 || width > MOST_WIDTH || height == 0 {
+            return None;
+        }
+        Some(Size { width, height })
+    }
+
+    fn form(&self) -> Form
+        ensures { result ≡ form_of self.now.is_plain }
+    {
+        if self.is_plain == 0 {
+            Form::Raw
+        } else {
+            Form::Plain
+        }
+    }
+
+    /// The reader of the header.
+    fn header_reader(&self) -> HeaderReader
+        ensures { result ≡ header_reader_of self.now }
+    {
+        HeaderReader {
+            place: place_of(self.place),
+            form: self.form(),
+            width: self.width,
+            value: self.value,
+        }
+    }
+
+    /// The reader of the row.
+    fn row_reader(&self) -> RowReader
+        ensures { result ≡ row_reader_of self.now }
+    {
+        RowReader {
+            filled: self.filled,
+            made: self.made,
+        }
+    }
+
+    /// Stores the reader of the header.
+    fn keep(&mut self, reader: HeaderReader)
+        ensures reader { header_reader_of self.new ≡ reader }
+        ensures version { self.new.version ≡ self.old.version }
+        ensures next { self.new.next ≡ self.old.next }
+    {
+        self.place = number_of_place(reader.place);
+        self.is_plain = number_of_form(reader.form);
+        self.width = reader.width;
+        self.value = reader.value;
+    }
+
+    /// Stores the header, before the first row.
+    fn enter_rows(&mut self, size: Size, form: Form)
+        ensures version { self.new.version ≡ self.old.version }
+        ensures next { self.new.next ≡ 1 }
+        ensures width { self.new.width ≡ size.width }
+        ensures height { self.new.height ≡ size.height }
+        ensures form { form_of self.new.is_plain ≡ form }
+        ensures left { self.new.rows_left ≡ size.height }
+        ensures filled { self.new.filled ≡ 0 }
+        ensures made { self.new.made ≡ 0 }
+    {
+        self.next = ROWS;
+        self.width = size.width;
+        self.height = size.height;
+        self.is_plain = number_of_form(form);
+        self.rows_left = size.height;
+        self.filled = 0;
+        self.made = 0;
+    }
+
+    /// Stores how the PBM has ended.
+    fn end(&mut self, status: u8)
+        ensures ended { self.old.version ≡ 1 → PbmHasEnded self.new status }
+        ensures same_width { self.new.width ≡ self.old.width }
+    {
+        self.next = ENDED;
+        self.status = status;
+    }
+}
+
+/// The place with this number.
+fn place_of(number: u8) -> Place
+    ensures { result ≡ place_of number }
+{
+    match number {
+        0 => Place::Start,
+        1 => Place::Letter,
+        2 => Place::Letters,
+        3 => Place::Gap,
+        4 => Place::Comment,
+        5 => Place::Digits,
+        _ => Place::LastComment,
+    }
+}
+
+fn number_of_place(place: Place) -> u8
+    ensures { place_of result ≡ place }
+{
+    match place {
+        Place::Start => 0,
+        Place::Letter => 1,
+        Place::Letters => 2,
+        Place::Gap => 3,
+        Place::Comment => 4,
+        Place::Digits => 5,
+        Place::LastComment => 6,
+    }
+}
+
+fn number_of_form(form: Form) -> u32
+    ensures { form_of result ≡ form }
+{
+    match form {
+        Form::Raw => 0,
+        Form::Plain => 1,
+    }
+}
+
+const _: () = prove!(std::mem::size_of::<T85Pbm>() == SIZE);
