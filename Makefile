@@ -133,6 +133,7 @@ bin/libjbig85.a: bin/libt85.a $(wildcard bindings/jbig85/jbig85.*) include/t85.h
 rust:
 	tools/plain_rust dist/rust
 	cp include/t85.h t85.pc.in dist/rust/libt85
+	tools/lock dist/rust
 	tar --sort=name --mtime=@0 --owner=0 --group=0 --numeric-owner -C dist -cf - rust | gzip -n > dist/rust.tar.gz
 
 rust-test:

@@ -32,7 +32,7 @@ class Browser:
     """A session of chromedriver."""
 
     def __init__(self, port, width):
-        self.root = f"http://127.0.0.1:{port}/session"
+        self.root = f"http://localhost:{port}/session"
         options = {"args": ["--headless=new", "--no-sandbox", "--allow-file-access-from-files", f"--window-size={width},1000"]}
         answer = self.call("POST", "", {"capabilities": {"alwaysMatch": {"browserName": "chrome", "goog:chromeOptions": options}}})
         self.root += "/" + answer["sessionId"]
@@ -74,13 +74,13 @@ class Browser:
 @contextlib.contextmanager
 def browser(width):
     with socket.socket() as free:
-        free.bind(("127.0.0.1", 0))
+        free.bind(("localhost", 0))
         port = free.getsockname()[1]
     driver = subprocess.Popen(["chromedriver", f"--port={port}"], stdout=subprocess.DEVNULL, stderr=subprocess.DEVNULL)
     try:
         for _ in range(100):
             with contextlib.suppress(OSError):
-                socket.create_connection(("127.0.0.1", port)).close()
+                socket.create_connection(("localhost", port)).close()
                 break
             time.sleep(0.1)
         found = Browser(port, width)

@@ -2,7 +2,7 @@
 import { PARTS, T85Error, load, rowBytes } from "./t85.mjs";
 
 const WASM = "/* WASM */";
-// What the page draws and lists at most: pixels, bytes of rows, the sides and the area of the canvas, and lines of a table.
+// Limits of the page: pixels of an image, bytes of rows, the sides and the area of the canvas, and lines of a table.
 const MOST_PIXELS = 2 ** 33, MOST_BYTES = 2 ** 28, MOST_SIDE = 16384, MOST_AREA = 2 ** 26, MOST_LINES = 500;
 const OPTIONS = [[0x40, "two-line template"], [0x20, "variable height"], [0x08, "typical prediction"]];
 const $ = (id) => document.getElementById(id);

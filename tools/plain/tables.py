@@ -1,4 +1,4 @@
-"""What plain Rust has in place of Rattle's forms. A form that no table lists is rejected."""
+"""The forms of Rattle that plain Rust writes differently, or also has. A form that no table lists is rejected."""
 from __future__ import annotations
 
 # The crates, lowest first, and their dependencies besides std: crates of the workspace, and of crates.io.

@@ -57,7 +57,7 @@ def _outputs(job: Job, names: Sequence[str]) -> Iterator[Tuple[str, str]]:
 def _base(place: str) -> Optional[str]:
     """Returns the name without the number behind it, if it has one."""
     found = _NUMBERED.fullmatch(place)
-    return found and found[1] + found[2]
+    return f"{found[1]}{found[2]}" if found else None
 
 
 def _count(job: Job, name: str) -> int:

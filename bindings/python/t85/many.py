@@ -14,8 +14,8 @@ is not its image or stream, is somebody else's file: it is an error for that inp
 A name is that of a local file. A name with `://` is accepted only if `stores` lists its protocol, and is then read and written
 through fsspec, if that is installed.
 
-Of a PBM with several images, each is encoded into a file of its own, NAME-1.jbg, NAME-2.jbg and so on. Of a file with several
-streams, the images are written one behind the other into one file.
+Each image of a PBM with several is encoded into a file of its own: NAME-1.jbg, NAME-2.jbg and so on. The images of several streams
+in a file are written one behind the other into one file.
 
 A job is a function of one name that can be pickled, so anything that maps functions over lists can run it: t85.dask runs it
 on the workers of Dask.

@@ -266,8 +266,9 @@ impl T85Pbm {
         if self.rows_left == 0 {
             return PbmAnswer::Done.alone();
         }
-        let Some(size) = self.size() else {
-            return PbmAnswer::NotBegun.alone();
+        let size = match self.size() {
+            Some(size) => size,
+            None => return PbmAnswer::NotBegun.alone(),
         };
         let needed = row_bytes(size.width);
         if row.len() < needed {
