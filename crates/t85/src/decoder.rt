@@ -653,7 +653,7 @@ impl T85Decoder {
         let certain = self.certain_of(header);
         let row = usize::from(self.place) * row_bytes(header.xd);
         Report {
-            answer: self.tell(progress.outcome, certain),
+            answer: self.limited_answer(progress.outcome, certain),
             taken: progress.taken,
             row,
         }

@@ -8,8 +8,8 @@ use crate::decoder::{Answer, T85Decoder};
 use t85_core::Outcome;
 
 impl T85Decoder {
-    /// The result for one of the engine, after which this many rows are certain.
-    pub(super) fn tell(&mut self, outcome: Outcome, certain: u32) -> Answer
+    /// The result for one of the engine after which this many rows are certain, unless they exceed the limit.
+    pub(super) fn limited_answer(&mut self, outcome: Outcome, certain: u32) -> Answer
         requires version { self.old.version ≡ 1 }
         ensures told { IsToldOf outcome self.old self.new certain result }
         ensures same_header { self.new.header ≡ self.old.header }
