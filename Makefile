@@ -209,6 +209,7 @@ test: documents proofs build library
 	tests/readme bin
 	tests/library bin
 	tests/python bin
+	tests/others bin
 	@tail -n 1 bin/ci.log
 
 turns:
