@@ -353,8 +353,9 @@ uint8_t t85_decode_start(t85_decoder *decoder, size_t size, uint32_t max_rows);
    24: the image has more than max_rows rows. Without T85_VARIABLE_HEIGHT in the header, the call
      that reads the header returns this. With it, a lower height may follow the header's, so 24 is
      returned in place of T85_ROW or T85_MORE once t85_decode_certain would exceed max_rows (a
-     height above the limit has arrived, or a stripe behind it has begun), or once the bytes
-     determine row max_rows + 1, even if a height might still cut it off.
+     height above the limit has arrived, or a stripe beyond it has begun), or once the bytes
+     determine row max_rows + 1, even if a height might still cut it off. An error of the stream
+     that the same call finds is returned instead.
    19: the window is too short. Nothing was consumed or changed.
    53: the decoder is not initialized. Nothing was consumed or changed.
    After 0, 1 to 15 or 24, further calls return the same status and consume nothing. */

@@ -505,8 +505,8 @@ class Decoder:
     is_done  whether the image is complete
     unused   the bytes of the last piece that follow the image
 
-    max_rows   the most rows that are returned: an image of more is rejected, with the header or, if a later height may follow, once
-               more rows are certain or one more is decoded; None, the default, means no limit
+    max_rows   the most rows that are returned: an image of more is rejected, with the header or, if a later height may follow,
+               once more rows are certain or one more is decoded; None, the default, means no limit
     max_bytes  the most bytes of rows in one list: feed and end raise an Error, after which the decoder cannot be used, if a
                call decodes more; None means no limit
     """

@@ -47,7 +47,7 @@ pub struct T85Decoder {
     pub version: u32,
     /// The next event: `HEADER`, `FIRST_ROW`, `ROWS` or `ENDED`.
     pub next: u32,
-    /// The greatest number of rows.
+    /// The greatest number of rows that are returned.
     pub max_rows: u32,
     /// The number of rows returned.
     pub given: u32,
@@ -138,9 +138,11 @@ pub extern "C" fn t85_decode_start(decoder: &mut T85Decoder, size: usize, max_ro
 /// Consumes bytes of the stream, up to the end of its header, to the end of the next row, or all of them.
 ///
 /// Returns 60 if the header was read; 61 if a row was decoded, which begins at byte `row` of the window; 62 if all
-/// bytes were consumed; 0 if the image is complete; 1 to 15 for an error in the stream; 24 if the header announces more
-/// rows than the limit. Returns 19 if the window is shorter than `t85_window_bytes` of the width, and 53 if the struct
-/// was not initialized; then nothing is consumed or changed. After the end it returns the same status again.
+/// bytes were consumed; 0 if the image is complete; 1 to 15 for an error in the stream; 24 if the image has more rows
+/// than the limit. Without VLENGTH, 24 is returned with the header. With it, 24 is returned in place of 61 or 62, once
+/// more rows than the limit are certain, or the bytes determine one more row than the limit. Returns 19 if the window is
+/// shorter than `t85_window_bytes` of the width, and 53 if the struct was not initialized; then nothing is consumed or
+/// changed. After the end it returns the same status again.
 ///
 /// `taken` is the number of bytes consumed. Before the header has been read, the window may be empty.
 #[unsafe(no_mangle)]
