@@ -117,15 +117,21 @@ enum {
     T85_NO_MORE_PARTS = 52, /* there are no more parts */
 
     /* Streams in pieces. The last three are not errors. */
-    T85_NOT_BEGUN = 53,     /* decoder or encoder is not initialized */
+    T85_NOT_BEGUN = 53,     /* decoder, encoder or PBM is not initialized */
     T85_HEADER_READ = 60,   /* the header has been read */
-    T85_ROW = 61,           /* a row has been decoded */
+    T85_ROW = 61,           /* a row has been decoded or read */
     T85_MORE = 62,          /* more input is needed */
 
     /* Images row by row. */
     T85_NO_MORE_ROWS = 54,  /* all rows were passed, or the stream was ended */
     T85_SHORT_ROW = 55,     /* row is shorter than t85_row_bytes(width) */
-    T85_IN_STRIPE = 56      /* offset chosen within a stripe */
+    T85_IN_STRIPE = 56,     /* offset chosen within a stripe */
+
+    /* PBM files in pieces; also 33, 34 and 36. */
+    T85_NOT_PBM = 31,        /* not a PBM bitmap */
+    T85_PBM_BAD_NUMBER = 32, /* bad number in the header */
+    T85_PBM_TOO_TALL = 35,   /* taller than 4294967295 */
+    T85_PBM_BAD_DIGIT = 38   /* a byte among the pixels is no digit */
 };
 
 #define T85_MOST_WIDTH 1048576
@@ -227,6 +233,20 @@ typedef struct {
 typedef struct {
     uint64_t opaque[T85_ENCODER_BYTES / 8];
 } t85_encoder;
+
+/* A PBM file that is read from pieces: its size and form, and the state of the reader. It may be
+   moved between calls. Calls are memory-safe whatever bytes it contains. If it is all zeros, the
+   calls return T85_NOT_BEGUN. */
+typedef struct {
+    uint32_t version, next;
+    uint32_t width, height; /* set when T85_HEADER_READ is returned */
+    uint32_t is_plain;      /* 0 for the raw form (P4), 1 for the plain form (P1) */
+    uint32_t rows_left;     /* number of rows still to be read */
+    /* State of the reader. Do not change these, nor the first two. */
+    uint32_t filled;
+    uint8_t made, place, status, spare;
+    uint64_t value, reserved[3];
+} t85_pbm;
 
 /* Returns the version of the library, in the format of T85_VERSION. */
 uint32_t t85_version(void);
@@ -481,6 +501,49 @@ uint32_t t85_encode_rows_left(const t85_encoder *encoder);
 T85_NO_NULL((1))
 uint64_t t85_encode_room(const t85_encoder *encoder);
 
+/* Initializes a reader for a PBM file in pieces. `size` must be sizeof(t85_pbm). Returns 0; or 50 if
+   `size` is wrong, and then `pbm` is unchanged. */
+T85_NO_NULL((1))
+uint8_t t85_pbm_start(t85_pbm *pbm, size_t size);
+
+/* Consumes bytes of the file: up to the end of its header, to the byte that shows an error, or all.
+   Sets *taken to the number of bytes consumed. The pieces may be cut anywhere; comments and blanks
+   may have any length.
+
+   Returns one of:
+   T85_HEADER_READ: the header is complete, and `pbm` has width, height and form. The bytes that were
+     not consumed belong to the rows. Further calls return the same and consume nothing.
+   T85_MORE: all bytes have been consumed, and more are needed.
+   31 to 35: no header begins with these bytes. Further calls return the same status and consume
+     nothing.
+   53: `pbm` is not initialized. Nothing was consumed or changed. */
+T85_NO_NULL((1, 4))
+uint8_t t85_pbm_header(t85_pbm *pbm, const uint8_t *bytes, size_t len, size_t *taken);
+
+/* Consumes bytes behind the header: up to the end of the next row, to a byte that is no digit, or
+   all. Sets *taken to the number of bytes consumed.
+
+   `row` has at least t85_row_bytes(width) bytes, which are the memory of the row: until it is
+   complete, it may be moved between calls, but its contents must be preserved.
+
+   Returns one of:
+   T85_ROW: the first t85_row_bytes(width) bytes of `row` are the next row, with the bits after its
+     last pixel set to 0. Call it again with the remaining bytes.
+   T85_MORE: all bytes have been consumed, and more are needed.
+   0: all rows have been read. Nothing was consumed.
+   T85_PBM_BAD_DIGIT: in the plain form, a byte is neither a digit 0 or 1 nor white space. Further
+     calls return the same status and consume nothing.
+   T85_SHORT_ROW: row_room is less than t85_row_bytes(width). Nothing was consumed or changed.
+   53: `pbm` is not initialized, or its header has not been read. Nothing was consumed or changed. */
+T85_NO_NULL((1, 6))
+uint8_t t85_pbm_row(t85_pbm *pbm, const uint8_t *bytes, size_t len, uint8_t *row, size_t row_room,
+                    size_t *taken);
+
+/* Returns the status of a file that ends here: 0 after the last row; T85_ROWS_MISSING within the
+   header, or if a row is not complete; an error that was returned before; or 53. */
+T85_NO_NULL((1))
+uint8_t t85_pbm_end(const t85_pbm *pbm);
+
 /* Writes an English description of a status, without a line feed and without a terminating zero,
    cut off at `room` bytes. Returns the length of the whole text. */
 size_t t85_message(uint8_t status, uint8_t *text, size_t room);
@@ -499,6 +562,13 @@ size_t t85_message(uint8_t status, uint8_t *text, size_t room);
     t85_stream_facts(t85_bytes_or_nothing(stream), len, facts)
 
 #define t85_next_part(stream, len, part) t85_next_part(t85_bytes_or_nothing(stream), len, part)
+
+#define t85_pbm_header(pbm, bytes, len, taken) \
+    t85_pbm_header(pbm, t85_bytes_or_nothing(bytes), len, taken)
+
+#define t85_pbm_row(pbm, bytes, len, row, row_room, taken)           \
+    t85_pbm_row(pbm, t85_bytes_or_nothing(bytes), len,               \
+                t85_room_or_nothing(row), row_room, taken)
 
 #define t85_decode_bytes(decoder, bytes, len, window, window_len, taken, row)        \
     t85_decode_bytes(decoder, t85_bytes_or_nothing(bytes), len,                      \

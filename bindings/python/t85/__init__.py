@@ -88,6 +88,7 @@ if TYPE_CHECKING:
     _Writer = Callable[[_Memory, int], int]
 
 _SONAME = "libt85.so.1"
+_OK = 0
 _NO_ROOM = 18
 _TOO_MANY_ROWS = 24
 _ROWS_MISSING = 36
@@ -155,6 +156,15 @@ class _Part(ctypes.Structure):
     ]
 
 
+class _Pbm(ctypes.Structure):
+    _fields_ = [
+        *((name, c_uint32) for name in ("version", "next", "width", "height", "is_plain", "rows_left", "filled")),
+        *((name, c_uint8) for name in ("made", "place", "status", "spare")),
+        ("value", c_uint64),
+        ("reserved", c_uint64 * 3),
+    ]
+
+
 class _Decoder(ctypes.Structure):
     _fields_ = [("opaque", c_uint64 * 160)]
 
@@ -196,6 +206,10 @@ def _load() -> ctypes.CDLL:
         "t85_message": (size, [c_uint8, *write]),
         "t85_stream_facts": (c_uint8, [*read, POINTER(_Facts)]),
         "t85_next_part": (c_uint8, [*read, POINTER(_Part)]),
+        "t85_pbm_start": (c_uint8, [POINTER(_Pbm), size]),
+        "t85_pbm_header": (c_uint8, [POINTER(_Pbm), *read, POINTER(size)]),
+        "t85_pbm_row": (c_uint8, [POINTER(_Pbm), *read, *write, POINTER(size)]),
+        "t85_pbm_end": (c_uint8, [POINTER(_Pbm)]),
         "t85_decode_start": (c_uint8, [POINTER(_Decoder), size, word]),
         "t85_decode_bytes": (c_uint8, [POINTER(_Decoder), *read, *write, POINTER(size), POINTER(size)]),
         "t85_decode_end": (c_uint8, [POINTER(_Decoder), *write, POINTER(size)]),
@@ -480,6 +494,54 @@ def parts(stream: Buffer) -> Iterator[Part]:
         if status:
             raise BrokenPart(status, part.offset, part.stripe)
         yield Part(_KINDS[part.kind], part.offset, part.len, part.stripe)
+
+
+class _PbmReader:
+    """Reads a PBM with the library, in memory that does not grow with it. The function `more` returns the next bytes, and
+    none at the end; it may return bytes beyond the image."""
+
+    def __init__(self, more: Callable[[], bytes]) -> None:
+        self._more, self._taken = more, c_size_t()
+        state = _Pbm()
+        self._lent, self._count = byref(state), byref(self._taken)
+        _LIBRARY.t85_pbm_start(self._lent, ctypes.sizeof(state))
+        self._take(b"")
+        status = self._read(_LIBRARY.t85_pbm_header)
+        if status != _HEADER_READ:
+            raise Error(status)
+        self.width, self.height, self.is_plain = int(state.width), int(state.height), bool(state.is_plain)
+        self._row = ctypes.create_string_buffer(_row_bytes(self.width))
+
+    @property
+    def unread(self) -> int:
+        """Returns how many bytes of the last piece were not consumed."""
+        return self._left
+
+    def next_row(self) -> Optional[bytes]:
+        """Returns the next row, packed, or None if there is none, or if the file ends before it is complete."""
+        status = self._read(_LIBRARY.t85_pbm_row, self._row, len(self._row))
+        if status == _ROW:
+            return self._row.raw
+        if status in (_OK, _ROWS_MISSING):
+            return None
+        raise Error(status)
+
+    def _take(self, piece: bytes) -> None:
+        """Keeps a piece, and the address of its bytes that were not consumed."""
+        self._piece, self._left = piece, len(piece)
+        self._start = ctypes.cast(piece, c_void_p).value or 0
+
+    def _read(self, call: Callable[..., int], *row: Any) -> int:
+        """Calls the library with the bytes that were not consumed, and with more as long as it asks for more."""
+        while True:
+            status = call(self._lent, self._start, self._left, *row, self._count)
+            self._start += self._taken.value
+            self._left -= self._taken.value
+            if status != _MORE:
+                return status
+            self._take(self._more())
+            if not self._left:
+                return int(_LIBRARY.t85_pbm_end(self._lent))
 
 
 class Decoder:

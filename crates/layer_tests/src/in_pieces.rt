@@ -37,7 +37,7 @@ fn headers_in_pieces(rt: HostRuntime) {
 }
 
 /// The result of a header in two pieces: the number of its bytes that were consumed, and the error's number or 0, or 100
-/// if more bytes are wanted.
+/// if more bytes are needed.
 fn in_two(text: &[u8], cut: usize) -> (usize, u8) {
     let (first, second) = text.split_at(cut.min(text.len()));
     let mut reader = HeaderReader::start();
@@ -71,7 +71,7 @@ fn headers_in_two_pieces(rt: HostRuntime) {
     }
 }
 
-/// A prefix that does not determine the result is consumed as a whole, and more bytes are wanted.
+/// A prefix that does not determine the result is consumed as a whole, and more bytes are needed.
 #[test]
 fn prefixes_of_headers(rt: HostRuntime) {
     for &(text, shows, _) in &SHOWN {

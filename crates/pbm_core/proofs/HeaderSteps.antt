@@ -9,7 +9,7 @@ use Rattle.pbm_core.specs.declared.header_reader.Place.{Place}
 use Rattle.pbm_core.specs.declared.header_reader.Place.TheVariants.{Start, Letter, Letters, Gap, Comment, Digits, LastComment}
 use Rattle.pbm_core.specs.Pbm.{letters_of, BeginsSpace, IsLineEnd, IsDigit, IsComment, IsSpace, IsGap, IsPbmHeader, value_of}
 use Rattle.pbm_core.specs.Refusal.{IsOpenComment, IsOpenGap, SizeFault, PartFault, IsPart, HeaderFault, most_width, most_height}
-use Rattle.pbm_core.specs.HeaderPieces.{IsFront, limit_behind, EndsIn, IsNumberSoFar, EndsInComment, HasScannedTo}
+use Rattle.pbm_core.specs.HeaderPieces.{IsHeaderFront, limit_behind, EndsIn, IsNumberSoFar, EndsInComment, HasScannedTo}
 use Rattle.std.proofs.lemmas.List.{length_push}
 use Rattle.pbm_core.proofs.Lists.{All-push}
 use Rattle.pbm_core.proofs.Parts.{gap_more, value_more, cut_gap, cut_digits, header_of}
@@ -29,7 +29,7 @@ part_height zero some p = absurd (omega arith)
 part_height (suc width) some p = p
 
 -- an error of the number behind a front
-pub front_fault : (form : Form) (width : ℕ) (front rest : List ℕ) (fault : PbmFault) → IsFront form width front → PartFault (limit_behind width) (large_behind width) rest fault → HeaderFault (front ++ rest) fault
+pub front_fault : (form : Form) (width : ℕ) (front rest : List ℕ) (fault : PbmFault) → IsHeaderFront form width front → PartFault (limit_behind width) (large_behind width) rest fault → HeaderFault (front ++ rest) fault
 front_fault form width front rest fault (inl f) p = inr (inl (record {
   form = form;
   rest = rest;
@@ -82,7 +82,7 @@ pub record AreSpaces (form : Form) (width : ℕ) (bytes : List ℕ) : Type 0 whe
   pub front : List ℕ
   pub spaces : List (List ℕ)
   pub bytes_are : bytes ≡ front ++ flat_map (λ s. s) spaces
-  pub is_front : IsFront form width front
+  pub is_front : IsHeaderFront form width front
   pub each : AllByRecursion IsSpace spaces
 
 pub spaces_of_gap : {form : Form} {width : ℕ} {bytes : List ℕ} → EndsIn form width IsGap bytes → AreSpaces form width bytes
@@ -94,7 +94,7 @@ spaces_of_gap e = record {
   each = e.is_rest.each;
 }
 
-pub enters_comment : (form : Form) (width : ℕ) (front : List ℕ) (spaces : List (List ℕ)) (b : ℕ) → IsFront form width front → AllByRecursion IsSpace spaces → b ≡ 35 →
+pub enters_comment : (form : Form) (width : ℕ) (front : List ℕ) (spaces : List (List ℕ)) (b : ℕ) → IsHeaderFront form width front → AllByRecursion IsSpace spaces → b ≡ 35 →
     EndsIn form width IsOpenGap (front ++ (flat_map (λ s. s) spaces ++ b ∷ []))
 enters_comment form width front spaces b is each e = record {
   front = front;
@@ -104,7 +104,7 @@ enters_comment form width front spaces b is each e = record {
   is_rest = record { spaces = spaces; comment = b ∷ []; bytes_are = refl; each = each; open_comment = record { text = []; bytes_are = ap (λ z. z ∷ []) e; one_line = tt } };
 }
 
-pub enters_gap : (form : Form) (width : ℕ) (front : List ℕ) (spaces : List (List ℕ)) (space : List ℕ) → IsFront form width front → AllByRecursion IsSpace spaces → IsSpace space →
+pub enters_gap : (form : Form) (width : ℕ) (front : List ℕ) (spaces : List (List ℕ)) (space : List ℕ) → IsHeaderFront form width front → AllByRecursion IsSpace spaces → IsSpace space →
     EndsIn form width IsGap (front ++ (flat_map (λ s. s) spaces ++ space))
 enters_gap form width front spaces space is each space_is = record {
   front = front;
@@ -221,11 +221,11 @@ next_digit limit value new b rest n digit e = record {
 }
 
 -- the width is complete
-pub front_done : (form : Form) (width value n : ℕ) (bytes : List ℕ) → EndsIn form width (IsNumberSoFar (limit_behind width) value) bytes → width ≡ 0 → n ≡ value → 1 ≤ n → n ≤ most_width → IsFront form n bytes
+pub front_done : (form : Form) (width value n : ℕ) (bytes : List ℕ) → EndsIn form width (IsNumberSoFar (limit_behind width) value) bytes → width ≡ 0 → n ≡ value → 1 ≤ n → n ≤ most_width → IsHeaderFront form n bytes
 front_done form width value n bytes e none is some within =
     let so : IsNumberSoFar most_width value e.rest = (let P : ℕ → Type 0 = λ w. IsNumberSoFar (limit_behind w) value e.rest in subst P none e.is_rest) in
     inr (e.rest, e.bytes_are ∙ ap (λ z. z ++ e.rest) (letters_are e.is_front), accepted_number most_width value n e.rest so is some within) where
-      letters_are : IsFront form width e.front → e.front ≡ letters_of form
+      letters_are : IsHeaderFront form width e.front → e.front ≡ letters_of form
       letters_are (inl f) = f.1
       letters_are (inr f) = let s = f.2.some in absurd (omega (arith, s, none))
 
@@ -250,7 +250,7 @@ numbers_done form width value n bytes e other is some within = done e.is_front w
   so : IsNumberSoFar most_height value e.rest
   so = let P : ℕ → Type 0 = λ l. IsNumberSoFar l value e.rest in subst P (limit_height width other) e.is_rest
 
-  done : IsFront form width e.front → HasNumbers form width value bytes
+  done : IsHeaderFront form width e.front → HasNumbers form width value bytes
   done (inl f) = absurd (other f.0)
   done (inr f) = record {
     first = f.0;

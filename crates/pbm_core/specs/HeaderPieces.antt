@@ -16,8 +16,8 @@ use Rattle.pbm_core.specs.Pbm.{letters_of, IsDigit, IsGap, IsPbmHeader, value_of
 use Rattle.pbm_core.specs.Refusal.{most_width, most_height, IsOpenComment, IsOpenGap, IsPart, HeaderFault}
 
 -- the letters; and the width, if it is complete: 0 represents one that is not
-abbrev pub IsFront : Form → ℕ → List ℕ → Type 0
-IsFront form width bytes =
+abbrev pub IsHeaderFront : Form → ℕ → List ℕ → Type 0
+IsHeaderFront form width bytes =
     ((width ≡ 0) × (bytes ≡ letters_of form))
     ⊎ ((first : List ℕ) × (bytes ≡ letters_of form ++ first) × IsPart most_width first width)
 
@@ -31,7 +31,7 @@ pub record EndsIn (form : Form) (width : ℕ) (IsRest : List ℕ → Type 0) (by
   pub front : List ℕ
   pub rest : List ℕ
   pub bytes_are : bytes ≡ front ++ rest
-  pub is_front : IsFront form width front
+  pub is_front : IsHeaderFront form width front
   pub is_rest : IsRest rest
 
 -- a gap and one or more digits; a number above the limit is the limit plus 1
@@ -68,24 +68,24 @@ abbrev pub HasScanned : HeaderReader → List ℕ → Type 0
 HasScanned reader bytes = HasScannedTo reader.place reader bytes
 
 -- The bytes have an error, however they continue.
-abbrev pub IsBroken : List ℕ → PbmFault → Type 0
-IsBroken bytes fault = HeaderFault bytes fault × (fault ≢ Truncated) × (fault ≢ Read)
+abbrev pub HasHeaderError : List ℕ → PbmFault → Type 0
+HasHeaderError bytes fault = HeaderFault bytes fault × (fault ≢ Truncated) × (fault ≢ Read)
 
 -- the result of one more byte
 abbrev pub IsStep : List ℕ → Step → Type 0
 IsStep bytes (step.More reader) = HasScanned reader bytes
 IsStep bytes (step.Whole size form) = IsPbmHeader bytes form size.width size.height
-IsStep bytes (step.Broken fault) = IsBroken bytes fault
+IsStep bytes (step.Broken fault) = HasHeaderError bytes fault
 
 -- The consumed bytes are undecided, a header, or end where their error shows. Undecided bytes are those that would be
 -- truncated if no more followed.
 abbrev pub DecidesHeader : List ℕ → HeaderReader → HeaderOutcome → Type 0
 DecidesHeader bytes reader outcome.More = HasScanned reader bytes × HeaderFault bytes Truncated
 DecidesHeader bytes reader (outcome.Header size form) = IsPbmHeader bytes form size.width size.height
-DecidesHeader bytes reader (outcome.Broken fault) = IsBroken bytes fault
+DecidesHeader bytes reader (outcome.Broken fault) = HasHeaderError bytes fault
 
 -- A piece after the bytes before it: the reader consumes no byte behind the header or behind its error, and leaves none
 -- before either.
-pub record TakesHeader (before piece : List ℕ) (new : HeaderReader) (progress : HeaderProgress) : Type 0 where
+pub record TakesHeaderPiece (before piece : List ℕ) (new : HeaderReader) (progress : HeaderProgress) : Type 0 where
   pub decides : DecidesHeader (before ++ take progress.taken piece) new progress.outcome
   pub all_taken : progress.outcome ≡ outcome.More → progress.taken ≡ length piece

@@ -52,8 +52,16 @@ DecidesRow form width bytes reader row outcome.More = HasFilled form reader widt
 DecidesRow form width bytes reader row outcome.Row = IsRowOf form width bytes row × HasFilled form reader width row []
 DecidesRow form width bytes reader row (outcome.Broken fault) = RowFault form width bytes fault × (fault ≢ Truncated)
 
+-- the state between two pieces: the reader, and the caller's row
+pub record PieceRow : Type 0 where
+  pub reader : RowReader
+  pub row : List ℕ
+
+abbrev pub piece_row : RowReader → List ℕ → PieceRow
+piece_row reader row = record { reader = reader; row = row }
+
 -- A piece after the bytes before it: the reader consumes no byte behind the row or behind its error, and leaves none
 -- before either.
-pub record TakesRow (form : Form) (width : ℕ) (before piece : List ℕ) (new : RowReader) (row : List ℕ) (progress : RowProgress) : Type 0 where
-  pub decides : DecidesRow form width (before ++ take progress.taken piece) new row progress.outcome
+pub record TakesRowPiece (form : Form) (width : ℕ) (before piece : List ℕ) (new : PieceRow) (progress : RowProgress) : Type 0 where
+  pub decides : DecidesRow form width (before ++ take progress.taken piece) new.reader new.row progress.outcome
   pub all_taken : progress.outcome ≡ outcome.More → progress.taken ≡ length piece

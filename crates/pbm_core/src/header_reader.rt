@@ -7,7 +7,7 @@ ghost use Rattle.pbm_core.specs.declared.form.Form.{Form};
 ghost use Rattle.pbm_core.specs.declared.header_reader.Place.TheVariants as place;
 ghost use Rattle.pbm_core.specs.Pbm.{letter_of, BeginsSpace, IsDigit, IsLineEnd, IsPbmHeader, IsSpace, IsWhite};
 ghost use Rattle.pbm_core.specs.Refusal.{most_width, most_height, HeaderFault, SizeFault};
-ghost use Rattle.pbm_core.specs.HeaderPieces.{EndsIn, HasScanned, HasScannedTo, IsFront, IsStep, TakesHeader, limit_behind};
+ghost use Rattle.pbm_core.specs.HeaderPieces.{EndsIn, HasScanned, HasScannedTo, IsHeaderFront, IsStep, TakesHeaderPiece, limit_behind};
 
 use crate::fault::PbmFault;
 use crate::form::Form;
@@ -15,7 +15,7 @@ use crate::size::Size;
 
 const MOST_WIDTH: u32 = 1_048_576;
 
-/// What the last byte that was read belongs to.
+/// The part to which the last byte belongs that was read.
 #[derive(Clone, Copy, Debug, PartialEq, Eq)]
 pub enum Place {
     /// No byte was read.
@@ -90,7 +90,7 @@ impl HeaderReader {
     pub fn read(&mut self, piece: &[u8]) -> HeaderProgress
         ensures within { result.taken ≤ length piece.now }
         ensures takes { (before : List ℕ) → HasScanned self.old before →
-            TakesHeader before piece.now self.new result }
+            TakesHeaderPiece before piece.now self.new result }
     {
         let mut taken = 0;
         'bytes: while taken < piece.len() {
@@ -178,8 +178,8 @@ impl HeaderReader {
     /// Reads the first byte of a space before a number.
     fn enter_space(self, byte: u8) -> HeaderReader
         requires { BeginsSpace byte }
-        ensures { (front : List ℕ) → (spaces : List (List ℕ)) → IsFront self.form self.width front →
-            AllByRecursion IsSpace spaces →
+        ensures { (front : List ℕ) → (spaces : List (List ℕ)) →
+            IsHeaderFront self.form self.width front → AllByRecursion IsSpace spaces →
             HasScanned result (front ++ (flat_map (λ s. s) spaces ++ byte ∷ [])) }
     {
         let place = if byte == b'#' {

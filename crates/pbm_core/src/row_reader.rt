@@ -6,7 +6,7 @@ ghost use Rattle.pbm_core.specs.declared.form.Form.{Form};
 ghost use Rattle.pbm_core.specs.declared.form.Form.TheVariants.{Raw, Plain};
 ghost use Rattle.pbm_core.specs.Pbm.{bytes_of_row};
 ghost use Rattle.pbm_core.specs.Image.{RowFault};
-ghost use Rattle.pbm_core.specs.RowPieces.{HasFilled, HoldsPixels, PutsPixel, TakesRow};
+ghost use Rattle.pbm_core.specs.RowPieces.{HasFilled, HoldsPixels, PutsPixel, TakesRowPiece, piece_row};
 
 use crate::fault::PbmFault;
 use crate::form::Form;
@@ -45,8 +45,10 @@ pub struct RowProgress {
 impl RowReader {
     /// A reader before the first byte of a row.
     pub fn start() -> RowReader
-        ensures raw { (width : ℕ) → (row : List ℕ) → 1 ≤ width → HasFilled Raw result width row [] }
-        ensures plain { (width : ℕ) → (row : List ℕ) → 1 ≤ width → HasFilled Plain result width row [] }
+        ensures raw { (width : ℕ) → (row : List ℕ) → 1 ≤ width →
+            HasFilled Raw result width row [] }
+        ensures plain { (width : ℕ) → (row : List ℕ) → 1 ≤ width →
+            HasFilled Plain result width row [] }
     {
         RowReader { filled: 0, made: 0 }
     }
@@ -58,7 +60,7 @@ impl RowReader {
         requires { length row.old ≡ bytes_of_row size.width }
         ensures within { result.taken ≤ length piece.now }
         ensures takes { (before : List ℕ) → HasFilled form self.old size.width row.old before →
-            TakesRow form size.width before piece.now self.new row.new result }
+            TakesRowPiece form size.width before piece.now (piece_row self.new row.new) result }
     {
         match form {
             Form::Raw => self.read_raw(size, row, piece),
@@ -80,7 +82,7 @@ impl RowReader {
         requires { length row.old ≡ bytes_of_row size.width }
         ensures within { result.taken ≤ length piece.now }
         ensures takes { (before : List ℕ) → HasFilled Raw self.old size.width row.old before →
-            TakesRow Raw size.width before piece.now self.new row.new result }
+            TakesRowPiece Raw size.width before piece.now (piece_row self.new row.new) result }
     {
         let at = row.len().min(self.filled as usize);
         let taken = piece.len().min(row.len() - at);
@@ -105,7 +107,7 @@ impl RowReader {
         requires { length row.old ≡ bytes_of_row size.width }
         ensures within { result.taken ≤ length piece.now }
         ensures takes { (before : List ℕ) → HasFilled Plain self.old size.width row.old before →
-            TakesRow Plain size.width before piece.now self.new row.new result }
+            TakesRowPiece Plain size.width before piece.now (piece_row self.new row.new) result }
     {
         let mut taken = 0;
         'bytes: while taken < piece.len() {

@@ -1,4 +1,4 @@
--- What a call leaves that reads a PBM from pieces.
+-- The effect of calls that read a PBM from pieces.
 use Rattle.std.proofs.Common.{◌≡◌, ◌≤◌, ◌<◌, ◌+◌, ◌-◌, inl, inr, refl, sym, subst, ap, ◌∙◌, ℕ, Bool, List, [], ◌∷◌, ◌++◌, length, take, drop, take_all, length-take, append-nil, append_assoc, arith}
 use Rattle.std.proofs.lemmas.List.{length_push, take-append-le}
 use Rattle.pbm_core.specs.declared.fault.PbmFault.{PbmFault}
@@ -24,7 +24,7 @@ use Rattle.t85.specs.Pbm.{EndsPbm, InPbmRows, ReadsPbmRow, TellsPart, TellsRow, 
 some_bytes : (width : ℕ) → 1 ≤ width → 0 < bytes_of_row width
 some_bytes width some = grind arith
 
--- no byte of a row has come
+-- no byte of a row is read
 pub none_filled : (form : Form) (reader : RowReader) (width : ℕ) (row : List ℕ) → 1 ≤ width → reader.filled ≡ 0 → reader.made ≡ 0 → HasFilled form reader width row []
 none_filled Raw reader width row some filled made = (filled, some_bytes width some, refl)
 none_filled Plain reader width row some filled made = record {
@@ -184,7 +184,7 @@ row_cut p {rows = rows} fault is left shows = record {
   part = record { front = is.part; rest = []; bytes_are = sym (append-nil is.part); shows = shows; at_end = (λ _. refl) };
 }
 
--- all rows have come
+-- all rows are read
 pub whole_image : (p : T85Pbm) {row before : List ℕ} {rows : List (List Bool)} → InPbmRows p row before rows → p.rows_left ≡ 0 → IsPbm before p.width rows []
 whole_image p {row} {before} {rows} is none =
     let many : p.height ≡ length rows = (let l = is.left_is in omega (arith, l, none)) in

@@ -21,15 +21,15 @@ use Rattle.t85.specs.declared.pbm.T85Pbm.{T85Pbm}
 
 -- ---- the numbers in the struct
 
-abbrev pub place_of : ℕ → Place
-place_of n =
+abbrev pub header_place : ℕ → Place
+header_place n =
     if n == 0 then Start else (if n == 1 then Letter else (if n == 2 then Letters else (if n == 3 then Gap else (if n == 4 then Comment else (if n == 5 then Digits else LastComment)))))
 
 abbrev pub form_of : ℕ → Form
 form_of n = if n == 0 then Raw else Plain
 
 abbrev pub header_reader_of : T85Pbm → HeaderReader
-header_reader_of p = record { place = place_of p.place; form = form_of p.is_plain; width = p.width; value = p.value }
+header_reader_of p = record { place = header_place p.place; form = form_of p.is_plain; width = p.width; value = p.value }
 
 abbrev pub row_reader_of : T85Pbm → RowReader
 row_reader_of p = record { filled = p.filled; made = p.made }
@@ -101,16 +101,16 @@ abbrev pub KeepsPbm : T85Pbm → T85Pbm → PieceCall → Type 0
 KeepsPbm old new call = (new ≡ old) × (call.taken ≡ 0)
 
 -- The result in the header: the header is complete, undecided, or has an error.
-abbrev pub TellsHeader : List ℕ → T85Pbm → PieceCall → PbmAnswer → Type 0
-TellsHeader before new call answer.Header = (row : List ℕ) → InPbmRows new row (with_call before call) []
-TellsHeader before new call answer.More = (call.taken ≡ length call.piece) × InPbmHeader new (with_call before call) × HeaderFault (with_call before call) Truncated
-TellsHeader before new call (answer.Broken fault) = HeaderFault (with_call before call) fault × (fault ≢ Truncated) × PbmHasEnded new (pbm_status_of fault)
-TellsHeader before new call _ = ⊥
+abbrev pub TellsPbmHeader : List ℕ → T85Pbm → PieceCall → PbmAnswer → Type 0
+TellsPbmHeader before new call answer.Header = (row : List ℕ) → InPbmRows new row (with_call before call) []
+TellsPbmHeader before new call answer.More = (call.taken ≡ length call.piece) × InPbmHeader new (with_call before call) × HeaderFault (with_call before call) Truncated
+TellsPbmHeader before new call (answer.Broken fault) = HeaderFault (with_call before call) fault × (fault ≢ Truncated) × PbmHasEnded new (pbm_status_of fault)
+TellsPbmHeader before new call _ = ⊥
 
 -- the effect of `t85_pbm_header`
 pub record ReadsPbmHeader (old new : T85Pbm) (call : PieceCall) (told : PbmAnswer) : Type 0 where
   pub within : call.taken ≤ length call.piece
-  pub tells : (before : List ℕ) → InPbmHeader old before → TellsHeader before new call told
+  pub tells : (before : List ℕ) → InPbmHeader old before → TellsPbmHeader before new call told
   pub again : old.version ≡ 1 → old.next ≡ 1 → (told ≡ answer.Header) × KeepsPbm old new call
   pub ended : (status : ℕ) → PbmHasEnded old status → (told ≡ answer.Ended status) × KeepsPbm old new call
   pub not_begun : PbmIsNotBegun old → (told ≡ answer.NotBegun) × KeepsPbm old new call

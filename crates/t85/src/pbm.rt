@@ -2,8 +2,8 @@
 
 ghost use Rattle.std.specs.Prelude.{◌≡◌, ◌≢◌, ◌≤◌, ◌+◌, ℕ, List, Bool, length, take, [], IfSome, IsNone};
 ghost use Rattle.pbm_core.specs.Pbm.{bytes_of_row};
-ghost use Rattle.pbm_core.specs.HeaderPieces.{TakesHeader};
-ghost use Rattle.t85.specs.Pbm.{BeginsPbm, EndsPbm, InPbmHeader, InPbmRows, IsPbmStatus, PbmHasEnded, ReadsPbmHeader, ReadsPbmRow, TellsHeader, TellsPart, form_of, header_reader_of, pbm_call, pbm_hold, pbm_status, place_of, row_reader_of};
+ghost use Rattle.pbm_core.specs.HeaderPieces.{TakesHeaderPiece};
+ghost use Rattle.t85.specs.Pbm.{BeginsPbm, EndsPbm, InPbmHeader, InPbmRows, IsPbmStatus, PbmHasEnded, ReadsPbmHeader, ReadsPbmRow, TellsPbmHeader, TellsPart, form_of, header_reader_of, pbm_call, pbm_hold, pbm_status, header_place, row_reader_of};
 
 use crate::status::{NOT_BEGUN, OTHER_VERSION};
 use pbm_core::{
@@ -14,7 +14,7 @@ use pbm_core::{
 const VERSION: u32 = 1;
 
 const SIZE: usize = 64;
-/// What is read next: the header, rows, or nothing more after an error.
+/// The next part of the file: the header, rows, or nothing more after an error.
 const HEADER: u32 = 0;
 
 const ROWS: u32 = 1;
@@ -28,7 +28,7 @@ const MOST_WIDTH: u32 = 1_048_576;
 #[derive(Clone, Copy)]
 pub struct T85Pbm {
     pub version: u32,
-    /// What is read next: `HEADER`, `ROWS` or `ENDED`.
+    /// The next part of the file: `HEADER`, `ROWS` or `ENDED`.
     pub next: u32,
     /// The size and the form, once the header is read.
     pub width: u32,
@@ -225,7 +225,7 @@ impl T85Pbm {
         requires next { self.old.next ≡ 0 }
         ensures within { result.taken ≤ length bytes.now }
         ensures tells { (before : List ℕ) → InPbmHeader self.old before →
-            TellsHeader before self.new (pbm_call bytes.now result.taken) result.answer }
+            TellsPbmHeader before self.new (pbm_call bytes.now result.taken) result.answer }
     {
         let mut reader = self.header_reader();
         let progress = reader.read(bytes);
@@ -312,8 +312,10 @@ impl T85Pbm {
 
     /// The size in the struct, if an image may have it.
     fn size(&self) -> Option<Size>
-        ensures some { IfSome result (λ size. (size.width ≡ self.now.width) × (size.height ≡ self.now.height)) }
-        ensures none { IsNone result → 1 ≤ self.now.width → self.now.width ≤ 1048576 → ¬ (1 ≤ self.now.height) }
+        ensures some { IfSome result
+            (λ size. (size.width ≡ self.now.width) × (size.height ≡ self.now.height)) }
+        ensures none { IsNone result → 1 ≤ self.now.width → self.now.width ≤ 1048576 →
+            ¬ (1 ≤ self.now.height) }
     {
         let (width, height) = (self.width, self.height);
         if width == 0 || width > MOST_WIDTH || height == 0 {
@@ -398,7 +400,7 @@ impl T85Pbm {
 
 /// The place with this number.
 fn place_of(number: u8) -> Place
-    ensures { result ≡ place_of number }
+    ensures { result ≡ header_place number }
 {
     match number {
         0 => Place::Start,
@@ -412,7 +414,7 @@ fn place_of(number: u8) -> Place
 }
 
 fn number_of_place(place: Place) -> u8
-    ensures { place_of result ≡ place }
+    ensures { header_place result ≡ place }
 {
     match place {
         Place::Start => 0,

@@ -78,7 +78,7 @@ static FILES: [Sample; 9] = [
         status: 36,
         left: 0,
     },
-    // Of the 16 bits of this row, the last seven are padding.
+    // The last seven of the 16 bits of this row are padding.
     Sample {
         text: b"P1 9 1 010000001",
         width: 9,
@@ -219,7 +219,7 @@ fn headers_are_refused(rt: HostRuntime) {
     }
 }
 
-/// What calls return that are not allowed: with another size, with zeros, before the header, and with a short row.
+/// The statuses of calls that are not allowed: with another size, with zeros, before the header, and with a short row.
 fn not_allowed() -> (u8, u8, u8, u8, u8, u8) {
     let (mut other, mut taken) = (zeros(), 0);
     let size = t85_pbm_start(&mut other, 63);

@@ -1,5 +1,5 @@
 use Rattle.std.proofs.Common.{arith, sym, subst, ◌++◌, take}
-use Rattle.pbm_core.specs.HeaderPieces.{IsBroken}
+use Rattle.pbm_core.specs.HeaderPieces.{HasHeaderError}
 use Rattle.pbm_core.proofs.Lists.{taken_more}
 use Rattle.pbm_core.proofs.HeaderSteps.{scanned_cut}
 use Rattle.pbm_core.proofs.header_reader.HeaderReader.read.Goals as goal
@@ -9,7 +9,7 @@ returns-in-Broken-clause-takes c before is =
     let v = c.bytes.invariant in
     let broken = c.in-Broken.ensures (before ++ take c.bytes.taken c.args.piece.now) (v.scanned before is) in
     record {
-      decides = subst (λ z. IsBroken z c.in-Broken.fault) (sym (taken_more before c.args.piece.now c.bytes.taken c.bytes-test.true)) broken;
+      decides = subst (λ z. HasHeaderError z c.in-Broken.fault) (sym (taken_more before c.args.piece.now c.bytes.taken c.bytes-test.true)) broken;
       all_taken = (λ h. cc);
     }
 
