@@ -19,6 +19,7 @@ import time
 import urllib.request
 
 HERE = os.path.dirname(os.path.abspath(__file__))
+HOST = "localhost"
 LETTER = os.path.join(HERE, "..", "examples", "letter.jbg")
 PIXELS = """
 const canvas = document.getElementById("canvas"), data = canvas.getContext("2d").getImageData(0, 0, canvas.width, canvas.height).data;
@@ -32,7 +33,7 @@ class Browser:
     """A session of chromedriver."""
 
     def __init__(self, port, width):
-        self.root = f"http://localhost:{port}/session"
+        self.root = f"http://{HOST}:{port}/session"
         options = {"args": ["--headless=new", "--no-sandbox", "--allow-file-access-from-files", f"--window-size={width},1000"]}
         answer = self.call("POST", "", {"capabilities": {"alwaysMatch": {"browserName": "chrome", "goog:chromeOptions": options}}})
         self.root += "/" + answer["sessionId"]
@@ -74,13 +75,13 @@ class Browser:
 @contextlib.contextmanager
 def browser(width):
     with socket.socket() as free:
-        free.bind(("localhost", 0))
+        free.bind((HOST, 0))
         port = free.getsockname()[1]
     driver = subprocess.Popen(["chromedriver", f"--port={port}"], stdout=subprocess.DEVNULL, stderr=subprocess.DEVNULL)
     try:
         for _ in range(100):
             with contextlib.suppress(OSError):
-                socket.create_connection(("localhost", port)).close()
+                socket.create_connection((HOST, port)).close()
                 break
             time.sleep(0.1)
         found = Browser(port, width)
