@@ -90,6 +90,44 @@ buffer read_file(const char *name)
     return file;
 }
 
+/* Reads a raw PBM in pieces, and checks its size, its rows and the status at its end. */
+static void in_pieces(buffer file, buffer rows, uint32_t width, uint32_t height, size_t step)
+{
+    buffer row = lend(t85_row_bytes(width));
+    uint32_t y = 0;
+    size_t at = 0, taken = 0, len;
+    bool in_rows = false;
+    uint8_t status = T85_MORE, last = (uint8_t)(0xff << (8 * row.len - width));
+    t85_pbm pbm;
+    if (t85_pbm_start(&pbm, sizeof pbm - 1) != T85_OTHER_VERSION ||
+        t85_pbm_start(&pbm, sizeof pbm) != T85_OK)
+        fail("t85_pbm_start: another status");
+    while (at < file.len || status != T85_MORE) {
+        len = file.len - at < step ? file.len - at : step;
+        status = in_rows ? t85_pbm_row(&pbm, file.bytes + at, len, row.bytes, row.len, &taken)
+                         : t85_pbm_header(&pbm, file.bytes + at, len, &taken);
+        at += taken;
+        if (status == T85_HEADER_READ) {
+            in_rows = true;
+            if (pbm.width != width || pbm.height != height || pbm.is_plain)
+                fail("t85_pbm_header: %u by %u pixels", pbm.width, pbm.height);
+        } else if (status == T85_ROW) {
+            uint8_t *next = rows.bytes + row.len * y++;
+            if (memcmp(row.bytes, next, row.len - 1) ||
+                row.bytes[row.len - 1] != (next[row.len - 1] & last))
+                fail("t85_pbm_row: row %u is another, in pieces of %zu", y, step);
+        } else if (status != T85_MORE) {
+            break;
+        }
+    }
+    if (status == T85_MORE)
+        status = t85_pbm_end(&pbm);
+    if (status != (rows.len < row.len * height ? T85_ROWS_MISSING : T85_OK) ||
+        y != (rows.len < row.len * height ? rows.len / row.len : height))
+        fail("t85_pbm_row: status %d and %u rows, in pieces of %zu", status, y, step);
+    give_back(row);
+}
+
 buffer rows_of(buffer file, uint32_t *width, uint32_t *height)
 {
     int front = 0;
@@ -98,6 +136,10 @@ buffer rows_of(buffer file, uint32_t *width, uint32_t *height)
         fail("no raw PBM");
     rows.bytes = file.bytes + front + 1;
     rows.len = file.len - (size_t)front - 1;
+    if (*width && *height) {
+        in_pieces(file, rows, *width, *height, 1);
+        in_pieces(file, rows, *width, *height, 1000);
+    }
     return rows;
 }
 

@@ -96,6 +96,17 @@ static uint8_t see_encode_end(t85_encoder *encoder, uint8_t *window, size_t wind
     return in_order ? see(window, stream, NULL, NULL) : 255;
 }
 
+static uint8_t see_pbm_header(t85_pbm *pbm, const uint8_t *bytes, size_t len, size_t *taken)
+{
+    return pbm && len == 1 && *taken == 7 ? see(bytes, NULL, NULL, NULL) : 255;
+}
+
+static uint8_t see_pbm_row(t85_pbm *pbm, const uint8_t *bytes, size_t len, uint8_t *row,
+                           size_t row_room, size_t *taken)
+{
+    return pbm && len == 1 && row_room == 2 && *taken == 7 ? see(bytes, row, NULL, NULL) : 255;
+}
+
 static size_t see_message(uint8_t status, uint8_t *text, size_t room)
 {
     return status == room ? see(text, NULL, NULL, NULL) : 255;
@@ -119,6 +130,8 @@ typedef struct {
     uint8_t (*t85_best_offset)(const t85_encoder *, const uint8_t *, size_t, uint8_t *, size_t,
                                uint8_t *, size_t, uint8_t *);
     uint8_t (*t85_encode_end)(t85_encoder *, uint8_t *, size_t, uint8_t *, size_t, size_t *);
+    uint8_t (*t85_pbm_header)(t85_pbm *, const uint8_t *, size_t, size_t *);
+    uint8_t (*t85_pbm_row)(t85_pbm *, const uint8_t *, size_t, uint8_t *, size_t, size_t *);
 } calls;
 
 static void have_come(const char *call, size_t status, unsigned count, const uint8_t *wanted)
@@ -136,12 +149,13 @@ static void passed(uint8_t *a)
     static const calls seen = {see_header,       see_info,        see_encode,
                                see_decode,       see_decode_rows, see_message,
                                see_encode_start, see_encode_row,  see_best_offset,
-                               see_encode_end};
+                               see_encode_end,   see_pbm_header,  see_pbm_row};
     uint8_t *b = a ? a + 1 : NULL, *c = a ? a + 2 : NULL, *d = a ? a + 3 : NULL;
     t85_header_fields fields = {8, 0, 0, 0, 0};
     t85_summary summary = {8, 0, 0, 0, 0, 0, 0, 0, 0};
     t85_options options = T85_OPTIONS;
     t85_encoder encoder;
+    t85_pbm pbm;
     size_t written = 8;
     uint32_t rows_written = 6;
     uint8_t offset = 7;
@@ -161,6 +175,8 @@ static void passed(uint8_t *a)
     have_come("t85_encode_row", seen.t85_encode_row(&encoder, a, 1, b, 2, c, 3, &written), 3, a);
     have_come("t85_best_offset", seen.t85_best_offset(&encoder, a, 1, b, 2, c, 3, &offset), 3, a);
     have_come("t85_encode_end", seen.t85_encode_end(&encoder, a, 1, b, 2, &written), 2, a);
+    have_come("t85_pbm_header", seen.t85_pbm_header(&pbm, a, 1, &written), 1, a);
+    have_come("t85_pbm_row", seen.t85_pbm_row(&pbm, a, 1, b, 2, &written), 2, a);
 }
 
 /* Checks that each argument is evaluated once: each is increased by one. */
@@ -363,7 +379,7 @@ static void by_address(buffer stream)
     static const calls table = {&t85_header,       &t85_info,        &t85_encode,
                                 &t85_decode,       &t85_decode_rows, &t85_message,
                                 &t85_encode_start, &t85_encode_row,  &t85_best_offset,
-                                &t85_encode_end};
+                                &t85_encode_end,   &t85_pbm_header,  &t85_pbm_row};
     t85_options options = T85_OPTIONS;
     t85_encoder encoder;
     t85_header_fields fields, same;
