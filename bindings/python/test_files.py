@@ -141,6 +141,22 @@ class FromFileToFile(unittest.TestCase):
         rows = [int(digits[at : at + width] + "0" * 7, 2).to_bytes(126, "big") for at in range(0, len(digits), width)]
         self.assertEqual(self.encoded(b"P1 1001 90\n" + plain.encode()), t85.encode(b"".join(rows), width, 90))
 
+    def test_texts(self):
+        # The texts of docs/PBM.md.
+        texts = {
+            b"Q": "input is not a PBM bitmap",
+            b"P4 x": "bad number in the PBM header",
+            b"P4 0 1 ": "PBM width or height is zero",
+            b"P4 1048577 1\n": "PBM is wider than 1048576",
+            b"P4 1 4294967296 ": "PBM is taller than 4294967295",
+            b"P4 1": "PBM ends too early",
+            b"P1 1 1 2": "PBM raster has a byte that is no digit",
+        }
+        for image, text in texts.items():
+            with self.assertRaises(t85.Error) as caught:
+                t85.encode_file(io.BytesIO(image), io.BytesIO())
+            self.assertEqual(caught.exception.text, text)
+
     def test_cut_header(self):
         # A header means the same in pieces of any length: this comment has what looks like numbers.
         for image in (b"P4\n# 16 2 dots an inch\n8 1\n\xaa", b"P4#1 1 \r#2\n\t008#\r# 3 3\n 01#9\n\xaa"):

@@ -496,6 +496,10 @@ def parts(stream: Buffer) -> Iterator[Part]:
         yield Part(_KINDS[part.kind], part.offset, part.len, part.stripe)
 
 
+# These statuses have other texts where a caller passes rows instead of a PBM.
+_PBM_TEXTS = {33: "PBM width or height is zero", 34: "PBM is wider than 1048576", 36: "PBM ends too early"}
+
+
 class _PbmReader:
     """Reads a PBM with the library, in memory that does not grow with it. The function `more` returns the next bytes, and
     none at the end; it may return bytes beyond the image."""
@@ -508,7 +512,7 @@ class _PbmReader:
         self._take(b"")
         status = self._read(_LIBRARY.t85_pbm_header)
         if status != _HEADER_READ:
-            raise Error(status)
+            raise Error(status, text=_PBM_TEXTS.get(status))
         self.width, self.height, self.is_plain = int(state.width), int(state.height), bool(state.is_plain)
         self._row = ctypes.create_string_buffer(_row_bytes(self.width))
 
