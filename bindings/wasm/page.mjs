@@ -1,7 +1,8 @@
-// The page that shows a stream. `WASM` is the module in base64.
+// The page that shows a stream. `WASM` is the proved module in base64, and `WASM32` one with a 32-bit memory that is not proved, if
+// the page was made with one.
 import { PARTS, T85Error, load, rowBytes } from "./t85.mjs";
 
-const WASM = "/* WASM */";
+const WASM = "/* WASM */", WASM32 = "/* WASM32 */";
 // Limits of the page: pixels of an image, bytes of rows, the sides and the area of the canvas, and lines of a table.
 const MOST_PIXELS = 2 ** 33, MOST_BYTES = 2 ** 28, MOST_SIDE = 16384, MOST_AREA = 2 ** 26, MOST_LINES = 500;
 const OPTIONS = [[0x40, "two-line template"], [0x20, "variable height"], [0x08, "typical prediction"]];
@@ -12,14 +13,24 @@ let shown = null, zoom = 0;
 /** Loads the module; without 64-bit memories, says so. */
 async function opened() {
   try {
-    const library = await load(Uint8Array.from(atob(WASM), (letter) => letter.charCodeAt(0)));
-    $("about").textContent = `libt85 ${library.version()}, compiled to WebAssembly from the proved source by the prover's own compiler.`;
-    return library;
+    return await loaded(WASM, "compiled to WebAssembly from the proved source by the prover's own compiler");
   } catch (error) {
-    say(`This browser cannot run the library, which needs WebAssembly with 64-bit memories (Chrome and Edge 133 or later, Firefox 134 or later): ${error.message}`, true);
+    say(`This browser cannot run the proved library, which needs WebAssembly with 64-bit memories; Chrome, Edge and Firefox have them: ${error.message}`, true);
     $("file").disabled = true;
-    throw error;
+    if (WASM32 === "") throw error;
+    $("unproved").hidden = false;
+    await new Promise((resolve) => { $("unproved").onclick = resolve; });
+    $("unproved").hidden = true;
+    $("file").disabled = false;
+    say("No file is open.");
+    return loaded(WASM32, "the same source without its contracts, compiled for 32-bit memories. It is not proved; rustc, its library, the exporter and the hand-written crates are trusted instead of the kit");
   }
+}
+
+async function loaded(base64, origin) {
+  const library = await load(Uint8Array.from(atob(base64), (letter) => letter.charCodeAt(0)));
+  $("about").textContent = `libt85 ${library.version()}: ${origin}.`;
+  return library;
 }
 
 function say(text, isBroken = false) {
