@@ -119,19 +119,13 @@ fn raster_of(raster: &[u8], length: usize, size: Size, form: Form) -> (u8, [[u8;
 }
 
 /// Reads a row in pieces of this length. Returns the error's number or 0, and the bytes behind the row.
-fn row_of<'a>(
-    text: &'a [u8],
-    length: usize,
-    size: Size,
-    form: Form,
-    row: &mut [u8],
-) -> (u8, &'a [u8])
+fn row_of<'a>(text: &'a [u8], step: usize, size: Size, form: Form, row: &mut [u8]) -> (u8, &'a [u8])
     requires { length row.old ≡ bytes_of_row size.width }
 {
     let mut reader = RowReader::start();
     let mut rest = text;
     while !rest.is_empty() {
-        let piece = &rest[..length.clamp(1, rest.len())];
+        let piece = &rest[..step.clamp(1, rest.len())];
         let progress = reader.read(size, form, row, piece);
         if progress.taken > rest.len() {
             return (255, rest);
