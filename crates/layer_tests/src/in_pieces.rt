@@ -124,15 +124,14 @@ fn row_of<'a>(text: &'a [u8], step: usize, size: Size, form: Form, row: &mut [u8
 {
     let mut reader = RowReader::start();
     let mut rest = text;
-    while !rest.is_empty() {
-        let piece = &rest[..step.clamp(1, rest.len())];
-        let progress = reader.read(size, form, row, piece);
-        if progress.taken > rest.len() {
-            return (255, rest);
+    for _ in 0..=text.len() {
+        if rest.is_empty() {
+            break;
         }
-        rest = &rest[progress.taken..];
+        let piece = rest.get(..step).unwrap_or(rest);
+        let progress = reader.read(size, form, row, piece);
+        rest = rest.get(progress.taken..).unwrap_or(b"");
         match progress.outcome {
-            RowOutcome::More if progress.taken == 0 => return (255, rest),
             RowOutcome::More => {}
             RowOutcome::Row => return (0, rest),
             RowOutcome::Broken(fault) => return (fault.number(), rest),
