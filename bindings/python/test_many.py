@@ -33,7 +33,7 @@ def read(path):
 PBM, STREAM = read(os.path.join(EXAMPLES, "letter.pbm")), read(os.path.join(EXAMPLES, "letter.jbg"))
 # Rows of docs/PBM.md, and of its table of inputs.
 PAGES = {
-    b"P4\n#x\n3 2\n\xff\xff": (3, 2, b"\xe0\xe0"),
+    b"P4\n#x\n3 2\n\xff\xff": (3, 2, b"\xff\xff"),
     b"P4 008 01#c\n\x55": (8, 1, b"\x55"),
     b"P1\n3 2\n1 1 1\n111\n": (3, 2, b"\xe0\xe0"),
     b"P1 1 1 1": (1, 1, b"\x80"),

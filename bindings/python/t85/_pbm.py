@@ -5,6 +5,7 @@ from dataclasses import dataclass
 from typing import Callable, Iterator
 
 from . import _PbmReader
+from ._rows import row_bytes
 
 # The bytes per read.
 _PIECE = 1 << 16
@@ -12,8 +13,8 @@ _PIECE = 1 << 16
 
 @dataclass(frozen=True)
 class Page:
-    """An image: its rows are adjacent, as many as the file has. `end` is the place in the file behind it; no image can
-    follow a plain one, which ends with the file."""
+    """An image: its rows are adjacent, as many as the file has; in raw rows, the bits after the last pixel are those of the
+    file. `end` is the place in the file behind it; no image can follow a plain one, which ends with the file."""
 
     width: int
     height: int
@@ -25,9 +26,12 @@ def read_page(data: bytes, begin: int = 0) -> Page:
     """Reads the image of a PBM that begins at this byte. If rows are missing, it has fewer than its height."""
     source = _Bytes(data, begin)
     reader = PageReader(source.read)
-    rows = memoryview(b"".join(reader.rows()))
-    end = len(data) if reader.is_plain else source.place - reader.unread
-    return Page(reader.width, reader.height, rows, end)
+    if reader.is_plain:
+        return Page(reader.width, reader.height, memoryview(b"".join(reader.rows())), len(data))
+    # Raw rows are packed in the file as the library takes them: they are not copied.
+    first = source.place - reader.unread
+    rows = memoryview(data)[first : first + reader.height * row_bytes(reader.width)]
+    return Page(reader.width, reader.height, rows, first + len(rows))
 
 
 @dataclass
