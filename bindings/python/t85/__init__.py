@@ -513,7 +513,9 @@ class _PbmReader:
         status = self._read(_LIBRARY.t85_pbm_header)
         if status != _HEADER_READ:
             raise Error(status, text=_PBM_TEXTS.get(status))
-        self.width, self.height, self.is_plain = int(state.width), int(state.height), bool(state.is_plain)
+        self.width: int = state.width
+        self.height: int = state.height
+        self.is_plain = bool(state.is_plain)
         self._row = ctypes.create_string_buffer(_row_bytes(self.width))
 
     @property
@@ -533,7 +535,7 @@ class _PbmReader:
     def _take(self, piece: bytes) -> None:
         """Keeps a piece, and the address of its bytes that were not consumed."""
         self._piece, self._left = piece, len(piece)
-        self._start = ctypes.cast(piece, c_void_p).value or 0
+        self._start = ctypes.cast(ctypes.c_char_p(piece), c_void_p).value or 0
 
     def _read(self, call: Callable[..., int], *row: Any) -> int:
         """Calls the library with the bytes that were not consumed, and with more as long as it asks for more."""

@@ -53,7 +53,9 @@ class PageReader:
 
     def __init__(self, more: Callable[[int], bytes]) -> None:
         self._reader = _PbmReader(lambda: more(_PIECE))
-        self.width, self.height, self.is_plain = self._reader.width, self._reader.height, self._reader.is_plain
+        self.width: int = self._reader.width
+        self.height: int = self._reader.height
+        self.is_plain: bool = self._reader.is_plain
 
     @property
     def unread(self) -> int:
