@@ -1,6 +1,6 @@
 # make               builds both programs into bin/, and runs them on a real page
 # make rust          writes the crates as plain Rust for cargo, without contracts and not proved, to dist/rust and dist/rust.tar.gz
-# make rust-test     builds these, and compares the results with the proved build
+# make rust-test     builds these, compares the results with the proved build, and tests those for other machines
 # make wasm          proves and builds the library as WebAssembly: bin/t85.wasm, with t85.mjs and t85.d.mts for JavaScript
 # make arm           proves and builds the library for ARM: bin/aarch64/libt85.a and bin/aarch64/libt85.so.1.0.0
 # make page          writes the page that shows a stream in a browser, dist/page/index.html
@@ -132,12 +132,13 @@ bin/libjbig85.a: bin/libt85.a $(wildcard bindings/jbig85/jbig85.*) include/t85.h
 # The same source without its contracts, with what cargo needs beside it. The archive has the same bytes each time.
 rust:
 	tools/plain_rust dist/rust
-	cp include/t85.h t85.pc.in dist/rust/libt85
+	cp include/t85.h t85.pc.in t85.map dist/rust/libt85
 	tools/lock dist/rust
 	tar --sort=name --mtime=@0 --owner=0 --group=0 --numeric-owner -C dist -cf - rust | gzip -n > dist/rust.tar.gz
 
 rust-test:
 	tests/plain_rust bin/rust bin
+	tests/rust_targets bin/rust
 
 # The proved library for other machines.
 wasm:

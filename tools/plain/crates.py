@@ -60,7 +60,7 @@ class Crate:
         lines += ['rust-version = "1.63"', f'description = "{tables.ABOUT[self.name]}"', 'readme = "../README.md"', "publish = false"]
         if self.name == "t85":
             # A Rust caller's crate has the same library name, so no rlib is made here.
-            lines += ["", "[lib]", 'name = "t85"', 'crate-type = ["staticlib", "cdylib"]']
+            lines += ["", "[lib]", 'name = "t85"', 'crate-type = ["staticlib", "cdylib"]', "doc = false"]
         features = tables.STD_FEATURES.get(self.name)
         if features:
             lines += ["", "[features]", 'default = ["std"]', f"std = {_list(features)}"]

@@ -156,6 +156,8 @@ class Plain(Erased):
     def word(self, i: int) -> int:
         """Rewrites at a word, and returns the number of the token behind what was read."""
         text = self.tokens[i]
+        if text in ("r", "br") and self.kinds[i + 1] == "string":
+            self.reject(i, "a raw string")
         if text == "ghost":
             return self.erase_ghost(i)
         if text in ("requires", "ensures"):
@@ -234,6 +236,8 @@ class Plain(Erased):
                 i = self.word(i)
             elif kind == "foreign":
                 self.reject(i, f"`{self.tokens[i]}` outside of a clause")
+            elif self.tokens[i : i + 2] == ["/", "*"]:
+                self.reject(i, "a block comment")
             else:
                 i += 1
         text = self.written()

@@ -88,15 +88,24 @@ REJECTED = {
 # A type's size is proved by this line alone, and Rust checks it as it compiles.
 SIZE_CHECK = r"const _: \(\) = prove!\(std::mem::size_of::<\w+>\(\) == \w+\)"
 ROOT_LINES = "#![allow(unused_labels, unused_variables, dead_code, unused_imports, unused_must_use)]\n#![allow(clippy::all, unstable_name_collisions)]\n"
-# Without std, the C library needs a panic handler. The proofs show that no call of it panics.
+# Without std, the C library needs a panic handler, which ends the process. The proofs show that no call of the library panics.
+# Rust's core refers to the last function in builds without optimization.
 PANIC_LINES = """
 #[cfg(not(any(feature = "std", test)))]
 #[panic_handler]
 fn panic(_: &core::panic::PanicInfo<'_>) -> ! {
-    loop {}
+    #[cfg(target_arch = "wasm32")]
+    core::arch::wasm32::unreachable();
+    #[cfg(not(target_arch = "wasm32"))]
+    {
+        extern "C" {
+            fn abort() -> !;
+        }
+        unsafe { abort() }
+    }
 }
 
-#[cfg(not(any(feature = "std", test)))]
+#[cfg(all(debug_assertions, not(any(feature = "std", test))))]
 #[no_mangle]
 pub extern "C" fn rust_eh_personality() {}
 """

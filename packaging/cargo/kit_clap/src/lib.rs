@@ -57,6 +57,12 @@ impl Error {
             clap::error::ErrorKind::InvalidValue => Some(format!(
                 "a value is required for '{arg}' but none was supplied"
             )),
+            clap::error::ErrorKind::TooManyValues => {
+                let value = self.context(ContextKind::InvalidValue)?;
+                Some(format!(
+                    "unexpected value '{value}' for '{arg}' found; no more were expected"
+                ))
+            }
             clap::error::ErrorKind::ValueValidation => {
                 let value = self.context(ContextKind::InvalidValue)?;
                 let source = std::error::Error::source(&self.0)?;
