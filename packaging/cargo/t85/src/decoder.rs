@@ -27,7 +27,7 @@ impl Default for Limits {
     }
 }
 
-/// Decodes a stream whose image is within the default limits. Bytes behind the stream are ignored.
+/// Decodes a stream whose image is within the default limits. Bytes after the stream are ignored.
 ///
 /// # Errors
 ///
@@ -178,7 +178,7 @@ impl<R: Read> Decoder<R> {
         self.header.options & 0x20 != 0
     }
 
-    /// Decodes the next row, packed, the first pixel in the most significant bit; none behind the last row.
+    /// Decodes the next row, packed, the first pixel in the most significant bit. Returns `None` after the last row.
     ///
     /// # Errors
     ///

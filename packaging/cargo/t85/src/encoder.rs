@@ -48,7 +48,7 @@ pub struct Encoder<W> {
 }
 
 impl<W: Write> Encoder<W> {
-    /// Writes the head of a stream. Each call writes the bytes that have become certain with one `write_all`.
+    /// Starts a stream, and writes its header. Each call writes the bytes that later rows cannot change.
     ///
     /// # Errors
     ///
@@ -73,7 +73,7 @@ impl<W: Write> Encoder<W> {
         })
     }
 
-    /// The number of rows that are missing.
+    /// The number of rows that are not yet encoded.
     pub fn rows_left(&self) -> u32 {
         self.encoder.left()
     }

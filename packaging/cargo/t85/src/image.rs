@@ -41,7 +41,7 @@ impl Image {
         })
     }
 
-    /// The rows of a decoder, whose padding is 0; none if there is no row.
+    /// The rows of a decoder, whose padding is 0. Returns `None` if there is no row.
     pub(crate) fn of_rows(width: u32, rows: Vec<u8>) -> Option<Image> {
         let height = u32::try_from(rows.len() / row_bytes(width)).ok()?;
         (height > 0).then_some(Image {
@@ -61,7 +61,7 @@ impl Image {
         self.height
     }
 
-    /// The packed rows, one behind the other; bits after a row's last pixel are 0.
+    /// The packed rows, without gaps; bits after a row's last pixel are 0.
     pub fn rows(&self) -> &[u8] {
         &self.rows
     }
@@ -71,7 +71,7 @@ impl Image {
         self.rows
     }
 
-    /// Whether a pixel is black; none if it is outside of the image.
+    /// Whether a pixel is black. Returns `None` if it is outside of the image.
     pub fn pixel(&self, x: u32, y: u32) -> Option<bool> {
         if x >= self.width {
             return None;
