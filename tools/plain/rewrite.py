@@ -156,7 +156,7 @@ class Plain(Erased):
     def word(self, i: int) -> int:
         """Rewrites at a word, and returns the number of the token behind what was read."""
         text = self.tokens[i]
-        if text in ("r", "br") and self.kinds[i + 1] == "string":
+        if text in ("r", "br") and self.tokens[i + 1][0] in '"#':
             self.reject(i, "a raw string")
         if text == "ghost":
             return self.erase_ghost(i)
