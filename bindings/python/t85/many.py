@@ -77,13 +77,12 @@ class Job:
     stores: Collection[str] = ()
     tree: bool = False
     partial: bool = False
+    files: Files = field(init=False, repr=False, compare=False)
 
     def __post_init__(self) -> None:
-        object.__setattr__(self, "stores", protocols(self.stores))
-
-    @property
-    def files(self) -> Files:
-        return Files(protocols(self.stores))
+        stores = protocols(self.stores)
+        object.__setattr__(self, "stores", stores)
+        object.__setattr__(self, "files", Files(stores))
 
     def __call__(self, name: str) -> Outcome:
         try:
@@ -113,7 +112,8 @@ def _encode(job: Job, name: str) -> Outcome:
     pages, made = pages_of(data), {}
     for before, page in enumerate(pages):
         place = numbered(output, before + 1, len(pages))
-        _refuse_input(name, place)
+        if place != output:
+            _refuse_input(name, place)
         if not _is_finished(job, name, place, functools.partial(_is_stream, job, place, page)):
             try:
                 made[place] = encode(page.rows, page.width, page.height, **job.options)
@@ -210,7 +210,8 @@ def _target(job: Job, name: str) -> str:
 
 
 def _refuse_input(name: str, output: str) -> None:
-    if output == name or identity(name) is not None and identity(output) == identity(name):
+    there = identity(output)
+    if output == name or there is not None and there == identity(name):
         raise OSError(errno.EINVAL, "the output would replace its input")
 
 
