@@ -418,11 +418,35 @@ static void decode_any(const byte *stream, size_t len)
     free(bytes);
 }
 
+/* For a stream that is cut off, the rows decoded are the image's, and the others are white. */
+static void cut_off(const image *of, const text *whole)
+{
+    struct jbg_dec_state s;
+    size_t taken, len = 20 + roll(whole->len - 20);
+    unsigned long y, k;
+    byte mask = (byte)(0xff << (of->row * 8 - of->width));
+    int code = decode(&ours, &s, whole->bytes, len, roll(2) ? len : 0, &taken);
+    const byte *made = own_dec_getimage(&s, 0), *row = of->rows;
+    CHECK(made && (code == JBG_EAGAIN || (code == JBG_EOK && s.i == of->height)));
+    for (y = 0; y < of->height; y++, made += of->row, row += of->row) {
+        int is_white = 1, is_same = 1;
+        for (k = 0; k < of->row; k++) {
+            byte bits = k + 1 == of->row ? mask : 0xff;
+            is_white = is_white && made[k] == 0;
+            is_same = is_same && made[k] == (row[k] & bits);
+        }
+        CHECK(is_same || (is_white && y >= s.i));
+    }
+    own_dec_free(&s);
+}
+
 static void break_up(void)
 {
     image of = random_image(1, 0);
     text whole = encode(&theirs, &of);
     size_t n, k;
+    for (n = 0; of.l0 > 1 && n < 10; n++)
+        cut_off(&of, &whole);
     for (n = 0; n < 20; n++) {
         byte *bytes = copy(whole.bytes, whole.len);
         size_t len = roll(3) ? whole.len : roll(whole.len + 1), from = n < 3 || whole.len == 20 ? 0 : 20;
