@@ -16,6 +16,8 @@
 # make manuals       checks the manual pages
 # make debian        builds the packages of packaging/debian into dist/, and runs lintian on them
 # make jbig85        builds bin/libjbig85.a: the library with JBIG-KIT's functions on top
+# make jbig          builds bin/libjbig.so.0 and bin/libjbig.a: JBIG-KIT's other functions on the library, for one plane
+#                    without layers
 # make interop       exchanges streams with JBIG-KIT's programs and library, and compares the images; runs JBIG-KIT's own
 #                    programs on the library (fetches JBIG-KIT's source with `apt-get`)
 # make charts        encodes and decodes the CCITT test charts with programs and library, and compares with JBIG-KIT's
@@ -28,6 +30,7 @@
 # make pictures      draws the pictures of README.md and docs/ that are made from streams
 # make against       compares both programs with another build, in the folder OTHER
 # make install       installs the programs and the library with their files; see docs/PACKAGING.md
+# make install-jbig  installs what `make jbig` builds, in folders of its own
 # make uninstall     removes what `make install` with the same variables installed
 #
 # CONTRIBUTING.md says what each target needs besides `rt`.
@@ -63,7 +66,7 @@ BUILT = $(PROGRAMS:%=bin/%)
 LIBRARY = bin/libt85.a bin/$(SHARED) bin/$(SONAME) bin/libt85.so
 # The targets that first build the programs, and those that first build the library.
 OF_PROGRAMS = show static turns library-test interop charts libtiff fuzz-python against bench pictures rust-test targets-test
-OF_LIBRARY = library-test interop charts libtiff fuzz fuzz-python bench wheel pictures jbig85 rust-test targets-test
+OF_LIBRARY = library-test interop charts libtiff fuzz fuzz-python bench wheel pictures jbig85 jbig rust-test targets-test
 
 # quoted TEXT: TEXT as one shell word, with its spaces
 quoted = '$(subst ','\'',$(1))'
@@ -128,6 +131,20 @@ bin/libjbig85.a: bin/libt85.a $(wildcard bindings/jbig85/jbig85.*) include/t85.h
 	made=bin/jbig85.$$$$ && mkdir $$made && \
 		$(CC) -std=c99 -O2 -fPIC -Wall -Wextra -Wpedantic $(CFLAGS) -I include -c bindings/jbig85/jbig85.c -o $$made/jbig85.o && \
 		cp bin/libt85.a $$made && $(AR) rs $$made/libt85.a $$made/jbig85.o && mv -f $$made/libt85.a $@ && rm -r $$made
+
+# The functions of JBIG-KIT's jbig.h, in C, together with the library.
+jbig: bin/libjbig.so.0 bin/libjbig.a
+
+bin/libjbig.a: bin/libt85.a $(wildcard bindings/jbig/*.[ch]) include/t85.h
+	made=bin/jbig.$$$$ && mkdir $$made && cp bin/libt85.a $$made && for file in bindings/jbig/*.c; do \
+		$(CC) -std=c99 -O2 -fPIC -Wall -Wextra -Wpedantic $(CFLAGS) -D_GNU_SOURCE -I include -c $$file \
+			-o $$made/$$(basename $$file .c).o || exit 1; done && \
+		$(AR) rs $$made/libt85.a $$made/*.o && mv -f $$made/libt85.a $@ && rm -r $$made
+
+bin/libjbig.so.0: bin/libjbig.a bindings/jbig/jbig.map
+	$(CC) $(LDFLAGS) -shared -Wl,-soname,libjbig.so.0 -Wl,--version-script=bindings/jbig/jbig.map \
+		-Wl,--no-undefined-version -Wl,-z,defs -Wl,-z,relro -Wl,-z,now -Wl,--whole-archive bin/libjbig.a \
+		-Wl,--no-whole-archive -o $@.$$$$ && mv -f $@.$$$$ $@
 
 # The same source without its contracts, with what cargo needs beside it. The archive has the same bytes each time.
 rust:
@@ -238,9 +255,10 @@ manuals:
 debian:
 	tests/debian dist
 
-interop: bin/libjbig85.a
+interop: bin/libjbig85.a jbig
 	tests/interop bin
 	tests/jbig85 bin
+	tests/jbig bin
 
 # The charts are fetched, since they may not be redistributed.
 bin/charts:
@@ -324,6 +342,16 @@ ifeq ($(DESTDIR),)
 		$(call quoted,$(LIBDIR))
 endif
 
+# In folders of its own, since JBIG-KIT's files have the same names. A program uses them only if it gets their path.
+install-jbig: bin/libjbig.so.0 bin/libjbig.a
+	install -D -m 644 bin/libjbig.so.0 $(call at,$(LIBDIR))/t85-jbig/libjbig.so.0
+	ln -sf libjbig.so.0 $(call at,$(LIBDIR))/t85-jbig/libjbig.so
+	install -D -m 644 bin/libjbig.a $(call at,$(LIBDIR))/t85-jbig/libjbig.a
+	install -D -m 644 bindings/jbig/jbig.h $(call at,$(INCLUDEDIR))/t85-jbig/jbig.h
+	new=$$(mktemp) && sed -e 's|@PREFIX@|'$(call written,$(PREFIX))'|; s|@LIBDIR@|'$(call written,$(LIBDIR))'|' \
+		-e 's|@INCLUDEDIR@|'$(call written,$(INCLUDEDIR))'|; s|@VERSION@|$(VERSION)|' bindings/jbig/t85-jbig.pc.in > "$$new" && \
+		install -D -m 644 "$$new" $(call at,$(LIBDIR))/t85-jbig/pkgconfig/t85-jbig.pc && rm "$$new"
+
 uninstall:
 	for program in $(PROGRAMS); do \
 		as=$(call quoted,$(PROGRAM_PREFIX))$$program && \
@@ -332,6 +360,11 @@ uninstall:
 	done
 	rm -f $(call at,$(LIBDIR))/libt85.a $(call at,$(LIBDIR))/libt85.so $(call at,$(LIBDIR))/$(SONAME) \
 		$(call at,$(LIBDIR))/$(SHARED) $(call at,$(LIBDIR))/pkgconfig/t85.pc $(call at,$(INCLUDEDIR))/t85.h
+	rm -f $(call at,$(LIBDIR))/t85-jbig/libjbig.so.0 $(call at,$(LIBDIR))/t85-jbig/libjbig.so \
+		$(call at,$(LIBDIR))/t85-jbig/libjbig.a $(call at,$(LIBDIR))/t85-jbig/pkgconfig/t85-jbig.pc \
+		$(call at,$(INCLUDEDIR))/t85-jbig/jbig.h
+	for folder in $(call at,$(LIBDIR))/t85-jbig/pkgconfig $(call at,$(LIBDIR))/t85-jbig $(call at,$(INCLUDEDIR))/t85-jbig; do \
+		[ ! -d "$$folder" ] || rmdir --ignore-fail-on-non-empty "$$folder"; done
 	for page in t85 $(CALLS); do rm -f $(call at,$(MANDIR))/man3/$$page.3 || exit 1; done
 ifneq ($(PYTHONDIR),)
 	for file in $(MODULE); do rm -f $(call at,$(PYTHONDIR))/$$file || exit 1; done
@@ -342,5 +375,5 @@ endif
 clean:
 	rm -rf bin dist crates/*/out
 
-.PHONY: show build library rust rust-test wasm arm page targets-test static processor documents proofs test turns library-test wheel pictures manuals debian jbig85 \
-	interop charts libtiff fuzz fuzz-python against bench install install-programs install-library uninstall clean
+.PHONY: show build library rust rust-test wasm arm page targets-test static processor documents proofs test turns library-test wheel pictures manuals debian jbig85 jbig \
+	interop charts libtiff fuzz fuzz-python against bench install install-programs install-library install-jbig uninstall clean

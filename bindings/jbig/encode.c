@@ -1,0 +1,215 @@
+/* Implements JBIG-KIT's functions that encode, declared in jbig.h, with t85_encode. */
+#include "shim.h"
+
+#include <stdlib.h>
+#include <string.h>
+
+/* The default of libjbig: a thirty-fifth of the rows, but at most 128 and at least 2. */
+static void set_default_stripe(struct jbg_enc_state *s)
+{
+    s->l0 = jbg_ceil_half(s->yd, s->d) / 35;
+    if (s->l0 > 128ul >> s->d)
+        s->l0 = 128ul >> s->d;
+    if (s->l0 < 2)
+        s->l0 = 2;
+}
+
+void jbg_enc_init(struct jbg_enc_state *s, unsigned long x, unsigned long y, int planes,
+                  unsigned char **p,
+                  void (*data_out)(unsigned char *start, size_t len, void *file), void *file)
+{
+    memset(s, 0, sizeof *s);
+    s->xd = x;
+    s->yd = s->yd1 = y;
+    s->planes = planes;
+    s->lhp[0] = p;
+    s->data_out = data_out;
+    s->file = file;
+    set_default_stripe(s);
+    s->mx = 8;
+    s->order = JBG_ILEAVE | JBG_SMID;
+    s->options = JBG_TPBON | JBG_TPDON | JBG_DPON;
+}
+
+int jbg_enc_lrlmax(struct jbg_enc_state *s, unsigned long mwidth, unsigned long mheight)
+{
+    int d = 0;
+    while (d < 6 && (jbg_ceil_half(s->xd, d) > mwidth || jbg_ceil_half(s->yd, d) > mheight))
+        d++;
+    jbg_enc_layers(s, d);
+    return s->d;
+}
+
+/* Without JBIG-KIT's library no layers are chosen: the stream contains the same image. */
+void jbg_enc_layers(struct jbg_enc_state *s, int d)
+{
+    if (d < 0 || d > 31)
+        return;
+    s->d = s->dh = t85jbig_kit() ? d : 0;
+    s->dl = 0;
+    set_default_stripe(s);
+}
+
+int jbg_enc_lrange(struct jbg_enc_state *s, int dl, int dh)
+{
+    if (dl >= 0 && dl <= s->d)
+        s->dl = dl;
+    if (dh >= s->dl && dh <= s->d)
+        s->dh = dh;
+    return s->d;
+}
+
+void jbg_enc_options(struct jbg_enc_state *s, int order, int options, unsigned long l0, int mx,
+                     int my)
+{
+    if (order >= 0 && order <= 0x0f)
+        s->order = order;
+    if (options >= 0)
+        s->options = options;
+    if (l0 > 0)
+        s->l0 = l0;
+    if (mx >= 0)
+        s->mx = mx < T85_MOST_OFFSET ? (unsigned)mx : T85_MOST_OFFSET;
+    if (my >= 0 && my < 256)
+        s->my = (unsigned)my;
+}
+
+/* Writes the image with JBIG-KIT's library. */
+static void write_by_kit(const kit_calls *kit, struct jbg_enc_state *s)
+{
+    struct jbg_enc_state theirs;
+    kit->enc_init(&theirs, s->xd, s->yd, s->planes, s->lhp[0], s->data_out, s->file);
+    kit->enc_layers(&theirs, s->d);
+    kit->enc_lrange(&theirs, s->dl, s->dh);
+    kit->enc_options(&theirs, s->order, s->options, s->l0, (int)s->mx, (int)s->my);
+    theirs.yd1 = s->yd1;
+    if (s->dppriv)
+        theirs.dppriv = s->dppriv;
+    theirs.comment = s->comment;
+    theirs.comment_len = s->comment_len;
+    kit->enc_out(&theirs);
+    s->comment = theirs.comment;
+    kit->enc_free(&theirs);
+}
+
+static t85_options options_of(const struct jbg_enc_state *s)
+{
+    t85_options options = T85_OPTIONS;
+    options.options = (uint32_t)s->options & (T85_TWO_LINES | T85_VARIABLE_HEIGHT | T85_TYPICAL);
+    options.stripe_rows = t85jbig_word(s->l0);
+    options.most_offset = s->mx;
+    options.announces_height = s->yd1 > s->yd;
+    options.announced_height = t85jbig_word(s->yd1);
+    options.reset = (s->options & JBG_SDRST) != 0;
+    options.has_comment = s->comment != NULL;
+    return options;
+}
+
+/* Encodes the image into `room` bytes of `stream`, and returns a status of t85.h. */
+static int encode(const struct jbg_enc_state *s, unsigned char *stream, size_t room,
+                  size_t *written)
+{
+    uint32_t width = t85jbig_word(s->xd), height = t85jbig_word(s->yd);
+    size_t row = t85_row_bytes(width), window_len = t85_window_bytes(width);
+    t85_options options = options_of(s);
+    unsigned char *window = malloc(window_len);
+    int status;
+    *written = 0;
+    if (!window)
+        return T85_SHORT_WINDOW;
+    status = t85_encode(width, height, s->lhp[0][0], row * height, row, &options, s->comment,
+                        s->comment ? s->comment_len : 0, window, window_len, stream, room, written);
+    free(window);
+    return status;
+}
+
+/* Returns whether libt85 may be called with the numbers of this encoder. */
+static bool is_possible(const struct jbg_enc_state *s)
+{
+    return s->planes == 1 && s->d == 0 && s->xd > 0 && s->xd <= T85_MOST_WIDTH &&
+           s->yd <= UINT32_MAX && (!s->comment || s->comment_len <= UINT32_MAX) &&
+           s->yd <= PTRDIFF_MAX / 4 / t85_row_bytes((uint32_t)s->xd);
+}
+
+/* Returns the stream in memory of its own, or NULL. A buffer as long as the image is almost always long enough. */
+static unsigned char *encoded(const struct jbg_enc_state *s, size_t *len)
+{
+    size_t room;
+    if (!is_possible(s))
+        return NULL;
+    room = t85_row_bytes((uint32_t)s->xd) * s->yd + (s->comment ? s->comment_len : 0) + JBG_BUFSIZE;
+    while (room <= PTRDIFF_MAX / 2) {
+        unsigned char *stream = malloc(room);
+        int status = stream ? encode(s, stream, room, len) : T85_SHORT_WINDOW;
+        if (status == T85_OK)
+            return stream;
+        free(stream);
+        if (status != T85_NO_ROOM)
+            return NULL;
+        room *= 2;
+    }
+    return NULL;
+}
+
+static void pass_on(const struct jbg_enc_state *s, unsigned char *bytes, size_t len, size_t most)
+{
+    while (len > 0) {
+        size_t part = len < most ? len : most;
+        s->data_out(bytes, part, s->file);
+        bytes += part;
+        len -= part;
+    }
+}
+
+/* Passes on a stream in the calls that libjbig makes: one for the header, two for a comment, and for each stripe, with
+   the move before it, one for JBG_BUFSIZE bytes at a time. */
+static void pass_on_parts(const struct jbg_enc_state *s, unsigned char *stream, size_t len)
+{
+    t85_part part = T85_PART;
+    size_t passed = 0;
+    while (t85_next_part(stream, len, &part) == T85_OK) {
+        size_t end = part.offset + part.len;
+        if (part.kind == T85_PART_MOVE)
+            continue;
+        if (part.kind == T85_PART_COMMENT) {
+            size_t text = end - s->comment_len;
+            s->data_out(stream + passed, text - passed, s->file);
+            s->data_out(stream + text, s->comment_len, s->file);
+        } else {
+            pass_on(s, stream + passed, end - passed, JBG_BUFSIZE);
+        }
+        passed = end;
+    }
+    pass_on(s, stream + passed, len - passed, JBG_BUFSIZE);
+}
+
+void jbg_enc_out(struct jbg_enc_state *s)
+{
+    const kit_calls *kit = t85jbig_kit();
+    unsigned char aborted[2] = {0xff, 0x04}; /* the marker ABORT of T.82, 6.2.5 */
+    unsigned char *stream;
+    size_t len;
+    s->stripes = jbg_stripes(s->l0, s->yd, (unsigned long)s->d);
+    if (kit && (s->planes != 1 || s->d > 0 || s->xd > T85_MOST_WIDTH)) {
+        write_by_kit(kit, s);
+        return;
+    }
+    stream = encoded(s, &len);
+    if (!stream) {
+        /* No function can report that a stream cannot be written, so its reader must notice. */
+        s->data_out(aborted, sizeof aborted, s->file);
+        return;
+    }
+    /* Printers compare these fields, although they have no meaning for one layer. */
+    stream[17] = (unsigned char)s->my;
+    stream[18] = (unsigned char)s->order;
+    stream[19] |= (unsigned char)(s->options & (JBG_TPDON | JBG_DPON));
+    pass_on_parts(s, stream, len);
+    s->comment = NULL;
+    free(stream);
+}
+
+void jbg_enc_free(struct jbg_enc_state *s)
+{
+    (void)s;
+}
