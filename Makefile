@@ -166,8 +166,9 @@ wasm:
 arm:
 	@$(locked) && tools/target aarch64 bin/aarch64 9>&-
 
+# If `make rust-test` has built the plain library for 32-bit memories, the page offers it, too, and says that it is not proved.
 page: wasm
-	tools/page bin/t85.wasm dist/page/index.html
+	tools/page bin/t85.wasm $(wildcard bin/rust/targets/wasm32-unknown-unknown/release/t85.wasm) dist/page/index.html
 
 targets-test: arm page
 	tests/targets bin

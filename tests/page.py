@@ -134,6 +134,26 @@ def compare(page, binaries, path, states):
     return len(found)
 
 
+def without_wide_memories(page, html, work):
+    """Opens the page where its module cannot be loaded: a sentence says why, and the unproved one is used only on request."""
+    with open(html, encoding="utf-8") as file:
+        text = file.read()
+    fails = "<script>const all = WebAssembly.instantiate; WebAssembly.instantiate = () => { WebAssembly.instantiate = all; return Promise.reject(new Error('no memory64')); };</script>"
+    with open(os.path.join(work, "page.html"), "w", encoding="utf-8") as file:
+        file.write(text.replace('<script type="module">', fails + '<script type="module">'))
+    page.call("POST", "/url", {"url": f"file://{work}/page.html"})
+    page.until("return document.getElementById('state').textContent.includes('64-bit memories')")
+    assert page.run("return document.getElementById('file').disabled")
+    if 'WASM32 = ""' in text:
+        assert page.run("return document.getElementById('unproved').hidden")
+        return
+    page.run("document.querySelector('#unproved button').click()")
+    page.until("return document.body.dataset.ready === 'yes'")
+    assert "It is not proved" in page.text("about"), page.text("about")
+    page.choose(os.path.abspath(LETTER))
+    assert "complete" in page.text("state"), page.text("state")
+
+
 def streams(work):
     """Writes streams: sound, broken, with a late height, and wide."""
 
@@ -184,6 +204,7 @@ def main():
         assert "letter.jbg" in page.text("state"), page.text("state")
         facts = page.text("facts")
         assert "416" in facts and "typical prediction" in facts, facts
+        without_wide_memories(page, html, work)
     with browser(360) as page:
         page.call("POST", "/url", {"url": f"file://{html}"})
         page.until("return document.body.dataset.ready === 'yes'")
