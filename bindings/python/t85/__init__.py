@@ -550,6 +550,10 @@ class _PbmReader:
                 return int(_LIBRARY.t85_pbm_end(self._lent))
 
 
+# The bytes that Python takes for each row in a list, besides those of the row.
+_ROW_COST = 48
+
+
 class Decoder:
     """Decodes a stream that arrives in pieces.
 
@@ -575,8 +579,8 @@ class Decoder:
 
     max_rows   the most rows that are returned: an image of more is rejected, with the header or, if a later height may follow,
                once more rows are certain or one more is decoded; None, the default, means no limit
-    max_bytes  the most bytes of rows in one list: feed and end raise an Error, after which the decoder cannot be used, if a
-               call decodes more; None means no limit
+    max_bytes  the most bytes of a list of rows, where each row counts 48 more than it has: feed and end raise an Error, after
+               which the decoder cannot be used, if a call decodes more; None means no limit
     """
 
     def __init__(self, *, max_rows: Optional[int] = None, max_bytes: Optional[int] = MAX_BYTES) -> None:
@@ -628,9 +632,9 @@ class Decoder:
         found: list[bytes] = []
         length = 0
         for row in rows:
-            length += len(row)
+            length += len(row) + _ROW_COST
             if self._most is not None and length > self._most:
-                text = f"the call decodes more than {self._most} bytes of rows: use rows, or a greater max_bytes"
+                text = f"the list of rows takes more than {self._most} bytes: use rows, or a greater max_bytes"
                 raise Error(_NO_ROOM, self._partial(found), text)
             found.append(row)
         self._is_busy = False
