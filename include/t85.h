@@ -226,9 +226,11 @@ typedef struct {
 } t85_decoder;
 
 #define T85_ENCODER_BYTES 5360
+#define T85_ENCODER_LEAST 4664
 
 /* The state of an encoder for an image row by row. It may be on the stack or on the heap, and may
-   be moved between calls. Calls are memory-safe whatever bytes it contains. For an encoder of all
+   be moved between calls. No call reads or writes more than its first T85_ENCODER_LEAST bytes, so a
+   caller with less memory may reserve only these. Calls are memory-safe whatever bytes it contains. For an encoder of all
    zeros, t85_encode_row, t85_encode_offset and t85_encode_end return T85_NOT_BEGUN. */
 typedef struct {
     uint64_t opaque[T85_ENCODER_BYTES / 8];
@@ -405,9 +407,9 @@ T85_NO_NULL((1))
 uint32_t t85_decode_height(const t85_decoder *decoder);
 
 /* Starts the stream of an image whose rows are passed one by one, and writes its header and
-   comment: 20 bytes, and with a comment 6 more and its length. `size` must be sizeof(t85_encoder).
-   `height` is the number of rows or, if options->announces_height is set, the greatest number of
-   rows.
+   comment: 20 bytes, and with a comment 6 more and its length. `size` is the number of bytes at
+   `encoder`, from T85_ENCODER_LEAST to sizeof(t85_encoder). `height` is the number of rows or, if
+   options->announces_height is set, the greatest number of rows.
 
    From this call to the end, each call needs the same window of at least t85_window_bytes(width)
    bytes. It may be moved between calls, but its contents must be preserved, or rebuilt as

@@ -43,7 +43,7 @@ static row_by_row places_for(uint32_t width, size_t room)
 {
     row_by_row by;
     for (by.turn = 0; by.turn < 2; by.turn++) {
-        by.states[by.turn] = filled(sizeof(t85_encoder));
+        by.states[by.turn] = filled(T85_ENCODER_LEAST);
         by.windows[by.turn] = filled(t85_window_bytes(width));
     }
     by.room = lend(room);
@@ -142,7 +142,7 @@ static void encode_rows_in(uint32_t width, uint32_t height, uint32_t most_rows, 
     buffer room = room_of(&by, front);
     uint32_t y;
     uint8_t status =
-        t85_encode_start(encoder_of(&by), sizeof(t85_encoder), width, most_rows, options,
+        t85_encode_start(encoder_of(&by), T85_ENCODER_LEAST, width, most_rows, options,
                          comment.bytes, comment.len, by.windows[0].bytes, by.windows[0].len,
                          room.bytes, room.len, &written);
     if (status != T85_OK || written != front)
@@ -306,8 +306,8 @@ static void starts(uint32_t width, uint32_t height)
     size_t size = sizeof(t85_encoder), three = t85_window_bytes(width), len;
     t85_options options = T85_OPTIONS;
     for (len = 0; len < 2 * size; len += 8)
-        if (len != size)
-            unstarted(T85_OTHER_VERSION, len, 0, 0, &options, 0, 0, 0);
+        unstarted(len < T85_ENCODER_LEAST || len > size ? T85_OTHER_VERSION : T85_NO_PIXELS, len, 0,
+                  0, &options, 0, 0, 0);
     options.version = T85_OPTIONS_VERSION + 1;
     unstarted(T85_OTHER_VERSION, size, width, height, &options, 0, three, 100);
     options.version = T85_OPTIONS_VERSION;
@@ -389,7 +389,7 @@ static void row_encoder_states(buffer rows, uint32_t width)
     if (t85_encode_rows_left(encoder_of(&by)) || t85_encode_room(encoder_of(&by)))
         fail("an encoder of zeros goes on");
     room = room_of(&by, 20);
-    if (t85_encode_start(encoder_of(&by), sizeof(t85_encoder), width, 2, &options, NULL, 0,
+    if (t85_encode_start(encoder_of(&by), T85_ENCODER_LEAST, width, 2, &options, NULL, 0,
                          by.windows[0].bytes, three, room.bytes, room.len, &written))
         fail("t85_encode_start");
     goes_on(whole, &at, room, written);
@@ -414,7 +414,7 @@ static void row_encoder_states(buffer rows, uint32_t width)
     options.announces_height = true;
     options.announced_height = 9;
     room = room_of(&by, 20);
-    if (t85_encode_start(encoder_of(&by), sizeof(t85_encoder), width, 5, &options, NULL, 0,
+    if (t85_encode_start(encoder_of(&by), T85_ENCODER_LEAST, width, 5, &options, NULL, 0,
                          by.windows[0].bytes, three, room.bytes, room.len, &written))
         fail("t85_encode_start after an end");
     unmoved(T85_ROWS_MISSING, &by, NULL, 0, 0, 0);

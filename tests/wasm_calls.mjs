@@ -100,7 +100,7 @@ assert.equal(call("t85_best_offset", encoder, rows, 1, window, 300, place(300), 
 assert.equal(call("t85_encode_end", encoder, window, 300, room, 4096, written), 53);
 assert.deepEqual([call("t85_encode_rows_left", encoder), call("t85_encode_room", encoder)], [0, 0]);
 const start = (size, width) => call("t85_encode_start", encoder, size, width, 1, options(), rows, 0, window, 300, room, 4096, written);
-assert.deepEqual([start(5359, 8), start(5360, 0)], [50, 33]);
+assert.deepEqual([start(4663, 8), start(5361, 8), start(5360, 0)], [50, 50, 33]);
 assert.deepEqual([start(5360, 8), word(written), [...bytes(room, 20)]], [0, 20, BLACK.slice(0, 20)]);
 assert.equal(call("t85_encode_rows_left", encoder), 1);
 assert.ok(call("t85_encode_room", encoder) > 0);

@@ -44,8 +44,8 @@ CountsRow c bytes = AgreesAt bytes c.width c.least c.most c.agreed
 
 -- The stored numbers are those of the stored row, if there is one: its counts, and the count below itself, if that was made.
 pub record KeepsCounts (c : Counted) : Type 0 where
-  pub counts : c.len ≤ 2048 → CountsRow c (take c.len c.row)
-  pub below : c.len ≤ 2048 → c.below_itself ≤ 2 ^ 32 → AgreesBelowItself (take c.len c.row) c.width c.below_itself
+  pub counts : c.len ≤ 1408 → CountsRow c (take c.len c.row)
+  pub below : c.len ≤ 1408 → c.below_itself ≤ 2 ^ 32 → AgreesBelowItself (take c.len c.row) c.width c.below_itself
 
 -- The tally has counted these rows, at this width and offset. It stores the right numbers for the last row, for adding it again.
 pub record CountsLines (t : Tally) (width current : ℕ) (rows : List Lines) : Type 0 where

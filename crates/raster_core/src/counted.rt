@@ -9,7 +9,7 @@ ghost use Rattle.raster_core.specs.Machine.Words.{AgreesAt};
 use crate::agreement::{add_all, add_word, agreeing_in_row};
 use crate::words::{mask_at, word_at};
 
-/// For each lag, the number of pixels of a row that equal the pixel `lag` to their left. A row of at most 2,048 bytes
+/// For each lag, the number of pixels of a row that equal the pixel `lag` to their left. A row of at most 1,408 bytes
 /// is stored, so that the same row is not counted again. The struct may be in memory with arbitrary contents: no number
 /// relies on another.
 #[repr(C)]
@@ -19,12 +19,12 @@ pub struct Counted {
     /// is counted when it is first needed; until then, it is above 2^32.
     below_itself: u64,
     width: u32,
-    /// The length of the row in bytes, or more than 2,048 if none is stored.
+    /// The length of the row in bytes, or more than 1,408 if none is stored.
     len: u16,
     least: u8,
     most: u8,
     pub(crate) agreed: [u64; 128],
-    row: [u8; 2048],
+    row: [u8; 1408],
 }
 
 impl Counted {
@@ -36,8 +36,8 @@ impl Counted {
         ensures { KeepsCounts result }
     {
         Counted {
-            row: [0; 2048],
-            len: 2049,
+            row: [0; 1408],
+            len: 1409,
             width: 0,
             least: 0,
             most: 0,
@@ -50,7 +50,7 @@ impl Counted {
     pub(crate) fn discard(&mut self)
         ensures { KeepsCounts self.new }
     {
-        self.len = 2049;
+        self.len = 1409;
     }
 
     /// Whether the counts are those of this row and these lags.
@@ -64,7 +64,7 @@ impl Counted {
         if width != self.width || least != self.least || most != self.most {
             return false;
         }
-        if self.len > 2048 {
+        if self.len > 1408 {
             return false;
         }
         row == &self.row[..usize::from(self.len)]
@@ -77,7 +77,7 @@ impl Counted {
         requires most { most ≤ 127 }
         ensures counts { CountsRow self.new row.now }
         ensures kept { KeepsCounts self.new }
-        ensures row { self.new.len ≤ 2048 → take self.new.len self.new.row ≡ row.now }
+        ensures row { self.new.len ≤ 1408 → take self.new.len self.new.row ≡ row.now }
         ensures width { self.new.width ≡ width }
         ensures least { self.new.least ≡ least }
         ensures most { self.new.most ≡ most }
@@ -99,7 +99,7 @@ impl Counted {
     /// The number of pixels of the last row counted that equal the adaptive pixel at `offset`.
     pub(crate) fn agreeing(&mut self, row: &[u8], above: &[u8], offset: u8) -> u64
         requires offset { offset ≤ 127 }
-        requires row { self.old.len ≤ 2048 → take self.old.len self.old.row ≡ row.now }
+        requires row { self.old.len ≤ 1408 → take self.old.len self.old.row ≡ row.now }
         ensures agreed { (lines : Lines) → KeepsCounts self.old → CountsRow self.old row.now →
             row.now ≡ packed_row lines.row → above.now ≡ packed_row lines.above → result ≡
             part_agreement lines self.old.width offset 0 (64 * div_ceil self.old.width 64) }
@@ -108,7 +108,7 @@ impl Counted {
     {
         if self.least <= offset && offset <= self.most {
             self.agreed[usize::from(offset)]
-        } else if offset == 0 && self.len <= 2048 && row == above {
+        } else if offset == 0 && self.len <= 1408 && row == above {
             self.agreeing_below_itself()
         } else {
             agreeing_in_row(row, above, self.width, offset)
@@ -118,7 +118,7 @@ impl Counted {
     /// The number of pixels of the last row counted that equal the adaptive pixel in its nominal position, if the row
     /// above is the same row.
     fn agreeing_below_itself(&mut self) -> u64
-        requires { self.old.len ≤ 2048 }
+        requires { self.old.len ≤ 1408 }
         ensures agreed { KeepsCounts self.old →
             AgreesBelowItself (take self.old.len self.old.row) self.old.width result }
         ensures kept { KeepsCounts self.old → KeepsCounts self.new }
@@ -134,13 +134,13 @@ impl Counted {
     }
 }
 
-/// Copies a row of at most 2,048 bytes to the front, and returns its length; for a longer row, returns 2,049.
-fn keep(kept: &mut [u8; 2048], row: &[u8]) -> u16
-    ensures { result ≤ 2048 → take result kept.new ≡ row.now }
+/// Copies a row of at most 1,408 bytes to the front, and returns its length; for a longer row, returns 1,409.
+fn keep(kept: &mut [u8; 1408], row: &[u8]) -> u16
+    ensures { result ≤ 1408 → take result kept.new ≡ row.now }
 {
     let len = row.len();
-    if len > 2048 {
-        return 2049;
+    if len > 1408 {
+        return 1409;
     }
     kept[..len].copy_from_slice(row);
     len as u16

@@ -99,7 +99,7 @@ impl Tally {
         requires lags { (1 ≤ least) × (least < 64) × (most ≤ 127) }
         ensures counts { KeepsCounts self.old.last → CountsRow self.new.last row.now }
         ensures kept { KeepsCounts self.old.last → KeepsCounts self.new.last }
-        ensures row { self.new.last.len ≤ 2048 → take self.new.last.len self.new.last.row ≡
+        ensures row { self.new.last.len ≤ 1408 → take self.new.last.len self.new.last.row ≡
             row.now }
         ensures last { (self.new.last.width ≡ width) × (self.new.last.least ≡ least) ×
             (self.new.last.most ≡ most) }

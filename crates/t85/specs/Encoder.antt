@@ -126,11 +126,15 @@ pub record StartCall : Type 0 where
 abbrev pub start_call : ℕ → ℕ → ℕ → T85Options → List ℕ → StartCall
 start_call size width height choice comment = record { size = size; width = width; height = height; choice = choice; comment = comment }
 
+-- whether a caller's struct may have this size: it has room for the state, and is not longer than that of t85.h
+abbrev pub may_be_size : ℕ → Bool
+may_be_size size = not (nat_lt size 4664) && not (nat_lt 5360 size)
+
 -- the first error, in this order: the size of the struct, the errors of an encoding call, and the length of the buffer for the
 -- head
 abbrev pub start_refusal : StartCall → ℕ → ℕ → Option ℕ
 start_refusal call window room =
-    or_else (status_if (not (call.size == 5360)) 50)
+    or_else (status_if (not (may_be_size call.size)) 50)
     (or_else (refusal_told call.choice call.comment call.width call.height (div_ceil call.width 8) window)
     (status_if (nat_lt room (head_length call.choice (length call.comment))) 18))
 

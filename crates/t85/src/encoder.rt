@@ -31,10 +31,13 @@ use raster_core::{Window, window_bytes};
 use t85_core::laws::{code_denotes, elsewhere};
 use t85_core::{Fault, Learning, Options, RowEncoder, RowNumbers};
 
-/// The version of `T85Encoder`, and its size in bytes.
+/// The version of `T85Encoder`.
 const VERSION: u32 = 1;
 
-const SIZE: usize = 5360;
+/// The sizes in bytes that the caller's struct may have: at least that of `T85Encoder`, at most that of t85.h.
+const LEAST: usize = 4664;
+
+const MOST: usize = 5360;
 /// The next call: a row or the end, or nothing more.
 const ROWS: u32 = 1;
 
@@ -78,12 +81,13 @@ pub struct T85Encoder {
     pub zeros: u64,
     pub ones: u64,
     pub events: u64,
-    pub reserved: [u64; 12],
+    pub reserved: [u64; 5],
     pub learning: Learning,
 }
 
-/// Starts a stream: writes its header and its comment. `size` is the size of the caller's struct. The height is the
-/// number of rows or, if a height is announced, the greatest number of rows.
+/// Starts a stream: writes its header and its comment. `size` is the size of the caller's struct, from 4664 to 5360
+/// bytes, of which no call uses more than the first 4664. The height is the number of rows or, if a height is announced,
+/// the greatest number of rows.
 ///
 /// Returns 0, or the first of these errors that applies, with nothing written or changed: 50 if the struct has another
 /// size, or the options another version; 20, 21, 22 or 26 if the options are invalid; 33 if the width or the height is
@@ -108,11 +112,8 @@ pub extern "C" fn t85_encode_start(
         (lending stream.old stream.new written.new result) }
 {
     *written = 0;
-    if size != SIZE {
-        return OTHER_VERSION;
-    }
     let (room, bytes) = (stream.len(), window.len());
-    let (size, options) = match judge_start(width, height, choice, comment, bytes, room) {
+    let (size, options) = match judge_start(size, width, height, choice, comment, bytes, room) {
         Ok(job) => job,
         Err(status) => return status,
     };
@@ -222,6 +223,7 @@ pub extern "C" fn t85_encode_room(encoder: &T85Encoder) -> u64
 
 /// The size and the options of a stream to be started, or the status of the first error.
 fn judge_start<'a>(
+    size: usize,
     width: u32,
     height: u32,
     choice: &T85Options,
@@ -230,9 +232,9 @@ fn judge_start<'a>(
     room: usize,
 ) -> Result<(Size, Options<'a>), u8>
     ensures judged { MatchResult result
-        (λ _. start_refusal (start_call 5360 width height choice.now comment.now) window room
+        (λ _. start_refusal (start_call size width height choice.now comment.now) window room
         ≡ None)
-        (λ status. start_refusal (start_call 5360 width height choice.now comment.now) window room
+        (λ status. start_refusal (start_call size width height choice.now comment.now) window room
         ≡ Some status) }
     ensures width { IfOk result (λ job. job.0.width ≡ width) }
     ensures height { IfOk result (λ job. job.0.height ≡ height) }
@@ -241,6 +243,9 @@ fn judge_start<'a>(
     ensures enough { IfOk result (λ _. window_of width ≤ window) }
     ensures room { IfOk result (λ job. length (head_of (settings_of job.1) width height) ≤ room) }
 {
+    if size < LEAST || size > MOST {
+        return Err(OTHER_VERSION);
+    }
     let job = judge(width, height, row_bytes(width), choice, comment, window)?;
     if room < head_length(choice, comment) {
         return Err(FULL);
@@ -330,7 +335,7 @@ impl T85Encoder {
         self.announces_height = u8::from(options.announced.is_some());
         self.reset = u8::from(options.reset);
         self.spare = [0; 5];
-        self.reserved = [0; 12];
+        self.reserved = [0; 5];
     }
 
     /// The options except the comment, if they are valid.
@@ -614,4 +619,4 @@ fn end_in(
     engine.finish(window, learning, room).is_ok();
 }
 
-const _: () = prove!(std::mem::size_of::<T85Encoder>() == SIZE);
+const _: () = prove!(std::mem::size_of::<T85Encoder>() == LEAST);

@@ -38,7 +38,7 @@ fn zeros() -> T85Encoder {
         zeros: 0,
         ones: 0,
         events: 0,
-        reserved: [0; 12],
+        reserved: [0; 5],
         learning: Learning::new(),
     }
 }
@@ -238,6 +238,31 @@ fn encoders_that_were_not_begun_are_told(rt: HostRuntime) {
     assert!(rt; statuses(1, 0) == (53, 53));
     assert!(rt; statuses(2, 1) == (53, 53));
     assert!(rt; statuses(0, 2) == (53, 53));
+}
+
+/// The status of starting an example for a struct of this many bytes, with a window that is too short.
+fn starts_sized(size: usize) -> u8 {
+    let (example, mut encoder) = (&CODED[0], zeros());
+    let (mut window, mut stream, mut written) = ([0xaa; 2], [0xaa; 20], 77);
+    let (width, height, options) = (example.width, example.height, &example.options);
+    t85_encode_start(
+        &mut encoder,
+        size,
+        width,
+        height,
+        options,
+        b"",
+        &mut window,
+        &mut stream,
+        &mut written,
+    )
+}
+
+#[test]
+fn structs_have_room_for_the_state(rt: HostRuntime) {
+    assert!(rt; starts_sized(0) == 50 && starts_sized(4663) == 50);
+    assert!(rt; starts_sized(4664) == 19 && starts_sized(5200) == 19);
+    assert!(rt; starts_sized(5360) == 19 && starts_sized(5361) == 50);
 }
 
 /// The status of starting an example with an output buffer of this many bytes, and the number of bytes written.
