@@ -20,6 +20,7 @@
 #                    without layers
 # make interop       exchanges streams with JBIG-KIT's programs and library, and compares the images; runs JBIG-KIT's own
 #                    programs on the library (fetches JBIG-KIT's source with `apt-get`)
+# make clients       runs Debian's printer drivers, TIFF tools and image programs on JBIG-KIT's library and on bin/libjbig.so.0
 # make charts        encodes and decodes the CCITT test charts with programs and library, and compares with JBIG-KIT's
 #                    programs (fetches the charts with `apt-get`)
 # make libtiff       builds Debian's libtiff with the library instead of JBIG-KIT's, and exchanges TIFF files with Debian's
@@ -66,7 +67,7 @@ BUILT = $(PROGRAMS:%=bin/%)
 LIBRARY = bin/libt85.a bin/$(SHARED) bin/$(SONAME) bin/libt85.so
 # The targets that first build the programs, and those that first build the library.
 OF_PROGRAMS = show static turns library-test interop charts libtiff fuzz-python against bench pictures rust-test targets-test
-OF_LIBRARY = library-test interop charts libtiff fuzz fuzz-python bench wheel pictures jbig85 jbig rust-test targets-test
+OF_LIBRARY = library-test interop clients charts libtiff fuzz fuzz-python bench wheel pictures jbig85 jbig rust-test targets-test
 
 # quoted TEXT: TEXT as one shell word, with its spaces
 quoted = '$(subst ','\'',$(1))'
@@ -261,6 +262,10 @@ interop: bin/libjbig85.a jbig
 	tests/jbig85 bin
 	tests/jbig bin
 
+# Runs the programs that are installed.
+clients: jbig
+	tests/clients bin
+
 # The charts are fetched, since they may not be redistributed.
 bin/charts:
 	bench/charts $@
@@ -377,4 +382,4 @@ clean:
 	rm -rf bin dist crates/*/out
 
 .PHONY: show build library rust rust-test wasm arm page targets-test static processor documents proofs test turns library-test wheel pictures manuals debian jbig85 jbig \
-	interop charts libtiff fuzz fuzz-python against bench install install-programs install-library install-jbig uninstall clean
+	interop clients charts libtiff fuzz fuzz-python against bench install install-programs install-library install-jbig uninstall clean
