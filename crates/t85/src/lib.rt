@@ -19,6 +19,7 @@ mod opened;
 mod options;
 mod parts;
 mod pbm;
+mod raw_header;
 mod status;
 mod summary;
 #[cfg(test)]
@@ -45,6 +46,7 @@ pub use crate::message::t85_message;
 pub use crate::options::T85Options;
 pub use crate::parts::{T85Part, t85_next_part};
 pub use crate::pbm::{T85Pbm, t85_pbm_end, t85_pbm_header, t85_pbm_row, t85_pbm_start};
+pub use crate::raw_header::{T85RawHeader, t85_raw_header};
 pub use crate::summary::{T85Summary, t85_info};
 
 /// Returns the version of the library: one byte each for the major number, the minor number and the patch.

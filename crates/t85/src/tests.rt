@@ -2,6 +2,7 @@
 
 mod pbm;
 mod pieces;
+mod raw_header;
 mod rows;
 
 use crate::{
