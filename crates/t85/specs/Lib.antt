@@ -3,6 +3,7 @@ pub mod Delivered
 pub mod Facts
 pub mod Header
 pub mod RawHeader
+pub mod UnusedFields
 pub mod Summary
 pub mod Decoded
 pub mod DecodedRows

@@ -24,6 +24,7 @@ mod status;
 mod summary;
 #[cfg(test)]
 mod tests;
+mod unused_fields;
 
 ghost use Rattle.std.specs.Prelude.{◌≡◌};
 ghost use Rattle.t85.specs.Decoded.{window_bytes};
@@ -48,6 +49,7 @@ pub use crate::parts::{T85Part, t85_next_part};
 pub use crate::pbm::{T85Pbm, t85_pbm_end, t85_pbm_header, t85_pbm_row, t85_pbm_start};
 pub use crate::raw_header::{T85RawHeader, t85_raw_header};
 pub use crate::summary::{T85Summary, t85_info};
+pub use crate::unused_fields::t85_set_unused_fields;
 
 /// Returns the version of the library: one byte each for the major number, the minor number and the patch.
 #[unsafe(no_mangle)]

@@ -4,6 +4,7 @@ mod pbm;
 mod pieces;
 mod raw_header;
 mod rows;
+mod unused;
 
 use crate::{
     T85Header, T85Options, T85Summary, t85_decode, t85_decode_rows, t85_encode, t85_encode_bound,
