@@ -13,6 +13,7 @@ pub mod DecoderStart
 pub mod DecoderState
 pub mod Encoded
 pub mod Encoder
+pub mod EncoderAbort
 pub mod BestOffset
 pub mod Bound
 pub mod Message

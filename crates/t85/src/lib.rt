@@ -35,6 +35,7 @@ pub use crate::decoder::{
 };
 pub use crate::decoding::t85_decode;
 pub use crate::decoding_rows::t85_decode_rows;
+pub use crate::encoder::abort::t85_encode_abort;
 pub use crate::encoder::best::t85_best_offset;
 pub use crate::encoder::{
     T85Encoder, t85_encode_end, t85_encode_offset, t85_encode_room, t85_encode_row,

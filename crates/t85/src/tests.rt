@@ -1,5 +1,6 @@
 //! Tests of the library's functions on worked examples.
 
+mod abort;
 mod pbm;
 mod pieces;
 mod raw_header;
