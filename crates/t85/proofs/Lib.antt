@@ -11,6 +11,7 @@ pub mod Placed
 pub mod RawRows
 pub mod Rowed
 pub mod SameImage
+pub mod SameHeight
 pub mod Stored
 pub mod Taken
 pub mod UnusedBytes

@@ -1,12 +1,12 @@
 -- Headers that differ, with which the same bytes denote the same raster.
-use Rattle.std.proofs.Common.{◌≡◌, ◌≤◌, ◌==◌, ℕ, ◌/◌, ◌%◌, Bool, List, [], ◌∷◌, ◌++◌, drop, map, refl, sym, ap, subst, inl, inr, arith, ◌∙◌}
+use Rattle.std.proofs.Common.{◌≡◌, ℕ, Bool, List, [], ◌∷◌, drop, map, sym, ap, subst, inl, inr, ◌∙◌}
 use Rattle.std.specs.Prelude.{IsTrue}
 use Rattle.std.specs.List.{AllByRecursion}
 use Rattle.raster_core.specs.Raster.{Raster}
-use Rattle.t85_core.specs.Coding.{Coding, HasLegalFlags, has_bit, mode_of}
+use Rattle.t85_core.specs.Coding.{HasLegalFlags, has_bit, mode_of}
 use Rattle.t85_core.specs.Denotes.{Denotes, DenotesAt, EachLies, coding_in}
 use Rattle.t85_core.specs.Grammar.{Segment, NewLength, Move, Comment, AreStripes, IsBegun, IsLegal, Parts, Stripe}
-use Rattle.t85_core.specs.Header.{Fields, HeaderOf, is_variable}
+use Rattle.t85_core.specs.Header.{Fields, HeaderOf}
 use Rattle.t85_core.specs.Height.{GivesHeight, IsHeight}
 
 -- ---- other options
@@ -43,10 +43,16 @@ each_with h o a (s ∷ stripes) e = (begun_with h o a s.segments s.code e.0, eac
 gives_with : (h : Fields) (o : ℕ) → AreAlike h.options o → (body : List ℕ) (height : ℕ) → GivesHeight h body height → GivesHeight (with_options h o) body height
 gives_with h o a body height g = record {
   variable = subst IsTrue a.variable g.variable;
-  stripes = g.stripes; segments = g.segments; rest = g.rest; body_is = g.body_is;
+  stripes = g.stripes;
+  segments = g.segments;
+  rest = g.rest;
+  body_is = g.body_is;
   each = each_with h o a g.stripes g.each;
   begun = begun_with h o a g.segments [] g.begun;
-  first = g.first; within = g.within; behind = g.behind; valid = g.valid;
+  first = g.first;
+  within = g.within;
+  behind = g.behind;
+  valid = g.valid;
 }
 
 height_with : (h : Fields) (o : ℕ) → AreAlike h.options o → (body : List ℕ) (height : ℕ) → IsHeight h body height → IsHeight (with_options h o) body height
@@ -55,7 +61,10 @@ height_with h o a body height (inr none) = inr (none.0, λ other g. none.1 other
 
 parts_with : (h : Fields) (o : ℕ) → AreAlike h.options o → (height : ℕ) (body : List ℕ) → Parts h height body → Parts (with_options h o) height body
 parts_with h o a height body p = record {
-  stripes = p.stripes; rest = p.rest; body_is = p.body_is; count = p.count;
+  stripes = p.stripes;
+  rest = p.rest;
+  body_is = p.body_is;
+  count = p.count;
   each = each_with h o a p.stripes p.each;
   gives = p.gives;
 }
@@ -67,7 +76,10 @@ denotes_with h o a height body raster d =
     let coding : coding_in h d.parts.stripes d.flags raster.rows ≡ coding_in (with_options h o) d.parts.stripes d.flags raster.rows = ap (λ m. record (coding_in h d.parts.stripes d.flags raster.rows) { mode = m }) mode in
     record {
       parts = parts_with h o a height body d.parts;
-      proper = d.proper; width = d.width; height = d.height; flags = d.flags;
+      proper = d.proper;
+      width = d.width;
+      height = d.height;
+      flags = d.flags;
       legal = subst HasLegalFlags coding d.legal;
       lies = subst (λ c. EachLies c (map (λ s. s.code) d.parts.stripes)) coding d.lies;
     }

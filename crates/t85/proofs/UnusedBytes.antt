@@ -53,7 +53,7 @@ bits_set o c small other =
 
 -- ---- the bytes
 
-of_twenty : (P : List ℕ → Type 0) → ((b0 b1 b2 b3 b4 b5 b6 b7 b8 b9 b10 b11 b12 b13 b14 b15 b16 b17 b18 b19 : ℕ) (rest : List ℕ) → P (b0 ∷ b1 ∷ b2 ∷ b3 ∷ b4 ∷ b5 ∷ b6 ∷ b7 ∷ b8 ∷ b9 ∷ b10 ∷ b11 ∷ b12 ∷ b13 ∷ b14 ∷ b15 ∷ b16 ∷ b17 ∷ b18 ∷ b19 ∷ rest)) → (bytes : List ℕ) → 20 ≤ length bytes → P bytes
+pub of_twenty : (P : List ℕ → Type 0) → ((b0 b1 b2 b3 b4 b5 b6 b7 b8 b9 b10 b11 b12 b13 b14 b15 b16 b17 b18 b19 : ℕ) (rest : List ℕ) → P (b0 ∷ b1 ∷ b2 ∷ b3 ∷ b4 ∷ b5 ∷ b6 ∷ b7 ∷ b8 ∷ b9 ∷ b10 ∷ b11 ∷ b12 ∷ b13 ∷ b14 ∷ b15 ∷ b16 ∷ b17 ∷ b18 ∷ b19 ∷ rest)) → (bytes : List ℕ) → 20 ≤ length bytes → P bytes
 of_twenty P f (b0 ∷ b1 ∷ b2 ∷ b3 ∷ b4 ∷ b5 ∷ b6 ∷ b7 ∷ b8 ∷ b9 ∷ b10 ∷ b11 ∷ b12 ∷ b13 ∷ b14 ∷ b15 ∷ b16 ∷ b17 ∷ b18 ∷ b19 ∷ rest) long = f b0 b1 b2 b3 b4 b5 b6 b7 b8 b9 b10 b11 b12 b13 b14 b15 b16 b17 b18 b19 rest
 of_twenty P f bytes long = absurd (omega arith)
 
@@ -150,9 +150,10 @@ denotes_same : HeaderLaws → (bytes new : List ℕ) (u : Unused) (h : Fields) (
 denotes_same laws bytes new u h raster long is old now =
     let o = with_bits_of h.options u.options in
     let behind : drop 20 new ≡ drop 20 bytes = ap (λ s. drop 20 s) is ∙ behind_same bytes u long in
-    let like : AreAlike h.options o = alike h.options u.options in
-    (λ d. options_denote bytes new o h raster now like behind d (laws.one bytes d.header h d.header_of old),
-     λ d. options_denote new bytes h.options (fields_with h u) raster old (alike_back h.options o like) (sym behind) d (laws.one new d.header (fields_with h u) d.header_of now))
+    let like : AreAlike h.options o = alike h.options u.options in (
+      λ d. options_denote bytes new o h raster now like behind d (laws.one bytes d.header h d.header_of old),
+      λ d. options_denote new bytes h.options (fields_with h u) raster old (alike_back h.options o like) (sym behind) d (laws.one new d.header (fields_with h u) d.header_of now),
+    )
 
 pub accepts : HeaderLaws → (bytes first : List ℕ) (u : Unused) (options : ℕ) (f : Fields) → Sets bytes first u options → HeaderOf (three_set first u.my u.order options) f →
     SetsUnused bytes (three_set first u.my u.order options ++ drop 20 bytes) u 0

@@ -4,6 +4,7 @@ pub mod Facts
 pub mod Header
 pub mod RawHeader
 pub mod UnusedFields
+pub mod SetHeight
 pub mod Summary
 pub mod Decoded
 pub mod DecodedRows

@@ -20,6 +20,7 @@ mod options;
 mod parts;
 mod pbm;
 mod raw_header;
+mod set_height;
 mod status;
 mod summary;
 #[cfg(test)]
@@ -49,6 +50,7 @@ pub use crate::options::T85Options;
 pub use crate::parts::{T85Part, t85_next_part};
 pub use crate::pbm::{T85Pbm, t85_pbm_end, t85_pbm_header, t85_pbm_row, t85_pbm_start};
 pub use crate::raw_header::{T85RawHeader, t85_raw_header};
+pub use crate::set_height::t85_set_height;
 pub use crate::summary::{T85Summary, t85_info};
 pub use crate::unused_fields::t85_set_unused_fields;
 

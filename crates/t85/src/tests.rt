@@ -5,6 +5,7 @@ mod pbm;
 mod pieces;
 mod raw_header;
 mod rows;
+mod set_height;
 mod unused;
 
 use crate::{
