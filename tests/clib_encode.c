@@ -378,6 +378,7 @@ static void is_aborted(row_by_row *by, const uint8_t *row)
 {
     buffer room = room_of(by, 1);
     size_t written = 77;
+    memset(room.bytes, FILL, room.len);
     if (t85_encode_abort(encoder_of(by), room.bytes, room.len, &written) != T85_NO_ROOM || written)
         fail("t85_encode_abort into one byte");
     is_filled("t85_encode_abort", room);

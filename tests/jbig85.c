@@ -172,8 +172,8 @@ static void drop(image *of)
 static void put(byte *start, size_t len, void *file)
 {
     const text *before = file;
-    /* The header comes alone, unless the stream is aborted before it. */
-    CHECK(before->len > 0 || len == 20 || (len == 2 && start[1] == 4));
+    /* The header comes alone. */
+    CHECK(before->len > 0 || len == 20);
     add(file, start, len);
 }
 
@@ -514,8 +514,9 @@ static void abort_after(const image *of, unsigned long rows)
     jbg85_enc_lineout(&s, of->rows, NULL, NULL);
     jbg85_enc_newlen(&s, 1);
     CHECK(stream.len == y);
-    if (rows > 0)
-        CHECK(decode(&now, &stream, 0, lines, 3 * of->row, &taken, &was_ended) == JBG_EABORT);
+    CHECK(decode(&now, &stream, 0, lines, 3 * of->row, &taken, &was_ended) == JBG_EABORT);
+    jbg85_enc_abort(&s);
+    CHECK(stream.len == y);
     CHECK(now.rows <= rows);
     free(stream.bytes);
     free(lines);

@@ -183,10 +183,23 @@ static void pass_on_parts(const struct jbg_enc_state *s, unsigned char *stream, 
     pass_on(s, stream + passed, len - passed, JBG_BUFSIZE);
 }
 
+/* No function can report that a stream cannot be written, so its reader must notice: it gets the marker of an aborted
+   image, and nothing else. libt85 writes the marker for an encoder, here that of an image of one pixel. */
+static void write_abort(const struct jbg_enc_state *s)
+{
+    t85_encoder encoder;
+    t85_options options = T85_OPTIONS;
+    unsigned char window[3], head[20], marker[2];
+    size_t written;
+    if (t85_encode_start(&encoder, sizeof encoder, 1, 1, &options, NULL, 0, window, sizeof window, head, sizeof head,
+                         &written) == T85_OK &&
+        t85_encode_abort(&encoder, marker, sizeof marker, &written) == T85_OK)
+        s->data_out(marker, written, s->file);
+}
+
 void jbg_enc_out(struct jbg_enc_state *s)
 {
     const kit_calls *kit = t85jbig_kit();
-    unsigned char aborted[2] = {0xff, 0x04}; /* the marker ABORT of T.82, 6.2.5 */
     unsigned char *stream;
     size_t len;
     s->stripes = jbg_stripes(s->l0, s->yd, (unsigned long)s->d);
@@ -196,15 +209,14 @@ void jbg_enc_out(struct jbg_enc_state *s)
     }
     stream = encoded(s, &len);
     if (!stream) {
-        /* No function can report that a stream cannot be written, so its reader must notice. */
-        s->data_out(aborted, sizeof aborted, s->file);
+        write_abort(s);
         return;
     }
     /* Printers compare these fields, although they have no meaning for one layer. */
-    stream[17] = (unsigned char)s->my;
-    stream[18] = (unsigned char)s->order;
-    stream[19] |= (unsigned char)(s->options & (JBG_TPDON | JBG_DPON));
-    pass_on_parts(s, stream, len);
+    if (t85_set_unused_fields(stream, len, (uint8_t)s->my, (uint8_t)s->order, (uint8_t)s->options) == T85_OK)
+        pass_on_parts(s, stream, len);
+    else
+        write_abort(s);
     s->comment = NULL;
     free(stream);
 }
