@@ -151,7 +151,7 @@ pub worth_of : (t : Choice) (n : Counts) (best worst current : ℕ) → HasCount
     best ≡ greatest_of (map n.at (lags_of t)) → worst ≡ least_of n.pixels (map n.at (lags_of t)) →
     is_worth (counts_in t) best worst current ≡ is_worth n (greatest_of (map n.at (lags_of t))) (least_of n.pixels (map n.at (lags_of t))) current
 worth_of t n best worst current h offered e f =
-    rw (h.pixels, h.nominal, count_there t n current h offered, e, f) refl
+    rw (h.pixels, count_there t n current h offered, e, f) refl
 
 pub moved : (n : Counts) (lags : List ℕ) (current unmoved best : ℕ) → is_worth n (greatest_of (map n.at lags)) (least_of n.pixels (map n.at lags)) current ≡ true → first_best n (0 ∷ lags) ≡ Some best →
     best ≡ offset_by n lags current unmoved

@@ -1,5 +1,5 @@
 -- JBIG-KIT's choice of the AT offset for a stripe, from the first pixels that were coded of the stripe before.
-use Rattle.std.specs.Prelude.{ℕ, ◌+◌, ◌-◌, ◌*◌, ◌/◌, ◌==◌, ◌&&◌, ◌||◌, not, nat_lt, nat_le, min, max, Bool, List, [], ◌∷◌, length, map, take, find, sum_by, count_by, Option, unwrap_or, if◌then◌else◌}
+use Rattle.std.specs.Prelude.{ℕ, ◌+◌, ◌-◌, ◌*◌, ◌/◌, ◌&&◌, ◌||◌, not, nat_lt, nat_le, min, max, Bool, List, [], ◌∷◌, length, map, take, find, sum_by, count_by, Option, unwrap_or, if◌then◌else◌}
 use Rattle.std.specs.List.{filter, list_all}
 use Rattle.qm_core.specs.Place.{same}
 use Rattle.raster_core.specs.Raster.{pixel_at}
@@ -63,8 +63,8 @@ leads pixels best other = nat_lt best other || (nat_lt (pixels - best) (best - o
 
 -- Whether the adaptive pixel moves away from the current offset, if these are the best and the worst count of a lag: more than
 -- 2,048 pixels were counted; the best count misses less than an eighth of them; it leads that of the current offset, and that of
--- its inverse; the worst count is more than a quarter below it; and away from the nominal position, the best and the worst of all
--- counts are more than an eighth apart.
+-- its inverse; and the worst count is more than a quarter below it. Away from the nominal position, JBIG-KIT also wants the best
+-- and the worst of all counts to be more than an eighth apart, as they then are.
 abbrev pub is_worth : Counts → ℕ → ℕ → ℕ → Bool
 is_worth n best worst current =
     nat_lt 2048 n.pixels
@@ -72,7 +72,6 @@ is_worth n best worst current =
     && leads n.pixels best (n.at current)
     && leads n.pixels best (n.pixels - n.at current)
     && nat_lt (n.pixels / 4) (best - worst)
-    && (not (current == 0) || nat_lt (n.pixels / 8) (max best (n.at 0) - min worst (n.at 0)))
 
 -- the first of these offsets with the greatest count
 abbrev pub first_best : Counts → List ℕ → Option ℕ

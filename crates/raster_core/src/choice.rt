@@ -228,14 +228,12 @@ impl Choice {
     {
         let Extremes { best, worst } = extremes;
         let pixels = self.pixels;
-        let nominal = self.counts[0];
         let here = self.counts[usize::from(current.min(127))];
         pixels > ENOUGH
             && pixels.saturating_sub(best) < pixels / 8
             && leads(pixels, best, here)
             && leads(pixels, best, pixels.saturating_sub(here))
             && best.saturating_sub(worst) > pixels / 4
-            && (current != 0 || best.max(nominal).saturating_sub(worst.min(nominal)) > pixels / 8)
     }
 
     /// The first offset with the greatest count: 0 if no lag has a greater count than the nominal position.
