@@ -173,6 +173,10 @@ class _Encoder(ctypes.Structure):
     _fields_ = [("opaque", c_uint64 * 670)]
 
 
+class _Choice(ctypes.Structure):
+    _fields_ = [("opaque", c_uint32 * 132)]
+
+
 def _named() -> str:
     """The library's name, for the loader."""
     beside = os.path.join(os.path.dirname(os.path.abspath(__file__)), _SONAME)
@@ -219,6 +223,9 @@ def _load() -> ctypes.CDLL:
         "t85_encode_row": (c_uint8, [POINTER(_Encoder), *read, *write, *write, POINTER(size)]),
         "t85_encode_offset": (c_uint8, [POINTER(_Encoder), c_uint8]),
         "t85_best_offset": (c_uint8, [POINTER(_Encoder), *read, *write, *write, write[0]]),
+        "t85_choice_start": (c_uint8, [POINTER(_Choice), size, word, POINTER(_Options)]),
+        "t85_choice_row": (c_uint8, [POINTER(_Choice), *read, *read]),
+        "t85_choice_offset": (c_uint8, [POINTER(_Choice), c_uint8, POINTER(c_uint8)]),
         "t85_encode_end": (c_uint8, [POINTER(_Encoder), *write, *write, POINTER(size)]),
         "t85_encode_rows_left": (word, [POINTER(_Encoder)]),
         "t85_encode_room": (c_uint64, [POINTER(_Encoder)]),

@@ -13,3 +13,4 @@ pub mod Rowed
 pub mod Stored
 pub mod Taken
 pub mod PbmCalls
+pub mod ChoiceCalls

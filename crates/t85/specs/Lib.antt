@@ -12,6 +12,7 @@ pub mod DecoderState
 pub mod Encoded
 pub mod Encoder
 pub mod BestOffset
+pub mod Choice
 pub mod Bound
 pub mod Message
 pub mod Parts

@@ -1,5 +1,6 @@
 //! Tests of the library's functions on worked examples.
 
+mod choice;
 mod pbm;
 mod pieces;
 mod rows;
