@@ -523,6 +523,60 @@ uint8_t t85_best_offset(const t85_encoder *encoder, const uint8_t *rows, size_t 
                         uint8_t *window, size_t window_len, uint8_t *scratch, size_t scratch_len,
                         uint8_t *offset);
 
+#define T85_CHOICE_BYTES 528
+
+/* The counts of a stripe from which JBIG-KIT's rule chooses the next offset. It may be moved between
+   calls. Calls are memory-safe whatever bytes it contains. If it is all zeros, the calls return
+   T85_NOT_BEGUN. */
+typedef struct {
+    uint32_t opaque[T85_CHOICE_BYTES / 4];
+} t85_choice;
+
+/* Starts a choice of offsets by JBIG-KIT's rule, for an encoder of images of this width with these
+   options. `size` must be sizeof(t85_choice). Pass each row to t85_choice_row; before the first row
+   of each stripe but the first, call t85_choice_offset, and pass its result to t85_encode_offset.
+   The encoder then moves the adaptive template pixel as JBIG-KIT's jbg85_enc_lineout does. JBIG-KIT's
+   jbg_enc_out with JBG_DELAY_AT does not use the last row of a stripe: for its moves, do not pass
+   that row.
+
+   The rule counts the pixels of the stripe's first rows that are not typical, until more than 2048
+   are counted: those from column most_offset, counted from 0, to the third last. For each offset
+   from 3 (5 with the two-line template) to most_offset it counts how many equal the pixel that far
+   to their left, and for 0 how many equal the pixel in the nominal position. It moves to the offset
+   with the greatest count, or to the least of several, if the best count of a lag misses less than
+   an eighth of the pixels, exceeds the count of the current offset, and that of its inverse, by more
+   than it misses and by more than a sixteenth, and the worst count of a lag by more than a quarter.
+
+   Returns one of:
+   0: the choice is started.
+   Any other status: nothing is changed. The checks are made in this order: 50 if `size` or the
+     version of the options is wrong; 20 to 22 for the options, without the comment; 33; 34. */
+T85_NO_NULL((1, 4))
+uint8_t t85_choice_start(t85_choice *choice, size_t size, uint32_t width,
+                         const t85_options *options);
+
+/* Counts the next row of the stripe. `above` is the row above it. It is white above the first row of
+   an image, and above that of each stripe with the option `reset`: above_len may then be 0.
+
+   Returns one of:
+   0: the row is counted, or need not be.
+   Any other status: nothing is changed. The checks are made in this order: 53; T85_SHORT_ROW if
+     row_len is less than t85_row_bytes(width), or if above_len is and is not 0. */
+T85_NO_NULL((1))
+uint8_t t85_choice_row(t85_choice *choice, const uint8_t *row, size_t row_len,
+                       const uint8_t *above, size_t above_len);
+
+/* Ends the stripe, which was encoded with the offset `current`, and begins the next one. Sets *offset
+   to the offset for the next stripe: that to which the rule moves, or else the current one (0 with
+   the option `reset`). t85_encode_offset accepts it.
+
+   Returns one of:
+   0: *offset is set.
+   Any other status: nothing is changed. The checks are made in this order: 53; 22 if `current` is
+     neither 0 nor an offset from 3 (5 with the two-line template) to most_offset. */
+T85_NO_NULL((1, 3))
+uint8_t t85_choice_offset(t85_choice *choice, uint8_t current, uint8_t *offset);
+
 /* Ends the stream, with a new height if fewer rows were passed than announced.
 
    Returns one of:
@@ -671,6 +725,10 @@ size_t t85_message(uint8_t status, uint8_t *text, size_t room);
 #define t85_best_offset(encoder, rows, rows_len, window, window_len, scratch, scratch_len, offset) \
     t85_best_offset(encoder, t85_bytes_or_nothing(rows), rows_len, t85_room_or_nothing(window),    \
                     window_len, t85_room_or_nothing(scratch), scratch_len, offset)
+
+#define t85_choice_row(choice, row, row_len, above, above_len)          \
+    t85_choice_row(choice, t85_bytes_or_nothing(row), row_len,          \
+                   t85_bytes_or_nothing(above), above_len)
 
 #define t85_encode_end(encoder, window, window_len, stream, stream_room, written) \
     t85_encode_end(encoder, t85_room_or_nothing(window), window_len,              \

@@ -4,6 +4,8 @@
 #[cfg(test)]
 mod buffered;
 #[cfg(test)]
+mod choice;
+#[cfg(test)]
 mod coder;
 #[cfg(test)]
 mod devices;

@@ -21,6 +21,9 @@ pub mod Shifts
 pub mod Evens
 pub mod Packs
 pub mod Parts
+pub mod Among
+pub mod KitCounts
+pub mod KitChoice
 pub mod Choosing
 pub mod Tallies
 pub mod Colours

@@ -31,7 +31,7 @@ binary_is p a (suc n) =
     start : (k : ℕ) → 0 * 2 + k ≡ k
     start k = omega arith
 
-white : (p : ℕ → Bool) (a n : ℕ) → ((i : ℕ) → i < n → p (a + i) ≡ false) → word p a n ≡ 0
+pub white : (p : ℕ → Bool) (a n : ℕ) → ((i : ℕ) → i < n → p (a + i) ≡ false) → word p a n ≡ 0
 unfolding word
 white p a zero h = refl
 white p a (suc n) h =

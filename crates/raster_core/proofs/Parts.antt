@@ -18,12 +18,12 @@ is_lt x y h = grind (arith, nat_tests)
 pub is_not_lt : (x y : ℕ) → y ≤ x → nat_lt x y ≡ false
 is_not_lt x y h = grind (arith, nat_tests)
 
-led_at : {y : ℕ} (row : List Bool) (x : ℕ) → y ≡ x + 128 → led row y ≡ pixel_at row x
+pub led_at : {y : ℕ} (row : List Bool) (x : ℕ) → y ≡ x + 128 → led row y ≡ pixel_at row x
 led_at {y} row x e =
     let at : y - 128 ≡ x = omega arith in
     ap (λ b. if b then false else pixel_at row (y - 128)) (is_not_lt y 128 (omega arith)) ∙ ap (pixel_at row) at
 
-led_left : (row : List Bool) (y x lag : ℕ) → y + lag ≡ x + 128 → led row y ≡ pixel_left row x lag
+pub led_left : (row : List Bool) (y x lag : ℕ) → y + lag ≡ x + 128 → led row y ≡ pixel_left row x lag
 led_left row y x lag e =
     elim (cases_lt x lag) [
       | inl lt ↦
@@ -41,7 +41,7 @@ adaptive_left lines lag x h =
     let test : (lag == 0) ≡ false = grind (arith, nat_tests) in
     rw test refl
 
-three : {a a' b b' c c' : Bool} → a ≡ a' → b ≡ b' → c ≡ c' → a && same b c ≡ (a' && same b' c')
+pub three : {a a' b b' c c' : Bool} → a ≡ a' → b ≡ b' → c ≡ c' → a && same b c ≡ (a' && same b' c')
 three e f g = rw (e, f, g) refl
 
 pub row_part : (lines : Lines) (width lag k n : ℕ) → 1 ≤ lag → lag ≤ 127 →
@@ -91,7 +91,7 @@ unfolding part_agreement
 part_more lines width offset n k =
     rw (count_cat (λ x. is_within width x && same (pixel_at lines.row x) (adaptive lines offset x)) 0 n k, zero-add) refl
 
-count_none : (f : ℕ → Bool) (a n : ℕ) → ((i : ℕ) → i < n → f (a + i) ≡ false) → count_by f (numbers_from a n) ≡ 0
+pub count_none : (f : ℕ → Bool) (a n : ℕ) → ((i : ℕ) → i < n → f (a + i) ≡ false) → count_by f (numbers_from a n) ≡ 0
 count_none f a zero h = refl
 count_none f a (suc n) h =
     let first : f a ≡ false = rw (← add-zero a) (h 0 (omega arith)) in

@@ -27,7 +27,7 @@ pub same_row_self : (row : List Bool) → same_row row row ≡ true
 same_row_self [] = refl
 same_row_self (b ∷ row) = rw (same_self b, same_row_self row) refl
 
-same_only : (x y : Bool) → same x y ≡ true → x ≡ y
+pub same_only : (x y : Bool) → same x y ≡ true → x ≡ y
 same_only true y h = sym h
 same_only false true h = cc
 same_only false false h = refl
@@ -36,7 +36,7 @@ by : (x y : Bool) (a b : List Bool) → (same_row a b ≡ true → a ≡ b) → 
 by x y a b tails true e g = let p = same_only x y e in let q = tails g in cc
 by x y a b tails false e g = cc
 
-same_row_only : (a b : List Bool) → same_row a b ≡ true → a ≡ b
+pub same_row_only : (a b : List Bool) → same_row a b ≡ true → a ≡ b
 same_row_only [] [] h = refl
 same_row_only [] (y ∷ b) h = cc
 same_row_only (x ∷ a) [] h = cc

@@ -7,6 +7,8 @@
 
 mod agreement;
 mod bytes;
+mod choice;
+mod columns;
 mod context;
 mod counted;
 mod decode;
@@ -21,6 +23,7 @@ mod uniform;
 mod window;
 mod words;
 
+pub use choice::Choice;
 pub use decode::{decode_row, go_on_row, skip_rows};
 pub use encode::encode_row;
 pub use place::{RowPlace, RowPlaceNumbers};

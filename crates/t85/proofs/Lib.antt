@@ -16,3 +16,4 @@ pub mod Stored
 pub mod Taken
 pub mod UnusedBytes
 pub mod PbmCalls
+pub mod ChoiceCalls

@@ -16,6 +16,7 @@ pub mod Encoded
 pub mod Encoder
 pub mod EncoderAbort
 pub mod BestOffset
+pub mod Choice
 pub mod Bound
 pub mod Message
 pub mod Parts

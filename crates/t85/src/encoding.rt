@@ -20,7 +20,7 @@ use t85_core::laws::{code_denotes, lengths};
 use t85_core::{Fault, Options, encode_in_memory};
 
 /// The version of `T85Options`.
-const VERSION: u32 = 1;
+pub const VERSION: u32 = 1;
 /// The greatest width of an image.
 pub const MOST_WIDTH: u32 = 1_048_576;
 

@@ -3,6 +3,7 @@
 //! No function keeps a pointer or allocates memory, and none has effects besides what it writes to its arguments.
 #![tactic(auto)]
 
+mod choice;
 mod decoder;
 mod decoding;
 mod decoding_rows;
@@ -30,6 +31,7 @@ mod unused_fields;
 ghost use Rattle.std.specs.Prelude.{◌≡◌};
 ghost use Rattle.t85.specs.Decoded.{window_bytes};
 
+pub use crate::choice::{T85Choice, t85_choice_offset, t85_choice_row, t85_choice_start};
 pub use crate::decoder::{
     T85Decoder, t85_decode_bytes, t85_decode_certain, t85_decode_end, t85_decode_height,
     t85_decode_start,

@@ -1,6 +1,7 @@
 //! Tests of the library's functions on worked examples.
 
 mod abort;
+mod choice;
 mod pbm;
 mod pieces;
 mod raw_header;

@@ -1,5 +1,5 @@
 -- Pixels in words, the first one in the highest bit.
-use Rattle.std.specs.Prelude.{ℕ, zero, suc, ◌+◌, ◌-◌, ◌*◌, ◌≡◌, ◌≤◌, slice_index, Bool, false, List, count_by, ◌&&◌, nat_lt, if◌then◌else◌}
+use Rattle.std.specs.Prelude.{ℕ, zero, suc, ◌+◌, ◌-◌, ◌*◌, ◌≡◌, ◌≤◌, slice_index, Bool, false, List, count_by, ◌&&◌, not, nat_lt, if◌then◌else◌}
 use Rattle.std.specs.Int.{div_ceil}
 use Rattle.raster_core.specs.Raster.{pixel_at}
 use Rattle.raster_core.specs.Packed.{packed_row}
@@ -48,3 +48,12 @@ abbrev pub AgreesBelowItself : List ℕ → ℕ → ℕ → Type 0
 AgreesBelowItself bytes width number =
     (lines : Lines) → bytes ≡ packed_row lines.row → bytes ≡ packed_row lines.above →
     number ≡ part_agreement lines width 0 0 (64 * div_ceil width 64)
+
+-- the positions from one on, before another
+abbrev pub is_between : ℕ → ℕ → ℕ → Bool
+is_between first end x = nat_lt x end && not (nat_lt x first)
+
+-- the number of n positions from `first` on, among those of the mask, at which the row equals the adaptive pixel
+unfoldable pub part_among : (ℕ → Bool) → Lines → (offset first n : ℕ) → ℕ
+part_among mask lines offset first n =
+    count_by (λ x. mask x && same (pixel_at lines.row x) (adaptive lines offset x)) (numbers_from first n)

@@ -1,0 +1,6 @@
+use Rattle.std.proofs.Common.{refl}
+use Rattle.raster_core.proofs.KitCounts.{none_counted}
+use Rattle.raster_core.proofs.choice.Choice.restart.Goals as goal
+
+pub returns-clause-counted : goal.returns-clause-counted
+returns-clause-counted c = none_counted _ refl refl
