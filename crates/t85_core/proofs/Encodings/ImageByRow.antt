@@ -111,12 +111,12 @@ module _ {form : Form} (s : Settings) (width height' : ℕ) (rows : List (List B
     bytes = front.bytes;
     holds = λ raster b. (front.begun raster (may_come s width height' rows raster b)).holds;
     begins = λ raster b. (front.begun raster (may_come s width height' rows raster b)).begins;
-    appended = here_sent text text' front.bytes front.sent;
+    appended = here_sent front.sent;
   }
 
   -- the target took no more
   pub cut_refused : length rows ≤ height' → StreamCut (image_of s width height') rows (here text) text' → ImageRefused (layout_of form width height') (λ raster. jbg s raster) (passage known mid text text')
-  cut_refused few cut = record { rows = rows; few = few; read = read; bytes = cut.bytes; begins = λ raster b. cut.begins raster (may_come s width height' rows raster b); appended = here_sent text text' cut.bytes cut.sent }
+  cut_refused few cut = record { rows = rows; few = few; read = read; bytes = cut.bytes; begins = λ raster b. cut.begins raster (may_come s width height' rows raster b); appended = here_sent cut.sent }
 
   pub end_refused : length rows ≡ height' → SendsBeginning (here text) text' (jbg s (raster_of width rows)) → ImageRefused (layout_of form width height') (λ raster. jbg s raster) (passage known mid text text')
   end_refused many cut = record {
@@ -125,7 +125,7 @@ module _ {form : Form} (s : Settings) (width height' : ℕ) (rows : List (List B
     read = read;
     bytes = cut.front;
     begins = λ raster b. subst (λ z. IsBeginning cut.front (jbg s z)) (sym (same raster b)) (record { rest = cut.rest; bytes_are = cut.text_is });
-    appended = here_sent text text' cut.front cut.sends;
+    appended = here_sent cut.sends;
   } where
     -- no other image has all these rows
     same : (raster : Raster) → BeginsWith width height' rows raster → raster ≡ raster_of width rows

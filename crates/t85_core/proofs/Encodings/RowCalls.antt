@@ -67,19 +67,19 @@ module _ (image : Image) (rows : List (List Bool)) (v : RowView) (window : Held)
 
   -- what was held back was written
   pub stands_kept : (text' : Option (List ℕ)) → Keeps text text' → Stands image rows v window origin text → Stands image rows v window origin text'
-  stands_kept text' k so = resent origin text' so (Sends-keeps origin text text' (bytes_of so) (sends_of so) k)
+  stands_kept text' k so = resent origin text' so (Sends-keeps (sends_of so) k)
 
   -- no byte was taken away
   pub stands_grown : Stands image rows v window origin text → known_length origin.text ≤ known_length text
-  stands_grown so = sends_grows origin text (bytes_of so) (sends_of so)
+  stands_grown so = sends_grows (sends_of so)
 
   -- the state also holds behind the bytes sent
   pub stands_elsewhere : Stands image rows v window origin text → (bytes : List ℕ) × Sends origin text bytes × ((text' : Option (List ℕ)) → Stands image rows v window (behind bytes text') text')
-  stands_elsewhere so = (bytes_of so, sends_of so, λ text'. resent (behind (bytes_of so) text') text' so (sent_behind (bytes_of so) text' (appends_none text')))
+  stands_elsewhere so = (bytes_of so, sends_of so, λ text'. resent (behind (bytes_of so) text') text' so (sent_behind (bytes_of so) (appends_none text')))
 
 module _ (image : Image) (rows : List (List Bool)) (origin : Origin) (mid text' : Option (List ℕ)) where
   pub front_cut : Keeps mid text' → StreamFront image rows origin mid → StreamCut image rows origin text'
-  front_cut k f = record { bytes = f.bytes; sent = Sends-keeps origin mid text' f.bytes f.sent k; begins = λ raster b. (f.begun raster b).begins }
+  front_cut k f = record { bytes = f.bytes; sent = Sends-keeps f.sent k; begins = λ raster b. (f.begun raster b).begins }
 
 module _ (image : Image) (rows : List (List Bool)) (v : RowView) (old new : Held) (origin : Origin) (text : Option (List ℕ)) (stays : IsLined old → new ≡ old) where
   -- the padding of a window that has lines is 0
@@ -90,7 +90,7 @@ module _ (image : Image) (rows : List (List Bool)) (v : RowView) (old new : Held
 -- what was written of a beginning is a beginning
 pub cut_written : (image : Image) (rows : List (List Bool)) (origin : Origin) (out : Option (List ℕ)) (held : List ℕ) → known_length origin.text ≤ known_length out → StreamCut image rows origin (append_known out held) → StreamCut image rows origin out
 cut_written image rows origin out held grows c =
-    let p = sends_handed origin out held c.bytes grows c.sent in
+    let p = sends_handed held grows c.sent in
     record {
       bytes = p.front;
       sent = p.sends;

@@ -108,7 +108,7 @@ module _ (image : Image) (rows : List (List Bool)) (v : RowView) (before : Held)
     counts = λ more some. counted
         (let sum : (w.i + 1) * image.settings.stripe_rows ≡ w.i * image.settings.stripe_rows + 1 * image.settings.stripe_rows = Rattle.std.proofs.Math.Nat.add-mul w.i 1 image.settings.stripe_rows in omega (arith, w.plan_is.limit_is, w.come.many, w.stripes.many, w.plan_is.stripe_rows_is, more, sum))
         (w.plan_is.candidates_are ∙ (grind (arith, nat_tests, some)));
-    sent = Sends-more origin mid text' w.front (move_bytes image.settings image.width w.at ++ []) w.sent (subst (Appends mid text') (sym (append-nil (move_bytes image.settings image.width w.at))) made.appended);
+    sent = Sends-more (move_bytes image.settings image.width w.at ++ []) w.sent (subst (Appends mid text') (sym (append-nil (move_bytes image.settings image.width w.at))) made.appended);
   } where
     on : IsStart image.settings image.width w.at v before
     on = w.on_course (waits_within left)
@@ -122,7 +122,7 @@ module _ (image : Image) (rows : List (List Bool)) (v : RowView) (before : Held)
       → StreamCut image (rows ++ row ∷ []) origin text'
   move_cut left row cuts = record {
     bytes = w.front ++ p.front;
-    sent = Sends-more origin mid text' w.front p.front w.sent p.appends;
+    sent = Sends-more p.front w.sent p.appends;
     begins = λ raster b. part_begins image w.i rows w.at w.front w.plan_is.some w.stripes [] p.front (omega arith)
         (λ later. record {
           rest = p.rest ++ (stuffed (code_of (row_start_in image.settings image.width w.at later).state.place) ++ marker_bytes image.settings.reset);
@@ -234,14 +234,14 @@ module _ (image : Image) (rows : List (List Bool)) (row : List Bool) (v : RowVie
     none_named = r.none_named;
     counts = r.counts;
     sent = subst (Sends origin text') (append_assoc r.front (move_bytes image.settings image.width r.at ++ r.pushed) put.more ∙ ap (λ z. r.front ++ z) (append_assoc (move_bytes image.settings image.width r.at) r.pushed put.more))
-        (Sends-more origin mid text' (r.front ++ (move_bytes image.settings image.width r.at ++ r.pushed)) put.more r.sent put.appended);
+        (Sends-more put.more r.sent put.appended);
   }
 
   -- the target refused a byte of it
   pub row_cut : WritingLaws → v.in_stripe < v.plan.stripe_rows → RowCut (record { place = b.state.place; learned = v.learned }) r.pushed (canonical_events v.plan.shape v.kept (lines_with b row)) mid text' → StreamCut image (rows ++ row ∷ []) origin text'
   row_cut laws fewer cut = record {
     bytes = (r.front ++ (move_bytes image.settings image.width r.at ++ r.pushed)) ++ cut.done;
-    sent = Sends-more origin mid text' (r.front ++ (move_bytes image.settings image.width r.at ++ r.pushed)) cut.done r.sent cut.appended;
+    sent = Sends-more cut.done r.sent cut.appended;
     begins = λ raster m. subst (λ z. IsBeginning z (jbg image.settings raster)) (sym bytes_are)
         (part_begins image r.i r.whole r.at r.front r.plan_is.some r.stripes (r.part ++ row ∷ []) (move_bytes image.settings image.width r.at ++ (r.pushed ++ cut.done)) few begins raster
         (subst (λ z. MayCome image z raster) all m)
@@ -384,8 +384,8 @@ module _ (image : Image) (rows : List (List Bool)) (v : RowView) (window : Held)
       is_tallied = tallied more';
       named_is = r.none_named ∙ sym (get_or_past image.settings.named (suc r.at.stripe) None (let is : r.at.stripe ≡ r.i = r.stripes.stripe_is in omega (arith, is, r.names_to)));
     };
-    sent = Sends-keeps origin text' text'' (r.front ++ stripe_bytes (next_stripe image.settings image.width r.at r.part))
-        (subst (Sends origin text') (bytes_of laws code more is all) (Sends-more origin mid text' (r.front ++ (move_bytes image.settings image.width r.at ++ r.pushed)) more r.sent put)) keeps;
+    sent = Sends-keeps
+        (subst (Sends origin text') (bytes_of laws code more is all) (Sends-more more r.sent put)) keeps;
   }
 
   pub stripe_cut : (laws : WritingLaws) (code more : List ℕ) → Rattle.qm_core.specs.Code.IsCode last.state.place code → r.pushed ++ more ≡ stuffed code ++ marker_bytes v.plan.reset → AppendsBeginning mid text' more → StripeBegun image v.in_stripe rows origin text'
@@ -400,7 +400,7 @@ module _ (image : Image) (rows : List (List Bool)) (v : RowView) (window : Held)
     many = sym r.in_stripe;
     some = some_part;
     few = r.few;
-    sent = subst (SendsBeginning origin text') (bytes_of laws code more is all) (sends_after origin mid text' (r.front ++ (move_bytes image.settings image.width r.at ++ r.pushed)) more r.sent cut);
+    sent = subst (SendsBeginning origin text') (bytes_of laws code more is all) (sends_after r.sent cut);
   }
 
 -- ---- from a stripe that was ended
@@ -527,7 +527,7 @@ ended_stripes image count rows v v' window window' origin mid text' some whole r
 pub cut_stripes : (image : Image) (count : ℕ) (rows : List (List Bool)) (v : RowView) (window : Held) (origin : Origin) (mid text' : Option (List ℕ)) → 0 < v.rows → (v.plan.may_end ≡ false → v.rows ≡ v.plan.limit)
     → Runs image rows v window origin mid → StripeBegun image count rows origin text' → SendsBeginning origin text' (jbg image.settings (raster_of image.width rows))
 cut_stripes image count rows v window origin mid text' some whole r e =
-    sends_longer origin text' (jbg_up_to image.settings (raster_of image.width rows) (stripe_count (length rows) image.settings.stripe_rows)) (ending image.settings (length rows))
+    sends_longer (ending image.settings (length rows))
     (subst (SendsBeginning origin text') (last_stripe image count rows e.whole e.part e.i e.at e.front r.plan_is.some e.all e.stripes e.some e.few (itself image rows v r.plan_is r.come some whole)) e.sent)
 
 module _ (image : Image) (rows : List (List Bool)) (v : RowView) (origin : Origin) (mid text' : Option (List ℕ)) (e : StripesEnded image rows v origin mid) where
@@ -536,10 +536,10 @@ module _ (image : Image) (rows : List (List Bool)) (v : RowView) (origin : Origi
       ap (λ n. ending_of n v.plan.reset v.rows) e.announced_is ∙ ap (λ b. ending_of (unwrap_or image.settings.announced (length rows)) b v.rows) e.reset_is ∙ ap (ending_of (unwrap_or image.settings.announced (length rows)) image.settings.reset) e.rows_are
 
   pub stream_ended : Appends mid text' (ending_of v.plan.announced v.plan.reset v.rows) → Sends origin text' (jbg image.settings (raster_of image.width rows))
-  stream_ended last = Sends-more origin mid text' (jbg_up_to image.settings (raster_of image.width rows) (stripe_count (length rows) image.settings.stripe_rows)) (ending image.settings (length rows)) e.sent (subst (Appends mid text') ending_is last)
+  stream_ended last = Sends-more (ending image.settings (length rows)) e.sent (subst (Appends mid text') ending_is last)
 
   pub ending_cut : AppendsBeginning mid text' (ending_of v.plan.announced v.plan.reset v.rows) → SendsBeginning origin text' (jbg image.settings (raster_of image.width rows))
-  ending_cut last = sends_after origin mid text' (jbg_up_to image.settings (raster_of image.width rows) (stripe_count (length rows) image.settings.stripe_rows)) (ending image.settings (length rows)) e.sent (subst (AppendsBeginning mid text') ending_is last)
+  ending_cut last = sends_after e.sent (subst (AppendsBeginning mid text') ending_is last)
 
 -- ---- an image begins
 
@@ -561,5 +561,5 @@ none_stand image v window text text' plan rows_is none nameless unnamed codes of
     is_tallied = record { two_line = two_line; most = most; lines = []; counts = counts image.width 0; lines_are = λ _. refl };
     named_is = nameless ∙ sym (ap (λ names. slice_index_or names 0 None) unnamed);
   };
-  sent = sent_here text text' _ put;
+  sent = sent_here put;
 })

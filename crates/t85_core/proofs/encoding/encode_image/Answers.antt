@@ -92,7 +92,7 @@ returns-clause-ok g c =
     let s = settings_of c.args.options.now in
     let so = c.rows.invariant.come in
     let ended : c.rows.counter ≡ c.args.size.height = omega (arith, c.rows.auto.counter-end, c.rows-test.false) in
-    map_ok c.end.result (λ all. record { rows = so.0; many = so.1 ∙ ended; read = so.2; appended = here_sent _ _ _ (all (image_of s c.args.size.width c.args.size.height) so.0 _ so.3) }) c.end.ensures.ok
+    map_ok c.end.result (λ all. record { rows = so.0; many = so.1 ∙ ended; read = so.2; appended = here_sent (all (image_of s c.args.size.width c.args.size.height) so.0 _ so.3) }) c.end.ensures.ok
 
 pub returns-clause-unwritten : goal.returns-clause-unwritten
 returns-clause-unwritten g c is =
