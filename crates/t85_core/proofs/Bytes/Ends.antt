@@ -17,8 +17,8 @@ Ends-after {ending} {a} {b} {c} {P} {Q} {f} front taken widen e = record {
 }
 
 -- a fault that the bytes so far have, and that is reported at once
-pub Ends-at : {ending : Fault} {a b : Option (List ℕ)} {Q : List ℕ → Fault → Type 0} (f : Fault) (given : List ℕ) → Consumes a b given → counted_as ending f ≡ f → f ≢ ending → Q given f → Ends ending a b Q f
-Ends-at {ending} {a} {b} {Q} f given taken same other q = record {
+pub Ends-at : {ending f : Fault} {a b : Option (List ℕ)} {Q : List ℕ → Fault → Type 0} (given : List ℕ) → Consumes a b given → counted_as ending f ≡ f → f ≢ ending → Q given f → Ends ending a b Q f
+Ends-at {ending} {a} {b} {Q} given taken same other q = record {
   given = given;
   taken = taken;
   has_fault = subst (λ e. Q given e) (sym same) q;

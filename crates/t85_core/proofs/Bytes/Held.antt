@@ -8,10 +8,10 @@ use Rattle.std.proofs.lemmas.List.{drop-take, drop-drop}
 use Rattle.std.proofs.Math.Seq.{drop-cons, drop_at, take_at}
 use Rattle.t85_core.specs.Steps.Buffers.{held_of}
 
-pub keeps_refill : (a b : Option (List ℕ)) (held more : List ℕ) → held ≡ [] → Consumes a b more → Keeps (prepend_known held a) (prepend_known more b)
-keeps_refill None b held more e k = tt
-keeps_refill (Some a) None held more e k = k
-keeps_refill (Some a) (Some b) held more e k = sym k ∙ ap (λ z. z ++ a) (sym e)
+pub keeps_refill : {held : List ℕ} (a b : Option (List ℕ)) (more : List ℕ) → held ≡ [] → Consumes a b more → Keeps (prepend_known held a) (prepend_known more b)
+keeps_refill None b more e k = tt
+keeps_refill (Some a) None more e k = k
+keeps_refill (Some a) (Some b) more e k = sym k ∙ ap (λ z. z ++ a) (sym e)
 
 pub Keeps-same : (a : Option (List ℕ)) → Keeps a a
 Keeps-same None = tt
@@ -33,13 +33,13 @@ held_after bytes at count end h =
     let n : end - at ≡ count + (end - (at + count)) = omega arith in
     sym (ap (λ k. drop count (take k (drop at bytes))) n ∙ drop-take count (end - (at + count)) (drop at bytes) ∙ ap (take (end - (at + count))) (drop-drop count at bytes))
 
-pub none_held : (bytes : List ℕ) (at end : ℕ) → at ≡ end → take (end - at) (drop at bytes) ≡ []
-none_held bytes at end e = let n : end - at ≡ 0 = omega arith in ap (λ k. take k (drop at bytes)) n
+pub none_held : {at end : ℕ} (bytes : List ℕ) → at ≡ end → take (end - at) (drop at bytes) ≡ []
+none_held {at} {end} bytes e = let n : end - at ≡ 0 = omega arith in ap (λ k. take k (drop at bytes)) n
 
-pub keeps_refilled : (a b : Option (List ℕ)) (held buf : List ℕ) (n : ℕ) → held ≡ [] → Consumes a b (take n buf) → Keeps (prepend_known held a) (prepend_known (take (n - 0) buf) b)
-keeps_refilled a b held buf n e p =
+pub keeps_refilled : {held : List ℕ} (a b : Option (List ℕ)) (buf : List ℕ) (n : ℕ) → held ≡ [] → Consumes a b (take n buf) → Keeps (prepend_known held a) (prepend_known (take (n - 0) buf) b)
+keeps_refilled {held} a b buf n e p =
     let same : n ≡ n - 0 = omega arith in
-    subst (λ k. Keeps (prepend_known held a) (prepend_known (take k buf) b)) same (keeps_refill a b held (take n buf) e p)
+    subst (λ k. Keeps (prepend_known held a) (prepend_known (take k buf) b)) same (keeps_refill a b (take n buf) e p)
 
 -- the next byte of those that are held
 pub next_taken : (bytes : List ℕ) (at end : ℕ) (a : Option (List ℕ)) → at < end → end ≤ length bytes → Consumes (prepend_known (held_of bytes at end) a) (prepend_known (held_of bytes (at + 1) end) a) (get_or bytes at 0 ∷ [])
@@ -59,17 +59,18 @@ some_taken bytes at count end a fits =
     subst (λ z. Consumes (prepend_known (held_of bytes at end) a) (prepend_known z a) (take count (held_of bytes at end))) (sym (held_after bytes at count end fits)) (consumes_held count (held_of bytes at end) a)
 
 -- where none is held, the known bytes are those that the input has still to give
-pub known_unheld : (bytes : List ℕ) (at end : ℕ) (a : Option (List ℕ)) → at ≡ end → prepend_known (held_of bytes at end) a ≡ a
-known_unheld bytes at end None e = refl
-known_unheld bytes at end (Some a) e = ap (λ z. Some (z ++ a)) (none_held bytes at end e)
+pub known_unheld : {at end : ℕ} (bytes : List ℕ) (a : Option (List ℕ)) → at ≡ end → prepend_known (held_of bytes at end) a ≡ a
+known_unheld bytes None e = refl
+known_unheld bytes (Some a) e = ap (λ z. Some (z ++ a)) (none_held bytes e)
 
 pub held_long : (bytes : List ℕ) (at end : ℕ) → at ≤ end → end ≤ length bytes → length (held_of bytes at end) ≡ end - at
 held_long bytes at end ordered within = omega (arith, length-take (end - at) (drop at bytes), length-drop at bytes)
 
 -- the last bytes of those that are held stay, and those before them are taken
-pub kept_last : (bytes : List ℕ) (at end left most : ℕ) (a : Option (List ℕ)) → at ≤ end → end ≤ length bytes → most ≡ min left (end - at) → (front back : List ℕ) → held_of bytes at end ≡ front ++ back → length back ≡ left →
+pub kept_last : {left most : ℕ} (bytes : List ℕ) (at end : ℕ) (a : Option (List ℕ)) → at ≤ end → end ≤ length bytes → most ≡ min left (end - at) → (front back : List ℕ) →
+    held_of bytes at end ≡ front ++ back → length back ≡ left →
     (held_of bytes (at + ((end - at) - most)) end ≡ back) × Consumes (prepend_known (held_of bytes at end) a) (prepend_known (held_of bytes (at + ((end - at) - most)) end) a) front
-kept_last bytes at end left most a ordered within most_is front back is long =
+kept_last {most} bytes at end a ordered within most_is front back is long =
     let count : ℕ = (end - at) - most in
     let all = held_long bytes at end ordered within in
     let sum = ap length is ∙ length-append front back in

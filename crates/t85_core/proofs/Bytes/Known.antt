@@ -23,8 +23,8 @@ long-append given more i h =
     ∙ big_from-append 4 (drop i given) more (omega (arith, length-drop i given))
 
 -- the header's bytes are the first twenty
-pub HeaderOf-append : (given more : List ℕ) (h : Fields) → HeaderOf given h → HeaderOf (given ++ more) h
-HeaderOf-append given more h p =
+pub HeaderOf-append : {given : List ℕ} {h : Fields} (more : List ℕ) → HeaderOf given h → HeaderOf (given ++ more) h
+HeaderOf-append {given} more p =
     let long : 20 ≤ length given = p.whole in
     record {
       whole = omega (arith, length-append given more);
@@ -77,12 +77,12 @@ legal-append h bytes more long =
     let last = byte-append bytes more 5 (omega arith) in
     rw (row, offset, last) refl
 
-stable_first : (h : Fields) (bytes more : List ℕ) (f : Fault) → (length bytes < 6) ⊎ (6 ≤ length bytes) → move_fault h 0 bytes ≡ Some f → (f ≡ Truncated) ⊎ (move_fault h 0 (bytes ++ more) ≡ Some f)
-stable_first h bytes more f (inl short) e =
+stable_first : {f : Fault} (h : Fields) (bytes more : List ℕ) → (length bytes < 6) ⊎ (6 ≤ length bytes) → move_fault h 0 bytes ≡ Some f → (f ≡ Truncated) ⊎ (move_fault h 0 (bytes ++ more) ≡ Some f)
+stable_first {f} h bytes more (inl short) e =
     let t : nat_lt (length bytes) 6 ≡ true = grind (arith, nat_tests) in
     let cut : Some Truncated ≡ Some f = ap (λ b. cond b (Some Truncated) (cond (is_legal_move h bytes) None (Some MoveRefused))) (sym t) ∙ e in
     inl cc
-stable_first h bytes more f (inr long) e =
+stable_first h bytes more (inr long) e =
     let t : nat_lt (length bytes) 6 ≡ false = grind (arith, nat_tests) in
     let longer : 6 ≤ length (bytes ++ more) = omega (arith, length-append bytes more) in
     let t' : nat_lt (length (bytes ++ more)) 6 ≡ false = grind (arith, nat_tests) in
@@ -91,13 +91,13 @@ stable_first h bytes more f (inr long) e =
     ∙ ap (λ b. cond b (Some Truncated) (cond (is_legal_move h bytes) None (Some MoveRefused))) (sym t) ∙ e)
 
 stable_move : (h : Fields) (moves : ℕ) → IsStable (move_fault h moves)
-stable_move h moves = stable_cond (not (moves == 0)) (λ _. Some SecondMove) (move_fault h 0) (stable_constant (Some SecondMove)) (λ bytes more f e. stable_first h bytes more f (cases_lt (length bytes) 6) e)
+stable_move h moves = stable_cond (not (moves == 0)) (λ _. Some SecondMove) (move_fault h 0) (stable_constant (Some SecondMove)) (λ bytes more f e. stable_first h bytes more (cases_lt (length bytes) 6) e)
 
-two_tests : (t u : Bool) (f : Fault) → cond t (Some Truncated) (cond u (Some Truncated) None) ≡ Some f → f ≡ Truncated
-two_tests t u f e = grind (arith, nat_tests)
+two_tests : {f : Fault} (t u : Bool) → cond t (Some Truncated) (cond u (Some Truncated) None) ≡ Some f → f ≡ Truncated
+two_tests t u e = grind (arith, nat_tests)
 
 stable_comment : IsStable comment_fault
-stable_comment bytes more f e = inl (two_tests (nat_lt (length bytes) 4) (nat_lt (length bytes) (4 + big_number 4 bytes)) f e)
+stable_comment bytes more f e = inl (two_tests (nat_lt (length bytes) 4) (nat_lt (length bytes) (4 + big_number 4 bytes)) e)
 
 number_fault : Fields → Spot → List ℕ → Option Fault
 number_fault h spot bytes =
@@ -136,7 +136,7 @@ stable_escape h spot moves in_code escape =
 
 pub stable_rest : (h : Fields) (spot : Spot) (moves : ℕ) (in_code : Bool) → IsStable (rest_fault h spot moves in_code)
 stable_rest h spot moves in_code [] more f e = inl cc
-stable_rest h spot moves in_code (b ∷ []) more f e = inl (two_tests (b == 255) false f e)
+stable_rest h spot moves in_code (b ∷ []) more f e = inl (two_tests (b == 255) false e)
 stable_rest h spot moves in_code (b ∷ escape ∷ bytes) more f e =
     stable_cond (b == 255) (escape_fault h spot moves in_code escape) (λ _. None) (stable_escape h spot moves in_code escape) (stable_constant None) bytes more f e
 
@@ -145,10 +145,11 @@ counted-other ending Read h = absurd (h refl)
 counted-other ending f h = refl
 
 -- where the header is refused
-pub header_known : (old new : Option (List ℕ)) (f : Fault) → Ends ShortHeader old new (λ given fault. (length given ≤ 20) × (header_fault given ≡ Some fault)) f → f ≢ Read → IfSome old (λ bytes. header_fault bytes ≡ Some f)
-header_known None new f e other = tt
-header_known (Some bytes) None f e other = absurd e.taken
-header_known (Some bytes) (Some left) f e other =
+pub header_known : {old new : Option (List ℕ)} {f : Fault} → Ends ShortHeader old new (λ given fault. (length given ≤ 20) × (header_fault given ≡ Some fault)) f → f ≢ Read →
+    IfSome old (λ bytes. header_fault bytes ≡ Some f)
+header_known {old = None} e other = tt
+header_known {old = (Some bytes)} {new = None} e other = absurd e.taken
+header_known {old = (Some bytes)} {new = (Some left)} {f} e other =
     let same : header_fault e.given ≡ Some f = subst (λ x. header_fault e.given ≡ Some x) (counted-other ShortHeader f other) e.has_fault.1 in
     ap header_fault e.taken ∙ went (cases_lt (length e.given) 20) same where
       went : (length e.given < 20) ⊎ (20 ≤ length e.given) → header_fault e.given ≡ Some f → header_fault (e.given ++ left) ≡ Some f
@@ -159,8 +160,9 @@ header_known (Some bytes) (Some left) f e other =
           ap header_fault (ap (λ z. e.given ++ z) (e.at_end ended) ∙ append-nil e.given) ∙ same
       went (inr long) same = header_fault-append e.given left long ∙ same
 
-pub refused_header : (old new : Option (List ℕ)) (f : Fault) → Ends ShortHeader old new (λ given fault. (length given ≤ 20) × (header_fault given ≡ Some fault)) f → f ≢ Read → IfSome old (λ bytes. StreamFault bytes f)
-refused_header old new f e other = went old (header_known old new f e other) where
+pub refused_header : {old new : Option (List ℕ)} {f : Fault} → Ends ShortHeader old new (λ given fault. (length given ≤ 20) × (header_fault given ≡ Some fault)) f → f ≢ Read →
+    IfSome old (λ bytes. StreamFault bytes f)
+refused_header {old} {f} e other = went old (header_known e other) where
   went : (old : Option (List ℕ)) → IfSome old (λ bytes. header_fault bytes ≡ Some f) → IfSome old (λ bytes. StreamFault bytes f)
   went None h = tt
   went (Some bytes) h = inl h

@@ -37,8 +37,8 @@ module _ (height heights : ℕ) where
   pub gives_right : (ss ts : List Segment) → GiveOnly height heights (ss ++ ts) → GiveOnly height (heights + length (lengths ss)) ts
   gives_right ss ts g = record { one = (let e = many_lengths ss ts in omega (arith, e, g.one)); this = right_of (λ n. n ≡ height) (lengths ss) (lengths ts) (all_in ss ts g) }
 
-  pub gives_both : (ss ts : List Segment) → GiveOnly height heights ss → GiveOnly height (heights + length (lengths ss)) ts → GiveOnly height heights (ss ++ ts)
-  gives_both ss ts g k = record {
+  pub gives_both : {ss : List Segment} (ts : List Segment) → GiveOnly height heights ss → GiveOnly height (heights + length (lengths ss)) ts → GiveOnly height heights (ss ++ ts)
+  gives_both {ss} ts g k = record {
     one = (let e = many_lengths ss ts in omega (arith, e, k.one));
     this = subst (AllByRecursion (λ n. n ≡ height)) (sym (lengths_append ss ts)) (All-append (λ n. n ≡ height) (lengths ss) (lengths ts) g.this k.this);
   }

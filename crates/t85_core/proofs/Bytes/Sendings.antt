@@ -41,7 +41,7 @@ sends_grows {o} {b} p = grows_with o.text b p.more p.appended
 -- what was written of what was sent
 pub sends_handed : {o : Origin} {out : Option (List ℕ)} {xs : List ℕ} (held : List ℕ) → known_length o.text ≤ known_length out → Sends o (append_known out held) xs → SendsBeginning o out xs
 sends_handed {o} {out} held grows p =
-    let q = beginning_handed o.text out held p.more grows (beginning_all o.text (append_known out held) p.more p.appended) in
+    let q = beginning_handed out held grows (beginning_all p.appended) in
     record {
       front = o.gone ++ q.front;
       rest = q.rest;

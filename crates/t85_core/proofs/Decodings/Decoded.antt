@@ -117,8 +117,8 @@ module _ (q : CoderLaws) (h : Fields) (height : ℕ) (use_ : IsInUse h height) (
     appends = λ rest fault text o.
         let first = i.first (i.ahead ++ (in_held ++ rest)) fault text (subst (λ z. IsOutcome h height z fault text) (append_assoc (i.given ++ i.ahead) in_held rest ∙ append_assoc i.given i.ahead (in_held ++ rest)) o) in
         subst (AppendsBeginning out_old out_new) (sym first.1)
-        (beginning_longer out_old out_new (pbm_rows h.xd height i.rows) first.0
-        (beginning_after out_old out_mid out_new (header_text h.xd height) (flat_map packed_row i.rows) header (beginning_handed out_mid out_new out_held (flat_map packed_row i.rows) grows i.appended)));
+        (beginning_longer first.0
+        (beginning_after (header_text h.xd height) header (beginning_handed out_new out_held grows i.appended)));
   }
 
   pub decoded : (in_held out_held : List ℕ) (known in_new : Option (List ℕ)) (reads_old reads_new writes_old writes_new : ℕ) (r : Result (Unit {0}) Fault) →
@@ -155,8 +155,8 @@ front_of_header h height known out_old out_new p = record {
   appends = λ rest fault text o. all rest fault text o;
 } where
   all : (rest : List ℕ) (fault : Option Fault) (text : List ℕ) → IsOutcome h height ([] ++ rest) fault text → AppendsBeginning out_old out_new text
-  all rest None text o = subst (AppendsBeginning out_old out_new) (sym (o.2 ∙ pbm_of h height o.0 rest o.1)) (beginning_longer out_old out_new (header_text h.xd height) (flat_map packed_row o.0.rows) p)
-  all rest (Some fault) text o = subst (AppendsBeginning out_old out_new) (sym o.2) (beginning_longer out_old out_new (header_text h.xd height) (flat_map packed_row o.0) p)
+  all rest None text o = subst (AppendsBeginning out_old out_new) (sym (o.2 ∙ pbm_of h height o.0 rest o.1)) (beginning_longer (flat_map packed_row o.0.rows) p)
+  all rest (Some fault) text o = subst (AppendsBeginning out_old out_new) (sym o.2) (beginning_longer (flat_map packed_row o.0) p)
 
 pub decodes_unheaded : (h : Fields) (height : ℕ) (known : Option (List ℕ)) (reads writes writes_new : ℕ) (out_old out_new : Option (List ℕ)) → AppendsBeginning out_old out_new (header_text h.xd height) → writes_new ≡ one_more writes →
     Decode h height (between known known reads reads) (between out_old out_new writes writes_new) (Err Write)

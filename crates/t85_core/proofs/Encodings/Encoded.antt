@@ -148,7 +148,7 @@ module _ (s : Settings) (form : Form) (width height' : ℕ) (in_old in_new out_o
   front_written : (held : List ℕ) → known_length out_old ≤ known_length out_new → ImageFront (layout_of form width height') (λ raster. jbg s raster) (passage in_old in_new out_old (append_known out_new held)) →
       (given : List ℕ) × Consumes in_old in_new given × WritesCodeFront s (layout_of form width height') given out_old out_new
   front_written held grows i =
-      let p = beginning_handed out_old out_new held i.bytes grows (beginning_all out_old (append_known out_new held) i.bytes i.appended) in (
+      let p = beginning_handed out_new held grows (beginning_all i.appended) in (
         i.read.given ++ i.part,
         Consumes-more in_old i.mid in_new i.read.given i.part i.read.taken i.part_taken,
         record {

@@ -18,7 +18,7 @@ module _ (p : Place) (reset : Bool) (pushed : List ℕ) (text mid text' : Option
     more = c.more ++ marker_bytes reset;
     all = sym (append_assoc pushed c.more (marker_bytes reset)) ∙ ap (λ z. z ++ marker_bytes reset) c.all;
     ok = tt;
-    cut = beginning_longer text text' c.more (marker_bytes reset) c.cut;
+    cut = beginning_longer (marker_bytes reset) c.cut;
   }
 
   -- the code was, and then the marker or a beginning of it
@@ -38,5 +38,5 @@ module _ (p : Place) (reset : Bool) (pushed : List ℕ) (text mid text' : Option
     more = c.more ++ marker_bytes reset;
     all = sym (append_assoc pushed c.more (marker_bytes reset)) ∙ ap (λ z. z ++ marker_bytes reset) c.all;
     ok = tt;
-    cut = beginning_after text mid text' c.more (marker_bytes reset) c.ok cut;
+    cut = beginning_after c.more c.ok cut;
   }

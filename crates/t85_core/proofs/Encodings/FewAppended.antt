@@ -34,7 +34,7 @@ beginning_few most old new text few begins =
 -- what was written, or a beginning of it
 pub written_few : {E : Type 0} (most : ℕ) (old new : Option (List ℕ)) (text : List ℕ) (answer : Result (Unit {0}) E) → length text ≤ most →
     OnOk answer (Appends old new text) → OnErr answer (AppendsBeginning old new text) → AppendsAtMost most old new
-written_few most old new text (Ok u) few whole cut = beginning_few most old new text few (beginning_all old new text whole)
+written_few most old new text (Ok u) few whole cut = beginning_few most old new text few (beginning_all whole)
 written_few most old new text (Err f) few whole cut = beginning_few most old new text few cut
 
 pub kept_few : (others most : ℕ) (old mid new : Option (List ℕ)) → AppendsBeside others most old mid → Keeps mid new → AppendsBeside others most old new
@@ -42,7 +42,7 @@ kept_few others most old mid new a kept = record { bytes = a.bytes; appended = A
 
 -- of what was appended and is held back in part, that part which was written
 pub handed_few : (most : ℕ) (old new : Option (List ℕ)) (held : List ℕ) → known_length old ≤ known_length new → AppendsAtMost most old (append_known new held) → AppendsAtMost most old new
-handed_few most old new held grows a = (let few = a.few in beginning_few most old new a.bytes (omega (arith, few)) (beginning_handed old new held a.bytes grows (beginning_all old (append_known new held) a.bytes a.appended)))
+handed_few most old new held grows a = (let few = a.few in beginning_few most old new a.bytes (omega (arith, few)) (beginning_handed new held grows (beginning_all a.appended)))
 
 pub joined_few : (others between most : ℕ) (old mid new : Option (List ℕ)) → AppendsBeside between most old mid → AppendsBeside others between mid new → AppendsBeside others most old new
 joined_few others between most old mid new a b =

@@ -58,12 +58,12 @@ head_refused s width height' known text text' p = record {
 -- of the header
 pub header_cut : (s : Settings) (width height' : ℕ) (a b : Option (List ℕ)) (bytes : List ℕ) → bytes ≡ header_bytes (header_of s width height') → AppendsBeginning a b bytes → AppendsBeginning a b (head_of s width height')
 header_cut s width height' a b bytes is p =
-    subst (λ z. AppendsBeginning a b (z ++ comment_of s.comment)) is (beginning_longer a b bytes (comment_of s.comment) p)
+    subst (λ z. AppendsBeginning a b (z ++ comment_of s.comment)) is (beginning_longer (comment_of s.comment) p)
 
 -- of the comment
 pub comment_cut : (s : Settings) (width height' : ℕ) (a b c : Option (List ℕ)) (bytes text : List ℕ) → bytes ≡ header_bytes (header_of s width height') → s.comment ≡ Some text →
     Appends a b bytes → AppendsBeginning b c (segment_bytes (Comment text)) → AppendsBeginning a c (head_of s width height')
 comment_cut s width height' a b c bytes text is some put more =
     subst (λ z. AppendsBeginning a c (z ++ comment_of s.comment)) is
-    (beginning_after a b c bytes (comment_of s.comment) put
+    (beginning_after bytes put
     (subst (λ z. AppendsBeginning b c z) (sym (append-nil (segment_bytes (Comment text))) ∙ ap comment_of (sym some)) more))

@@ -72,7 +72,7 @@ module _ (h : Fields) (height : ℕ) where
           take_piece (segment_at none at) =
               further (segments ++ at.segment ∷ []) [] at.more (shorter rest (segment_bytes at.segment) at.more fuel le (segment_long at.segment) at.tail_is)
               (record { legal = All-push (IsLegal h) segments at.segment begun.legal at.legal; one_move = (let c = count_push is_move segments at.segment in omega (arith, c, at.one_move)); bytes = tt })
-              (gives_both height n segments (at.segment ∷ []) gives at.gives)
+              (gives_both height n (at.segment ∷ []) gives at.gives)
               (all_right (λ x. x < 256) (segment_bytes at.segment) at.more (subst AreBytes at.tail_is all))
               (e ∙ ap (λ u. flat_map segment_bytes segments ++ (stuffed u ++ rest)) (nothing code none) ∙ ap (λ u. flat_map segment_bytes segments ++ u) at.tail_is
               ∙ sym (append_assoc (flat_map segment_bytes segments) (segment_bytes at.segment) at.more)
@@ -100,12 +100,12 @@ module _ (h : Fields) (height : ℕ) where
         joined ss z q = is ∙ ap (λ u. stripe_bytes s ++ u) q ∙ sym (append_assoc (stripe_bytes s) (flat_map stripe_bytes ss) z)
 
         next : Read (suc k) (n + length (lengths s.segments)) m more → Read k n (suc m) tail
-        next (all_there ss rest many each gs q) = all_there (s ∷ ss) rest (ap suc many) (begun, each) (gives_both height n s.segments (all_segments ss) gives gs) (joined ss rest q)
+        next (all_there ss rest many each gs q) = all_there (s ∷ ss) rest (ap suc many) (begun, each) (gives_both height n (all_segments ss) gives gs) (joined ss rest q)
         next (some_there ss f t less each gs left q) =
             let a : suc k + length ss ≡ k + suc (length ss) = omega arith in
             let c = many_lengths s.segments (all_segments ss) in
             let b : (n + length (lengths s.segments)) + length (lengths (all_segments ss)) ≡ n + length (lengths (all_segments (s ∷ ss))) = omega (arith, c) in
-            some_there (s ∷ ss) f t (omega (arith, less)) (begun, each) (gives_both height n s.segments (all_segments ss) gives gs)
+            some_there (s ∷ ss) f t (omega (arith, less)) (begun, each) (gives_both height n (all_segments ss) gives gs)
             (subst (λ u. StripeFault h (spot_of height (k + suc (length ss)) u) t f) b (subst (λ u. StripeFault h (spot_of height u ((n + length (lengths s.segments)) + length (lengths (all_segments ss)))) t f) a left)) (joined ss t q)
 
   -- so many whole stripes and a rest, or fewer and one that isn't whole

@@ -52,7 +52,7 @@ module _ (h : Fields) (height : ℕ) (ss : List Stripe) (front : List Segment) (
   }
 
   pub gives_on : (more : List Segment) → lengths more ≡ [] → GiveOnly height 0 ((all_segments ss ++ front) ++ more)
-  gives_on more none = gives_both height 0 (all_segments ss ++ front) more gives (gives_none height (0 + length (lengths (all_segments ss ++ front))) more gives.one none)
+  gives_on more none = gives_both height 0 more gives (gives_none height (0 + length (lengths (all_segments ss ++ front))) more gives.one none)
 
   pub segments_are : (t : Stripe) (ts : List Stripe) → all_segments (ss ++ joined_to front t ∷ ts) ≡ (all_segments ss ++ front) ++ all_segments (t ∷ ts)
   segments_are t ts =
@@ -97,7 +97,7 @@ module _ (h : Fields) (height : ℕ) (ss : List Stripe) (front : List Segment) (
       begun = begun_joined q.segments q.code q.begun q.alone;
       gives = (let g = gives_right height 0 (all_segments ss) front gives in
           let g' : GiveOnly height (length (lengths (all_segments ss))) front = (let z : 0 + length (lengths (all_segments ss)) ≡ length (lengths (all_segments ss)) = omega arith in subst (λ n. GiveOnly height n front) z g) in
-          gives_both height (length (lengths (all_segments ss))) front q.segments g' (gives_none height (length (lengths (all_segments ss)) + length (lengths front)) q.segments g'.one q.none));
+          gives_both height (length (lengths (all_segments ss))) q.segments g' (gives_none height (length (lengths (all_segments ss)) + length (lengths front)) q.segments g'.one q.none));
       rest_has = same_rest h height (length ss + 0) (cond given 1 0) (cond moved 1 0 + count_by is_move q.segments)
           (length ss) (length (lengths (all_segments ss)) + length (lengths (front ++ q.segments))) (count_by is_move (front ++ q.segments)) (not (is_nil q.code)) q.rest f
           (omega arith)

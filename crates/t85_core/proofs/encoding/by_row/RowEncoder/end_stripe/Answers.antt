@@ -36,7 +36,7 @@ pub returns-clause-cut : goal.returns-clause-cut
 returns-clause-cut g c = always_err c.write_held.result (λ image rows origin r.
     let e = c.in_ok-end_entity.ensures.ended (row_start_in image.settings image.width r.at r.part).state.place r.pushed (subst (λ e. EncoderIsAt e (row_start_in image.settings image.width r.at r.part).state.place r.pushed) (sym c.replace-encoder.ensures.value) r.running.codes) in
     stripe_cut image rows (view_of c.args.self.now c.args.learning.now) (held c.args.window.now) origin _ _ c.requires.some r c.writing_laws.ensures e.code e.more e.is e.all
-    (beginning_all _ _ e.more (Appends-keeps _ _ _ e.more e.ok c.write_held.ensures.text)))
+    (beginning_all (Appends-keeps _ _ _ e.more e.ok c.write_held.ensures.text)))
 
 pub returns-in_err-end_entity-clause-few : goal.returns-in_err-end_entity-clause-few
 returns-in_err-end_entity-clause-few g c =

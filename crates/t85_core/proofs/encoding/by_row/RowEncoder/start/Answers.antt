@@ -31,5 +31,5 @@ returns-clause-cut g c is =
     let head = head_of (settings_of c.args.options.now) c.args.size.width c.args.size.height in
     let more : known_length (g.W.Output.view c.args.output.now).contents ≤ known_length (g.W.Output.view after.output.now).contents = subst (λ z. known_length z ≤ known_length (g.W.Output.view after.output.now).contents) lent c.start_held.ensures.writes.1 in
     moved (λ w. (g.W.Output.view w).contents) (λ z. AppendsBeginning (g.W.Output.view c.args.output.now).contents z head) after.output.now _ (search rules)
-    (beginning_handed (g.W.Output.view c.args.output.now).contents (g.W.Output.view after.output.now).contents (held_of after.bytes after.at after.end) head more
+    (beginning_handed (g.W.Output.view after.output.now).contents (held_of after.bytes after.at after.end) more
     (subst (λ z. AppendsBeginning z (text_taken after) head) text_is (err_of c.start_held.result is c.start_held.ensures.cut)))
