@@ -49,14 +49,15 @@ moved_there t current = went (t == current) refl where
   went false is = refl
 
 -- a window over a copy of another one's bytes
-pub copied : (copy : Held) (place place' width width' : ℕ) (bytes bytes' : List ℕ) → bytes ≡ bytes' → place ≡ place' → width' ≡ width → copy ≡ rows_at place width bytes → copy ≡ rows_at place' width' bytes'
-copied copy place place' width width' bytes bytes' same at wide is = is ∙ ap (λ p. rows_at p width bytes) at ∙ ap (λ n. rows_at place' n bytes) (sym wide) ∙ ap (rows_at place' width') same
+pub copied : {copy : Held} {place place' width width' : ℕ} {bytes bytes' : List ℕ} → bytes ≡ bytes' → place ≡ place' → width' ≡ width → copy ≡ rows_at place width bytes →
+    copy ≡ rows_at place' width' bytes'
+copied {place'} {width} {width'} {bytes} same at wide is = is ∙ ap (λ p. rows_at p width bytes) at ∙ ap (λ n. rows_at place' n bytes) (sym wide) ∙ ap (rows_at place' width') same
 
 -- before the first row
-pub trial_begins : (e : RowEncoder) (learned : List Estimate) (window window' : Held) (carry : StripeStart) (t width : ℕ) (trial : Trial) → IsCarriedTo e learned window carry → trial.kept.offset ≡ t → trial.kept.previous_typical ≡ e.kept.previous_typical
-    → trial.learned ≡ learned → EncoderIsAt trial.encoder start [] → trial.sink.bytes ≡ 0 → is_two_line trial.tally ≡ e.shape.two_line → most_of trial.tally ≡ e.most_offset → CountsLines trial.tally width 0 []
-    → (IsLined window → window' ≡ window) → IsTried (trial_from e carry t) [] width trial window'
-trial_begins e learned window window' carry t width trial carried offset previous taught codes none two_line most counts stays = record {
+pub trial_begins : {learned : List Estimate} {t width : ℕ} (e : RowEncoder) (window window' : Held) (carry : StripeStart) (trial : Trial) → IsCarriedTo e learned window carry → trial.kept.offset ≡ t →
+    trial.kept.previous_typical ≡ e.kept.previous_typical → trial.learned ≡ learned → EncoderIsAt trial.encoder start [] → trial.sink.bytes ≡ 0 → is_two_line trial.tally ≡ e.shape.two_line →
+    most_of trial.tally ≡ e.most_offset → CountsLines trial.tally width 0 [] → (IsLined window → window' ≡ window) → IsTried (trial_from e carry t) [] width trial window'
+trial_begins {t} e window window' carry trial carried offset previous taught codes none two_line most counts stays = record {
   pushed = [];
   codes = codes;
   bytes = none;
@@ -92,14 +93,14 @@ module _ (cost : ℕ → ℕ) where
   than_both t u v (inr (a, _)) (inl b) = inl (omega (arith, a, b))
   than_both t u v (inr (a, c)) (inr (b, d)) = inr (a ∙ b, omega (arith, c, d))
 
-  two_shortest : (current : ℕ) (second : Choice) → Chooses cost current 0 second → IsShortest cost (current ∷ 0 ∷ []) second.offset
-  two_shortest current second h = record { among = which h.one; no_worse = (h.than_first, (h.than_second, tt)) } where
+  two_shortest : {current : ℕ} {second : Choice} → Chooses cost current 0 second → IsShortest cost (current ∷ 0 ∷ []) second.offset
+  two_shortest {current} {second} h = record { among = which h.one; no_worse = (h.than_first, (h.than_second, tt)) } where
     which : (second.offset ≡ current) ⊎ (second.offset ≡ 0) → Contains (current ∷ 0 ∷ []) second.offset
     which (inl e) = (0, omega arith, sym e)
     which (inr e) = (1, omega arith, sym e)
 
-  three_shortest : (current lag : ℕ) (second best : Choice) → Chooses cost current 0 second → Chooses cost second.offset lag best → IsShortest cost (current ∷ 0 ∷ lag ∷ []) best.offset
-  three_shortest current lag second best h k = record {
+  three_shortest : {current lag : ℕ} {second best : Choice} → Chooses cost current 0 second → Chooses cost second.offset lag best → IsShortest cost (current ∷ 0 ∷ lag ∷ []) best.offset
+  three_shortest {current} {lag} {second} {best} h k = record {
     among = which h.one k.one;
     no_worse = (than_both best.offset second.offset current k.than_first h.than_first, (than_both best.offset second.offset 0 k.than_first h.than_second, (k.than_second, tt)));
   } where
@@ -116,12 +117,12 @@ module _ (cost : ℕ → ℕ) where
 
     pub two_best : (current : ℕ) (second : Choice) → Chooses cost current 0 second → IsShortest other (current ∷ 0 ∷ []) second.offset
     two_best current second h =
-        let s = two_shortest current second h in
+        let s = two_shortest h in
         record { among = s.among; no_worse = (as_good _ _ s.no_worse.0, (as_good _ _ s.no_worse.1.0, tt)) }
 
     pub three_best : (current lag : ℕ) (second best : Choice) → Chooses cost current 0 second → Chooses cost second.offset lag best → IsShortest other (current ∷ 0 ∷ lag ∷ []) best.offset
     three_best current lag second best h k =
-        let s = three_shortest current lag second best h k in
+        let s = three_shortest h k in
         record { among = s.among; no_worse = (as_good _ _ s.no_worse.0, (as_good _ _ s.no_worse.1.0, (as_good _ _ s.no_worse.1.1.0, tt))) }
 
 -- ---- of each raster that may come
@@ -147,8 +148,7 @@ rows_held e n is =
     let h = holds (not e.is_closed) (e.in_stripe == 0) (n % bytes_of_row e.size.width == 0) (nat_le 1 count) ((count == most) || (e.may_end && nat_le count most)) is in
     (is_zero e.in_stripe h.0, is_some_row count h.1)
 
-module _ (double : EventsDouble) (short : CodeIsShort) (image : Image) (rows part : List (List Bool)) (e : RowEncoder) (learning : Learning) (window : Held) (origin : Origin) (text : Option (List ℕ)) (raster : Raster)
-    (w : Waits image rows (view_of e learning) window origin text) (m : MayCome image (rows ++ part) raster) (enough : length part ≡ min image.settings.stripe_rows (height raster - length rows)) (some_part : 1 ≤ length part) where
+module _ {image : Image} {rows : List (List Bool)} {window : Held} {origin : Origin} {text : Option (List ℕ)} {raster : Raster} (double : EventsDouble) (short : CodeIsShort) (part : List (List Bool)) (e : RowEncoder) (learning : Learning) (w : Waits image rows (view_of e learning) window origin text) (m : MayCome image (rows ++ part) raster) (enough : length part ≡ min image.settings.stripe_rows (height raster - length rows)) (some_part : 1 ≤ length part) where
   abbrev s : Settings
   s = image.settings
 
@@ -180,10 +180,10 @@ module _ (double : EventsDouble) (short : CodeIsShort) (image : Image) (rows par
   come t = record { proper = m.proper; width_is = m.width_is; height_to = m.height_to; height_is = m.height_is; first = m.first }
 
   whole : (t : ℕ) → StripesWhole (naming image (names t)) w.i rows w.at w.front
-  whole t = stands_anew image w.i rows w.at w.front w.stripes (names t) (names_before t w.i image.settings.named)
+  whole t = stands_anew w.stripes (names t) (names_before t w.i image.settings.named)
 
   goes : (t : ℕ) → CourseGoes (named t) raster w.i w.at part
-  goes t = stripe_comes (naming image (names t)) w.i rows w.at w.front w.plan_is.some (whole t) part raster (come t) within many
+  goes t = stripe_comes w.plan_is.some (whole t) part (come t) within many
 
   named_is : (t : ℕ) → named_for (named t) w.at.stripe ≡ Some t
   named_is t = ap (λ j. slice_index_or (names t) j None) w.stripes.stripe_is ∙ name_at t w.i image.settings.named
@@ -225,23 +225,25 @@ module _ (double : EventsDouble) (short : CodeIsShort) (image : Image) (rows par
       ∙ ap (λ lines. best_offset (plain_lines (mode_of s.options) lines) (candidates (mode_of s.options).two_line s.most_offset)) (goes t).lines
 
   course : CourseAt image.settings raster w.i w.at
-  course = (stands_here image w.i rows w.at w.front w.stripes).course raster (come_first image rows part raster m) within
+  course = (stands_here w.stripes).course raster (come_first rows part m) within
 
   offset_is : e.kept.offset ≡ offset_to s raster w.i
   offset_is = on.is_held.offset_is ∙ course.offset
 
   index_is : length rows / l ≡ w.i
-  index_is = (whole_rows (length rows) l w.i w.plan_is.some w.stripes.many).0
+  index_is = (whole_rows l w.i w.plan_is.some w.stripes.many).0
 
-  pub found : (lag : Option ℕ) (t : ℕ) → lag ≡ tried_lag (trial_from e c e.kept.offset) part → IsShortest (stripe_length s raster w.i) (e.kept.offset ∷ 0 ∷ option_to_list lag) t → IsBestFor s raster (length rows / l) t
-  found lag t is best =
+  pub found : {lag : Option ℕ} {t : ℕ} → lag ≡ tried_lag (trial_from e c e.kept.offset) part → IsShortest (stripe_length s raster w.i) (e.kept.offset ∷ 0 ∷ option_to_list lag) t →
+      IsBestFor s raster (length rows / l) t
+  found {t} is best =
       subst (λ i. IsBestFor s raster i t) (sym index_is)
       (subst (λ o. IsShortest (stripe_length s raster w.i) (o ∷ 0 ∷ option_to_list (counted_lag s raster w.i)) t) offset_is
       (subst (λ z. IsShortest (stripe_length s raster w.i) (e.kept.offset ∷ 0 ∷ option_to_list z) t) (is ∙ lag_is e.kept.offset) best))
 
-  pub found_two : (lag : Option ℕ) (second : Choice) → lag ≡ None → lag ≡ tried_lag (trial_from e c e.kept.offset) part → Chooses (trial_length e c part) e.kept.offset 0 second → IsBestFor s raster (length rows / l) second.offset
-  found_two lag second none is h = found None second.offset (sym none ∙ is) (two_best (trial_length e c part) (stripe_length s raster w.i) length_is e.kept.offset second h)
+  pub found_two : {lag : Option ℕ} {second : Choice} → lag ≡ None → lag ≡ tried_lag (trial_from e c e.kept.offset) part → Chooses (trial_length e c part) e.kept.offset 0 second →
+      IsBestFor s raster (length rows / l) second.offset
+  found_two {second} none is h = found (sym none ∙ is) (two_best (trial_length e c part) (stripe_length s raster w.i) length_is e.kept.offset second h)
 
-  pub found_three : (lag : Option ℕ) (u : ℕ) (second best : Choice) → lag ≡ Some u → lag ≡ tried_lag (trial_from e c e.kept.offset) part → Chooses (trial_length e c part) e.kept.offset 0 second → Chooses (trial_length e c part) second.offset u best
-      → IsBestFor s raster (length rows / l) best.offset
-  found_three lag u second best some is h k = found (Some u) best.offset (sym some ∙ is) (three_best (trial_length e c part) (stripe_length s raster w.i) length_is e.kept.offset u second best h k)
+  pub found_three : {lag : Option ℕ} {u : ℕ} {second best : Choice} → lag ≡ Some u → lag ≡ tried_lag (trial_from e c e.kept.offset) part → Chooses (trial_length e c part) e.kept.offset 0 second →
+      Chooses (trial_length e c part) second.offset u best → IsBestFor s raster (length rows / l) best.offset
+  found_three {u} {second} {best} some is h k = found (sym some ∙ is) (three_best (trial_length e c part) (stripe_length s raster w.i) length_is e.kept.offset u second best h k)

@@ -25,8 +25,9 @@ module _ {form : Form} (width height' : ℕ) (whole : Raster → List ℕ) (know
   pub coded_handed : ImageCoded (layout_of form width height') whole (passage known known' text old) → Keeps old new → ImageCoded (layout_of form width height') whole (passage known known' text new)
   coded_handed i k = record { rows = i.rows; many = i.many; read = i.read; appended = Appends-keeps text old new _ i.appended k }
 
-  pub short_handed : (s : Settings) (up_to : Raster → ℕ → List ℕ) (fault : PbmFault) → ImageShort s (layout_of form width height') up_to whole (passage known known' text old) fault → Keeps old new → ImageShort s (layout_of form width height') up_to whole (passage known known' text new) fault
-  short_handed s up_to fault i k = record { rows = i.rows; few = i.few; mid = i.mid; read = i.read; part = i.part; bytes = i.bytes; holds = i.holds; begins = i.begins; appended = Appends-keeps text old new _ i.appended k }
+  pub short_handed : {s : Settings} {up_to : Raster → ℕ → List ℕ} {fault : PbmFault} → ImageShort s (layout_of form width height') up_to whole (passage known known' text old) fault → Keeps old new →
+      ImageShort s (layout_of form width height') up_to whole (passage known known' text new) fault
+  short_handed i k = record { rows = i.rows; few = i.few; mid = i.mid; read = i.read; part = i.part; bytes = i.bytes; holds = i.holds; begins = i.begins; appended = Appends-keeps text old new _ i.appended k }
 
   pub front_handed : ImageFront (layout_of form width height') whole (passage known known' text old) → Keeps old new → ImageFront (layout_of form width height') whole (passage known known' text new)
   front_handed i k = record {
@@ -83,8 +84,9 @@ module _ {form : Form} (width height' : ℕ) (whole : Raster → List ℕ) (know
   })
 
   -- some were, and a row of which less came
-  pub short_front : (s : Settings) (up_to : Raster → ℕ → List ℕ) (fault : PbmFault) → ImageShort s (layout_of form width height') up_to whole (passage known known' text text') fault → ImageFront (layout_of form width height') whole (passage known known' text text')
-  short_front s up_to fault i = record {
+  pub short_front : {s : Settings} {up_to : Raster → ℕ → List ℕ} {fault : PbmFault} → ImageShort s (layout_of form width height') up_to whole (passage known known' text text') fault →
+      ImageFront (layout_of form width height') whole (passage known known' text text')
+  short_front {fault} i = record {
     rows = i.rows;
     few = (let less = i.few in omega (arith, less));
     mid = i.mid;
@@ -104,4 +106,4 @@ module _ {form : Form} (width height' : ℕ) (whole : Raster → List ℕ) (know
   told_front s up_to fault among other short = went (which fault among) where
     went : (fault ≡ Write) ⊎ ((why : PbmFault) × (fault ≡ Pbm why)) → ImageFront (layout_of form width height') whole (passage known known' text text')
     went (inl is) = absurd (other is)
-    went (inr (why, is)) = short_front s up_to why (short why (is_of fault (Pbm why) is))
+    went (inr (why, is)) = short_front (short why (is_of is))

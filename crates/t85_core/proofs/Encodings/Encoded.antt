@@ -185,11 +185,11 @@ module _ (s : Settings) (form : Form) (width height' : ℕ) (in_old in_new out_o
   }
 
 -- the output before its loan, and at the loan's end
-pub encodes_at : {W : Type 0} (contents : W → Option (List ℕ)) (failures : W → ℕ) (s : Settings) (form : Form) (width height' : ℕ) (in_old in_new : Option (List ℕ)) (reads_old reads_new : ℕ)
-    (before : Option (List ℕ)) (count : ℕ) (start output output' : W) (r : Result (Unit {0}) Fault) → before ≡ contents start → count ≡ failures start → output ≡ output' →
+pub encodes_at : {W : Type 0} {s : Settings} {before : Option (List ℕ)} {count : ℕ} {output output' : W} {r : Result (Unit {0}) Fault} (contents : W → Option (List ℕ)) (failures : W → ℕ) (form : Form)
+    (width height' : ℕ) (in_old in_new : Option (List ℕ)) (reads_old reads_new : ℕ) (start : W) → before ≡ contents start → count ≡ failures start → output ≡ output' →
     Encode s (layout_of form width height') (between in_old in_new reads_old reads_new) (between before (contents output) count (failures output)) r →
     Encode s (layout_of form width height') (between in_old in_new reads_old reads_new) (between (contents start) (contents output') (failures start) (failures output')) r
-encodes_at contents failures s form width height' in_old in_new reads_old reads_new before count start output output' r text n same e =
+encodes_at {s} {before} {output} {r} contents failures form width height' in_old in_new reads_old reads_new start text n same e =
     subst (λ x. Encode s (layout_of form width height') (between in_old in_new reads_old reads_new) (between (contents start) (contents x) (failures start) (failures x)) r) same
     (subst (λ z. Encode s (layout_of form width height') (between in_old in_new reads_old reads_new) (between z (contents output) (failures start) (failures output)) r) text
     (subst (λ z. Encode s (layout_of form width height') (between in_old in_new reads_old reads_new) (between before (contents output) z (failures output)) r) n e))

@@ -82,24 +82,23 @@ module _ (s : Settings) (raster : Raster) where
     pub carried : CarriedAt c i (r + length rows) (y + length rows) (after_rows c.mode move r b rows)
     pub lines : lines_down b.above b.second rows ≡ map (lines_of d) (numbers_from y (length rows))
 
-  pub rows_down : (i : ℕ) (move : Option (ℕ × ℕ)) → slice_index_or c.moves i None ≡ move → (rows : List (List Bool)) (r y : ℕ) (b : RowStart) →
-      r + length rows ≤ s.stripe_rows → y + length rows ≤ height raster → y ≡ i * s.stripe_rows + r → CarriedAt c i r y b →
-      Continues (white_row raster.width) raster.rows y rows → RowsDown i r y move b rows
-  rows_down i move move_is [] r y b few within y_is h rows_at =
+  pub rows_down : {i y : ℕ} {move : Option (ℕ × ℕ)} {b : RowStart} → slice_index_or c.moves i None ≡ move → (rows : List (List Bool)) (r : ℕ) → r + length rows ≤ s.stripe_rows →
+      y + length rows ≤ height raster → y ≡ i * s.stripe_rows + r → CarriedAt c i r y b → Continues (white_row raster.width) raster.rows y rows → RowsDown i r y move b rows
+  rows_down {i} {y} {b} move_is [] r few within y_is h rows_at =
       let r0 : r ≡ r + 0 = omega arith in
       let y0 : y ≡ y + 0 = omega arith in
       record {
         carried = subst (λ u. CarriedAt c i (r + 0) u b) y0 (subst (λ u. CarriedAt c i u y b) r0 h);
         lines = refl;
       }
-  rows_down i move move_is (row ∷ rows) r y b few within y_is h rows_at =
+  rows_down {i} {y} {move} {b} move_is (row ∷ rows) r few within y_is h rows_at =
       let lt : r < s.stripe_rows = omega (arith, few) in
       let row_is = continues_first (white_row raster.width) raster.rows y row rows rows_at in
       let here : lines_with b row ≡ lines_of d y = row_lines c i r y lt y_is b h row (slice_index_or c.flags y false) row_is refl move move_is ∙ same_lines y in
       let flag_is : slice_index_or c.flags y false ≡ next_flag c.mode b row = flag_is_typical y (omega (arith, within)) ∙ ap (may_be_typical c.mode) (sym here) in
       let y_next : y + 1 ≡ i * s.stripe_rows + (r + 1) = omega (arith, y_is) in
       let rest : RowsDown i (r + 1) (y + 1) move (after_row c.mode move r b row (next_flag c.mode b row)) rows =
-      rows_down i move move_is rows (r + 1) (y + 1) (after_row c.mode move r b row (next_flag c.mode b row)) (omega (arith, few)) (omega (arith, within)) y_next
+      rows_down {y = y + 1} move_is rows (r + 1) (omega (arith, few)) (omega (arith, within)) y_next
       (row_carried c i r y lt y_is b h row (next_flag c.mode b row) row_is flag_is move move_is)
       (continues_rest (white_row raster.width) raster.rows y row rows rows_at) in
       let rs : (r + 1) + length rows ≡ r + suc (length rows) = omega arith in

@@ -23,9 +23,9 @@ use Rattle.t85_core.proofs.Theorems.StateLookedUp.{CarriedAt, stripe_begins}
 use Rattle.t85_core.proofs.Encodings.EncoderRows.{get_mapped, none_chosen, offset_after, RowsDown, rows_down}
 
 -- a stripe ends, and the next begins
-next_carry : (c : Coding) (i : ℕ) (reset : Bool) (last : RowStart) → slice_index_or c.resets i false ≡ reset → suc i * c.stripe_rows ≤ height c.raster →
+next_carry : {c : Coding} {i : ℕ} {reset : Bool} {last : RowStart} → slice_index_or c.resets i false ≡ reset → suc i * c.stripe_rows ≤ height c.raster →
     CarriedAt c i c.stripe_rows (suc i * c.stripe_rows) last → CarryAt c (suc i) (suc i * c.stripe_rows) (next_stripe_start c.raster.width reset last)
-next_carry c i true last reset_is long k =
+next_carry {c} {i} {reset = true} reset_is long k =
     let y : ℕ = suc i * c.stripe_rows in
     let fresh_here : fresh_stripe c (suc i) ≡ suc i = ap (λ b. if b then suc i else fresh_stripe c i) reset_is in
     let none : suc i * c.stripe_rows - suc i * c.stripe_rows ≡ 0 = omega arith in
@@ -37,7 +37,7 @@ next_carry c i true last reset_is long k =
       above = sym (ap (λ j. row_above c.raster (j * c.stripe_rows) y 1) fresh_here ∙ row_above_top c.raster y 1 (omega arith));
       second = sym (ap (λ j. row_above c.raster (j * c.stripe_rows) y 2) fresh_here ∙ row_above_top c.raster y 2 (omega arith));
     }
-next_carry c i false last reset_is long k =
+next_carry {c} {i} {reset = false} reset_is long k =
     let y : ℕ = suc i * c.stripe_rows in
     let fresh_before : fresh_stripe c i ≡ fresh_stripe c (suc i) = sym (ap (λ b. if b then suc i else fresh_stripe c i) reset_is) in
     let many : c.stripe_rows ≡ min c.stripe_rows (height c.raster - i * c.stripe_rows) = omega (arith, long) in
@@ -52,9 +52,9 @@ next_carry c i false last reset_is long k =
       second = k.second ∙ ap (λ j. row_above c.raster (j * c.stripe_rows) y 2) fresh_before;
     }
 
-move_is_before : (s : Settings) (raster : Raster) (i : ℕ) (at : EncoderStart) → at.stripe ≡ i → at.counted ≡ lines_before s raster i → at.carry.offset ≡ offset_to s raster i →
+move_is_before : {i : ℕ} (s : Settings) (raster : Raster) (at : EncoderStart) → at.stripe ≡ i → at.counted ≡ lines_before s raster i → at.carry.offset ≡ offset_to s raster i →
     next_move s raster.width at ≡ move_before s (cut s raster) i
-move_is_before s raster i at stripe counted offset =
+move_is_before {i} s raster at stripe counted offset =
     ap (λ j. move j at.carry.offset at.counted) stripe
     ∙ ap (move i at.carry.offset) counted
     ∙ ap (λ o. move i o (lines_before s raster i)) offset
@@ -80,7 +80,7 @@ course_begins s raster = record {
   };
   counted = refl;
   offset = refl;
-  move = move_is_before s raster 0 (first_encoder_start raster.width) refl refl refl;
+  move = move_is_before s raster (first_encoder_start raster.width) refl refl refl;
 } where
   none : 0 * s.stripe_rows - 0 * s.stripe_rows ≡ 0
   none = omega arith
@@ -122,9 +122,7 @@ offset_ends s raster (suc i) last h = went s.reset where
   went true = refl
   went false = h
 
-module _ (s : Settings) (raster : Raster) (i : ℕ) (at : EncoderStart) (rows : List (List Bool)) (some : 1 ≤ s.stripe_rows) (inside : i < stripe_count (height raster) s.stripe_rows)
-    (h : CourseAt s raster i at) (rows_at : Continues (white_row raster.width) raster.rows (i * s.stripe_rows) rows)
-    (many : length rows ≡ min s.stripe_rows (height raster - i * s.stripe_rows)) where
+module _ {s : Settings} {raster : Raster} {i : ℕ} {at : EncoderStart} (rows : List (List Bool)) (some : 1 ≤ s.stripe_rows) (inside : i < stripe_count (height raster) s.stripe_rows) (h : CourseAt s raster i at) (rows_at : Continues (white_row raster.width) raster.rows (i * s.stripe_rows) rows) (many : length rows ≡ min s.stripe_rows (height raster - i * s.stripe_rows)) where
   within : i * s.stripe_rows < height raster
   within = stripe_within (height raster) s.stripe_rows i some inside
 
@@ -139,7 +137,7 @@ module _ (s : Settings) (raster : Raster) (i : ℕ) (at : EncoderStart) (rows : 
   down : RowsDown s raster i 0 (i * s.stripe_rows) (next_move s raster.width at) (first_row_start at.carry) rows
   down =
       let y : i * s.stripe_rows ≡ i * s.stripe_rows + 0 = omega arith in
-      rows_down s raster i (next_move s raster.width at) move_is rows 0 (i * s.stripe_rows) (first_row_start at.carry) (omega (arith, many)) (omega (arith, many, within)) y
+      rows_down s raster move_is rows 0 (omega (arith, many)) (omega (arith, many, within)) y
       (stripe_begins (coding_of s raster) i at.carry h.carry) rows_at
 
   state_is : (row_start_in s raster.width at rows).state ≡ after (begun (learned_at (coding_of s raster) i)) (events_of (coding_of s raster) i)
@@ -165,10 +163,10 @@ module _ (s : Settings) (raster : Raster) (i : ℕ) (at : EncoderStart) (rows : 
   next_is : suc i * s.stripe_rows ≤ height raster → CourseAt s raster (suc i) (next_encoder_start s raster.width at rows)
   next_is long = record {
     stripe = ap suc h.stripe;
-    carry = next_carry (coding_of s raster) i s.reset (row_start_in s raster.width at rows) reset_is long carried;
+    carry = next_carry reset_is long carried;
     counted = counted;
     offset = offset;
-    move = move_is_before s raster (suc i) (next_encoder_start s raster.width at rows) (ap suc h.stripe) counted offset;
+    move = move_is_before s raster (next_encoder_start s raster.width at rows) (ap suc h.stripe) counted offset;
   } where
     counted : lines_down at.carry.above at.carry.second rows ≡ lines_before s raster (suc i)
     counted = down.lines ∙ ap (λ n. map (lines_of (cut s raster)) (numbers_from (i * s.stripe_rows) n)) many

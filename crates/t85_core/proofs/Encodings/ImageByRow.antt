@@ -42,9 +42,9 @@ module _ (image : Image) (rows : List (List Bool)) (v : RowView) (window : Held)
     bytes = w.front;
     sent = w.sent;
     begun = λ raster b. record {
-      holds = record { rest = []; bytes_are = (stands_here image w.i rows w.at w.front w.stripes).front_is raster b ∙ sym (ap (jbg_up_to image.settings raster) whole) ∙ sym (append-nil (jbg_up_to image.settings raster (length rows / image.settings.stripe_rows))) };
-      begins = front_begins image.settings raster w.i w.front (few_stripes (height raster) image.settings.stripe_rows w.i w.plan_is.some (let long = come_long image rows raster b in omega (arith, long, w.stripes.many)))
-          (record { rest = []; bytes_are = sym ((stands_here image w.i rows w.at w.front w.stripes).front_is raster b) ∙ sym (append-nil w.front) });
+      holds = record { rest = []; bytes_are = (stands_here w.stripes).front_is raster b ∙ sym (ap (jbg_up_to image.settings raster) whole) ∙ sym (append-nil (jbg_up_to image.settings raster (length rows / image.settings.stripe_rows))) };
+      begins = front_begins image.settings raster w.i (few_stripes (height raster) image.settings.stripe_rows w.i w.plan_is.some (let long = come_long b in omega (arith, long, w.stripes.many)))
+          (record { rest = []; bytes_are = sym ((stands_here w.stripes).front_is raster b) ∙ sym (append-nil w.front) });
     };
   } where
     whole : length rows / image.settings.stripe_rows ≡ w.i
@@ -60,17 +60,17 @@ module _ (image : Image) (rows : List (List Bool)) (v : RowView) (window : Held)
     begun = λ raster b. record {
       holds = record {
         rest = move_bytes image.settings image.width r.at ++ r.pushed;
-        bytes_are = ap (λ z. z ++ (move_bytes image.settings image.width r.at ++ r.pushed)) ((stands_here image r.i r.whole r.at r.front r.stripes).front_is raster (first raster b) ∙ sym (ap (jbg_up_to image.settings raster) whole));
+        bytes_are = ap (λ z. z ++ (move_bytes image.settings image.width r.at ++ r.pushed)) ((stands_here r.stripes).front_is raster (first raster b) ∙ sym (ap (jbg_up_to image.settings raster) whole));
       };
-      begins = part_begins image r.i r.whole r.at r.front r.plan_is.some r.stripes r.part (move_bytes image.settings image.width r.at ++ r.pushed) r.few begins raster (all raster b)
-          (let long = come_long image (r.whole ++ r.part) raster (all raster b) in omega (arith, long, length-append r.whole r.part, r.stripes.many, some, r.in_stripe));
+      begins = part_begins r.plan_is.some r.stripes r.part (move_bytes image.settings image.width r.at ++ r.pushed) r.few begins (all raster b)
+          (let long = come_long (all raster b) in omega (arith, long, length-append r.whole r.part, r.stripes.many, some, r.in_stripe));
     };
   } where
     all : (raster : Raster) → MayCome image rows raster → MayCome image (r.whole ++ r.part) raster
     all raster b = subst (λ z. MayCome image z raster) r.all b
 
     first : (raster : Raster) → MayCome image rows raster → MayCome image r.whole raster
-    first raster b = come_first image r.whole r.part raster (all raster b)
+    first raster b = come_first r.whole r.part (all raster b)
 
     whole : length rows / image.settings.stripe_rows ≡ r.i
     whole =
@@ -95,28 +95,28 @@ module _ (image : Image) (rows : List (List Bool)) (v : RowView) (window : Held)
 
 -- ---- an image of a height that is known
 
-pub may_come : (s : Settings) (width height' : ℕ) (rows : List (List Bool)) (raster : Raster) → BeginsWith width height' rows raster → MayCome (image_of s width height') rows raster
-may_come s width height' rows raster b = record { proper = b.proper; width_is = b.width_is; height_to = omega (arith, b.height_is); height_is = λ _. b.height_is; first = b.first }
+pub may_come : {width height' : ℕ} {rows : List (List Bool)} {raster : Raster} (s : Settings) → BeginsWith width height' rows raster → MayCome (image_of s width height') rows raster
+may_come s b = record { proper = b.proper; width_is = b.width_is; height_to = omega (arith, b.height_is); height_is = λ _. b.height_is; first = b.first }
 
-module _ {form : Form} (s : Settings) (width height' : ℕ) (rows : List (List Bool)) (known mid known' text text' : Option (List ℕ)) (read : ReadsRows form width known mid rows) where
+module _ {form : Form} {width : ℕ} {rows : List (List Bool)} {known mid : Option (List ℕ)} (s : Settings) (height' : ℕ) (known' text text' : Option (List ℕ)) (read : ReadsRows form width known mid rows) where
   -- no whole row more came
-  pub front_short : (fault : PbmFault) → length rows < height' → EndsInRow form width mid known' fault → StreamFront (image_of s width height') rows (here text) text'
-      → ImageShort s (layout_of form width height') (λ raster n. jbg_up_to s raster n) (λ raster. jbg s raster) (passage known known' text text') fault
-  front_short fault few part front = record {
+  pub front_short : {fault : PbmFault} → length rows < height' → EndsInRow form width mid known' fault → StreamFront (image_of s width height') rows (here text) text' →
+      ImageShort s (layout_of form width height') (λ raster n. jbg_up_to s raster n) (λ raster. jbg s raster) (passage known known' text text') fault
+  front_short few part front = record {
     rows = rows;
     few = few;
     mid = mid;
     read = read;
     part = part;
     bytes = front.bytes;
-    holds = λ raster b. (front.begun raster (may_come s width height' rows raster b)).holds;
-    begins = λ raster b. (front.begun raster (may_come s width height' rows raster b)).begins;
+    holds = λ raster b. (front.begun raster (may_come s b)).holds;
+    begins = λ raster b. (front.begun raster (may_come s b)).begins;
     appended = here_sent front.sent;
   }
 
   -- the target took no more
   pub cut_refused : length rows ≤ height' → StreamCut (image_of s width height') rows (here text) text' → ImageRefused (layout_of form width height') (λ raster. jbg s raster) (passage known mid text text')
-  cut_refused few cut = record { rows = rows; few = few; read = read; bytes = cut.bytes; begins = λ raster b. cut.begins raster (may_come s width height' rows raster b); appended = here_sent cut.sent }
+  cut_refused few cut = record { rows = rows; few = few; read = read; bytes = cut.bytes; begins = λ raster b. cut.begins raster (may_come s b); appended = here_sent cut.sent }
 
   pub end_refused : length rows ≡ height' → SendsBeginning (here text) text' (jbg s (raster_of width rows)) → ImageRefused (layout_of form width height') (λ raster. jbg s raster) (passage known mid text text')
   end_refused many cut = record {
@@ -140,5 +140,5 @@ ComeTo form s width height' count known known' v window text text' =
     (rows : List (List Bool)) × (length rows ≡ count) × ReadsRows form width known known' rows × Stands (image_of s width height') rows v window (here text) text'
 
 -- the window has lines after a row was read
-pub taken_lined : {form : Form} (width : ℕ) (known known' : Option (List ℕ)) (old new : Held) → RowTaken form width known known' old new → IsLined old → IsLined new
-taken_lined width known known' old new r l = (record { row = r.row; above = l.0.row; second = l.0.above }, r.below l.0 l.1)
+pub taken_lined : {form : Form} {width : ℕ} {known known' : Option (List ℕ)} {old new : Held} → RowTaken form width known known' old new → IsLined old → IsLined new
+taken_lined r l = (record { row = r.row; above = l.0.row; second = l.0.above }, r.below l.0 l.1)

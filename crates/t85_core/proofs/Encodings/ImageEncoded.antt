@@ -43,8 +43,9 @@ pub record TakesHeader (old new : Option (List ℕ)) (form : Form) (width height
   pub header : (body : List ℕ) → HasHeader (front ++ body) form width height' body
 
 -- the same header in a form
-header_as : (form : Form) (old new : Option (List ℕ)) (bytes : List ℕ) (width height' : ℕ) (rest : List ℕ) → ((front : List ℕ) → Consumes old new front) → HasHeader bytes Raw width height' rest → TakesHeader old new form width height'
-header_as form old new bytes width height' rest taken h = record {
+header_as : {bytes rest : List ℕ} {width height' : ℕ} (form : Form) (old new : Option (List ℕ)) → ((front : List ℕ) → Consumes old new front) → HasHeader bytes Raw width height' rest →
+    TakesHeader old new form width height'
+header_as form old new taken h = record {
   front = letters_of form ++ behind;
   taken = taken (letters_of form ++ behind);
   header = λ body. record {
@@ -75,7 +76,7 @@ header_as form old new bytes width height' rest taken h = record {
 -- where the bytes aren't known they may have been the header that would be written
 pub takes_header : (old new : Option (List ℕ)) (size : Size) (form : Form) → WrittenIsRead → size.height ≤ 4294967295 → LeavesRest old new (λ bytes rest. HasHeader bytes form size.width size.height rest) → TakesHeader old new form size.width size.height
 takes_header None new size form law fits leaves =
-    header_as form None new (header_text size.width size.height ++ []) size.width size.height [] (λ front. tt) (law size.width size.height [] size.some_width size.not_too_wide size.some_height fits)
+    header_as form None new (λ front. tt) (law size.width size.height [] size.some_width size.not_too_wide size.some_height fits)
 takes_header (Some bytes) None size form law fits leaves = absurd leaves
 takes_header (Some bytes) (Some rest) size form law fits leaves = record {
   front = leaves.front;

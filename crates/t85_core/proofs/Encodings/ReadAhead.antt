@@ -7,11 +7,11 @@ use Rattle.t85_core.specs.Jbg.{Settings}
 use Rattle.t85_core.specs.ToJbg.{ToJbg, ToJbgAhead}
 
 -- the reader before its loan, and at the loan's end
-pub read_ahead : {R : Type 0} (remaining : R → Option (List ℕ)) (failures : R → ℕ) (s : Settings) (output : Change) (flushed : Bool) (held : List ℕ) (start reader reader' : R) (known : Option (List ℕ)) (count : ℕ) (r : Result (Unit {0}) Fault)
-    → known ≡ remaining start → count ≡ failures start → reader ≡ reader' → (failures reader ≡ count) ⊎ (held ≡ [])
-    → ToJbg s (between known (prepend_known held (remaining reader)) count (failures reader)) output flushed r
-    → ToJbgAhead s (between (remaining start) (remaining reader') (failures start) (failures reader')) output flushed r
-read_ahead {R} remaining failures s output flushed held start reader reader' known count r same_known same_count same drained leaves = record {
+pub read_ahead : {R : Type 0} {s : Settings} {output : Change} {flushed : Bool} {reader reader' : R} {known : Option (List ℕ)} {count : ℕ} {r : Result (Unit {0}) Fault} (remaining : R → Option (List ℕ))
+    (failures : R → ℕ) (held : List ℕ) (start : R) → known ≡ remaining start → count ≡ failures start → reader ≡ reader' → (failures reader ≡ count) ⊎ (held ≡ []) →
+    ToJbg s (between known (prepend_known held (remaining reader)) count (failures reader)) output flushed r →
+    ToJbgAhead s (between (remaining start) (remaining reader') (failures start) (failures reader')) output flushed r
+read_ahead {R} {s} {output} {flushed} {reader} {reader'} {known} {count} {r} remaining failures held start same_known same_count same drained leaves = record {
   ahead = held;
   leaves = subst (λ x. ToJbg s (between (remaining start) (prepend_known held (remaining x)) (failures start) (failures x)) output flushed r) same
       (subst (λ z. ToJbg s (between z (prepend_known held (remaining reader)) (failures start) (failures reader)) output flushed r) same_known

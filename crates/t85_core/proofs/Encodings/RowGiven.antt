@@ -26,9 +26,9 @@ masked_is width bytes some whole =
     ap (λ b. b % 2 ^ padding_of width) (get_or-set_same bytes last _ 0 within) ∙ multiple (slice_index bytes last) (2 ^ padding_of width) (pow_pos (padding_of width))
 
 -- the row where the place and the power are what a program computes
-pub masked_same : (width n : ℕ) (bytes : List ℕ) → n ≡ bytes_of_row width
-    → slice_set bytes (n - 1) (slice_index bytes (n - 1) - slice_index bytes (n - 1) % ((1 * 2 ^ (n * 8 - width)) % 256)) ≡ masked_row width bytes
-masked_same width n bytes counted =
+pub masked_same : {n : ℕ} (width : ℕ) (bytes : List ℕ) → n ≡ bytes_of_row width →
+    slice_set bytes (n - 1) (slice_index bytes (n - 1) - slice_index bytes (n - 1) % ((1 * 2 ^ (n * 8 - width)) % 256)) ≡ masked_row width bytes
+masked_same {n} width bytes counted =
     let bits : n * 8 - width ≡ padding_of width = omega (arith, counted) in
     let small : padding_of width < 8 = grind arith in
     let power : (1 * 2 ^ (n * 8 - width)) % 256 ≡ 2 ^ padding_of width = ap (λ k. (1 * 2 ^ k) % 256) bits ∙ one_shl (padding_of width) 8 small in
@@ -41,9 +41,10 @@ same_map f h k zero same = refl
 same_map f h k (suc n) same = ap (λ x. x ∷ map f (pbm.numbers_from (k + 1) n)) (same k (omega arith)) ∙ ap (λ xs. h k ∷ xs) (same_map f h (k + 1) n (λ x lt. same x (omega (arith, lt))))
 
 -- a row down in the window, with these pixels
-pub row_below : (width : ℕ) (bytes : List ℕ) (old mid : Held) (row : List ℕ) → 1 ≤ width → length bytes ≡ bytes_of_row width → MaskKeepsPixels → MaskedIsPacked → row ≡ masked_row width bytes → ((k : ℕ) → slice_index row k < 256)
-    → mid ≡ turned old → old.width ≡ width → IsBelow (pixels_of width bytes) old (record { width = mid.width; current = row; above = mid.above; second = mid.second })
-row_below width bytes old mid row some whole keeps packed row_is small mid_is wide = λ lines has. record {
+pub row_below : {width : ℕ} {mid : Held} {row : List ℕ} (bytes : List ℕ) (old : Held) → 1 ≤ width → length bytes ≡ bytes_of_row width → MaskKeepsPixels → MaskedIsPacked → row ≡ masked_row width bytes →
+    ((k : ℕ) → slice_index row k < 256) → mid ≡ turned old → old.width ≡ width →
+    IsBelow (pixels_of width bytes) old (record { width = mid.width; current = row; above = mid.above; second = mid.second })
+row_below {width} {row} bytes old some whole keeps packed row_is small mid_is wide = λ lines has. record {
   row_is = packed_is ∙ same_row (pixels_of width bytes);
   above_is = ap (λ h. h.above) mid_is ∙ has.row_is;
   second_is = ap (λ h. h.second) mid_is ∙ has.above_is;

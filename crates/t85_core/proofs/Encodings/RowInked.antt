@@ -39,21 +39,21 @@ module _ {S : Type 0} (view : S → SinkView) (failed : S → ℕ) (from to : S)
   abbrev pushes : Ghosts S
   pushes = record { took = takes; refused = refuses; failed = failed }
 
-  refused_stays : (bytes : List ℕ) → Refused takes refuses from bytes to → SameSink (view from) (view to)
-  refused_stays bytes r =
+  refused_stays : {bytes : List ℕ} → Refused takes refuses from bytes to → SameSink (view from) (view to)
+  refused_stays r =
       let front = (took_inked view from r.last r.done r.taken).0 in
       let last = r.then.0 in
       record { same_buffer = last.same_buffer ∙ front.same_buffer; same_writer = last.same_writer ∙ front.same_writer; grows = (let a = front.grows in let b = last.grows in omega (arith, a, b)) }
 
   -- it is the same target
-  pub row_stays : (shape : Shape) (kept kept' : Kept) (s : State) (pushed : List ℕ) (lines : Lines) (e : Encoder) (learned : List Estimate) (answer : Result (Unit {0}) CoderFault)
-      → RowEncoded (sink_at pushes from pushed) (row_task shape kept s lines) kept' (encoder_state to e learned) answer → SameSink (view from) (view to)
-  row_stays shape kept kept' s pushed lines e learned (Ok u) r = (took_inked view from to r.ok.encodes.more r.ok.encodes.taken).0
-  row_stays shape kept kept' s pushed lines e learned (Err f) r = refused_stays r.err.fails.more r.err.fails.cut
+  pub row_stays : {kept' : Kept} {answer : Result (Unit {0}) CoderFault} (shape : Shape) (kept : Kept) (s : State) (pushed : List ℕ) (lines : Lines) (e : Encoder) (learned : List Estimate) →
+      RowEncoded (sink_at pushes from pushed) (row_task shape kept s lines) kept' (encoder_state to e learned) answer → SameSink (view from) (view to)
+  row_stays {answer = (Ok u)} shape kept s pushed lines e learned r = (took_inked view from to r.ok.encodes.more r.ok.encodes.taken).0
+  row_stays {answer = (Err f)} shape kept s pushed lines e learned r = refused_stays r.err.fails.cut
 
-  pub end_stays : (p : Place) (pushed : List ℕ) (answer : Result (Unit {0}) CoderFault) → Finish (sink_at pushes from pushed) p to answer → SameSink (view from) (view to)
-  end_stays p pushed (Ok u) r = (took_inked view from to r.more r.writes.ok).0
-  end_stays p pushed (Err f) r = refused_stays r.more r.writes.err
+  pub end_stays : {p : Place} {answer : Result (Unit {0}) CoderFault} (pushed : List ℕ) → Finish (sink_at pushes from pushed) p to answer → SameSink (view from) (view to)
+  end_stays {answer = (Ok u)} pushed r = (took_inked view from to r.more r.writes.ok).0
+  end_stays {answer = (Err f)} pushed r = refused_stays r.writes.err
 
   module _ (text text' : Option (List ℕ)) (text_is : (view from).text ≡ text) (text_is' : (view to).text ≡ text') where
     taken : (bytes : List ℕ) → Took takes from bytes to → Appends text text' bytes

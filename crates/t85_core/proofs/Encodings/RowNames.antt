@@ -32,8 +32,8 @@ length-with_name t (suc i) (name ∷ names) = ap suc (length-with_name t i names
 
 -- ---- what does not hang on them
 
-plan_named : (image : Image) (names : List (Option ℕ)) (p : RowPlan) → IsPlan image p → IsPlan (naming image names) p
-plan_named image names p is = record {
+plan_named : {image : Image} {p : RowPlan} (names : List (Option ℕ)) → IsPlan image p → IsPlan (naming image names) p
+plan_named names is = record {
   width_is = is.width_is;
   limit_is = is.limit_is;
   shape_is = record { width_is = is.shape_is.width_is; mode_is = is.shape_is.mode_is };
@@ -50,8 +50,8 @@ plan_named image names p is = record {
 }
 
 -- where whole stripes came
-pub whole_rows : (n l i : ℕ) → 1 ≤ l → n ≡ i * l → (n / l ≡ i) × (n % l ≡ 0)
-whole_rows n l i some is =
+pub whole_rows : {n : ℕ} (l i : ℕ) → 1 ≤ l → n ≡ i * l → (n / l ≡ i) × (n % l ≡ 0)
+whole_rows {n} l i some is =
     let sum : n ≡ i * l + 0 = omega (arith, is) in
     (ap (λ z. z / l) sum ∙ stripe_at l i 0 (omega (arith, some)), ap (λ z. z % l) is ∙ Rattle.std.proofs.Math.Nat.mul-mod_left i l)
 
@@ -61,15 +61,15 @@ pub offset_named : (t : ℕ) (image : Image) (rows : List (List Bool)) (v : RowV
 offset_named t image rows v window origin text none so =
     let w = stands_waiting image rows v window origin text none so in
     let names : List (Option ℕ) = with_name t w.i image.settings.named in
-    let at = whole_rows (length rows) image.settings.stripe_rows w.i w.plan_is.some w.stripes.many in (
+    let at = whole_rows image.settings.stripe_rows w.i w.plan_is.some w.stripes.many in (
       at.1,
       subst (λ i. Stands (naming image (with_name t i image.settings.named)) rows (record v { named = Some t }) window origin text) (sym at.0) (inl (record {
-        plan_is = plan_named image names v.plan w.plan_is;
+        plan_is = plan_named names w.plan_is;
         come = w.come;
         i = w.i;
         at = w.at;
         front = w.front;
-        stripes = stands_anew image w.i rows w.at w.front w.stripes names (names_before t w.i image.settings.named);
+        stripes = stands_anew w.stripes names (names_before t w.i image.settings.named);
         in_stripe = w.in_stripe;
         codes = w.codes;
         names_to = (let many = length-with_name t w.i image.settings.named in omega (arith, many));

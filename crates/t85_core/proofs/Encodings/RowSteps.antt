@@ -66,7 +66,7 @@ none_counted width (Some current) tally h = h width current
 
 -- ---- a stripe begins
 
-module _ (image : Image) (rows : List (List Bool)) (v : RowView) (before : Held) (origin : Origin) (mid text' : Option (List ℕ)) (w : Waits image rows v before origin mid) where
+module _ {image : Image} {rows : List (List Bool)} {v : RowView} {before : Held} {origin : Origin} {mid : Option (List ℕ)} (text' : Option (List ℕ)) (w : Waits image rows v before origin mid) where
   -- where rows may still come
   waits_within : v.rows < v.plan.limit → w.i * image.settings.stripe_rows < image.limit
   waits_within left = omega (arith, left, w.plan_is.limit_is, w.come.many, w.stripes.many)
@@ -123,14 +123,13 @@ module _ (image : Image) (rows : List (List Bool)) (v : RowView) (before : Held)
   move_cut left row cuts = record {
     bytes = w.front ++ p.front;
     sent = Sends-more p.front w.sent p.appends;
-    begins = λ raster b. part_begins image w.i rows w.at w.front w.plan_is.some w.stripes [] p.front (omega arith)
+    begins = λ raster b. part_begins w.plan_is.some w.stripes [] p.front (omega arith)
         (λ later. record {
           rest = p.rest ++ (stuffed (code_of (row_start_in image.settings image.width w.at later).state.place) ++ marker_bytes image.settings.reset);
           bytes_are = ap (λ z. z ++ (stuffed (code_of (row_start_in image.settings image.width w.at later).state.place) ++ marker_bytes image.settings.reset)) p.text_is ∙ append_assoc p.front p.rest (stuffed (code_of (row_start_in image.settings image.width w.at later).state.place) ++ marker_bytes image.settings.reset);
         })
-        raster
-        (subst (λ z. MayCome image z raster) (sym (append-nil rows)) (come_first image rows (row ∷ []) raster b))
-        (let long = come_long image (rows ++ row ∷ []) raster b in omega (arith, long, length-append rows (row ∷ []), w.stripes.many));
+        (subst (λ z. MayCome image z raster) (sym (append-nil rows)) (come_first rows (row ∷ []) b))
+        (let long = come_long b in omega (arith, long, length-append rows (row ∷ []), w.stripes.many));
   } where
     on : IsStart image.settings image.width w.at v before
     on = w.on_course (waits_within left)
@@ -144,12 +143,11 @@ pub length-lines_down : (above second : List Bool) (rows : List (List Bool)) →
 length-lines_down above second [] = refl
 length-lines_down above second (row ∷ rows) = ap suc (length-lines_down row above rows)
 
-all_more : (width : ℕ) (rows : List (List Bool)) (row : List Bool) → AllByRecursion (λ r. length r ≡ width) rows → length row ≡ width → AllByRecursion (λ r. length r ≡ width) (rows ++ row ∷ [])
-all_more width [] row all is = (is, tt)
-all_more width (first ∷ rows) row all is = (all.0, all_more width rows row all.1 is)
+all_more : {width : ℕ} (rows : List (List Bool)) (row : List Bool) → AllByRecursion (λ r. length r ≡ width) rows → length row ≡ width → AllByRecursion (λ r. length r ≡ width) (rows ++ row ∷ [])
+all_more [] row all is = (is, tt)
+all_more (first ∷ rows) row all is = (all.0, all_more rows row all.1 is)
 
-module _ (image : Image) (rows : List (List Bool)) (row : List Bool) (v : RowView) (before window : Held) (origin : Origin) (mid text' : Option (List ℕ)) (below : IsBelow row before window) (wide : window.width ≡ v.plan.width)
-    (r : Runs image rows v before origin mid) where
+module _ {image : Image} {rows : List (List Bool)} {v : RowView} {before : Held} {origin : Origin} {mid : Option (List ℕ)} (row : List Bool) (window : Held) (text' : Option (List ℕ)) (below : IsBelow row before window) (wide : window.width ≡ v.plan.width) (r : Runs image rows v before origin mid) where
   abbrev mode : Mode
   mode = mode_of image.settings.options
 
@@ -190,17 +188,18 @@ module _ (image : Image) (rows : List (List Bool)) (row : List Bool) (v : RowVie
   counted_same : (kept : Kept) → kept.offset ≡ v.kept.offset → counted_of (record v { kept = kept }) ≡ counted_of v
   counted_same kept same = ap (λ o. if v.is_counted then Some (if v.plan.reset then 0 else o) else None) same
 
-  pub row_coded : v.rows < v.plan.limit → v.in_stripe < v.plan.stripe_rows → v.plan.stripe_rows < 2 ^ 32 → (kept : Kept) (learned : List Estimate) (tally : Tally) (e : Encoder) (rows' in_stripe' : ℕ) → rows' ≡ v.rows + 1 → in_stripe' ≡ v.in_stripe + 1
-      → RowPut (row_task v.plan.shape v.kept (record { place = b.state.place; learned = v.learned }) (lines_with b row)) r.pushed kept mid (encoder_state text' e learned)
-      → ((lines : List Lines) (l : Lines) → length lines < 2 ^ 32 - 1 → HasLines window l → IsCountedTo v.plan.width (counted_of (record v { kept = kept })) v.tally lines → IsCountedTo v.plan.width (counted_of (record v { kept = kept })) tally (lines ++ l ∷ []))
-      → is_two_line tally ≡ is_two_line v.tally → most_of tally ≡ most_of v.tally
-      → Runs image (rows ++ row ∷ []) (record v { kept = kept; learned = learned; tally = tally; encoder = e; rows = rows'; in_stripe = in_stripe' }) window origin text'
-  row_coded left fewer few_rows kept learned tally e rows' in_stripe' rows_is in_stripe_is put counts two_line most = record {
+  pub row_coded : {kept : Kept} {rows' in_stripe' : ℕ} → v.rows < v.plan.limit → v.in_stripe < v.plan.stripe_rows → v.plan.stripe_rows < 2 ^ 32 → (learned : List Estimate) (tally : Tally) (e : Encoder) →
+      rows' ≡ v.rows + 1 → in_stripe' ≡ v.in_stripe + 1 →
+      RowPut (row_task v.plan.shape v.kept (record { place = b.state.place; learned = v.learned }) (lines_with b row)) r.pushed kept mid (encoder_state text' e learned) →
+      ((lines : List Lines) (l : Lines) → length lines < 2 ^ 32 - 1 → HasLines window l → IsCountedTo v.plan.width (counted_of (record v { kept = kept })) v.tally lines → IsCountedTo v.plan.width (counted_of (record v { kept = kept })) tally (lines ++ l ∷ [])) →
+      is_two_line tally ≡ is_two_line v.tally → most_of tally ≡ most_of v.tally →
+      Runs image (rows ++ row ∷ []) (record v { kept = kept; learned = learned; tally = tally; encoder = e; rows = rows'; in_stripe = in_stripe' }) window origin text'
+  row_coded {kept} left fewer few_rows learned tally e rows_is in_stripe_is put counts two_line most = record {
     plan_is = r.plan_is;
     come = record {
       many = (let sum = length-append rows (row ∷ []) in omega (arith, rows_is, r.come.many, sum));
       few = (let sum = length-append rows (row ∷ []) in omega (arith, left, r.come.many, r.plan_is.limit_is, sum));
-      wide = all_more image.width rows row r.come.wide (lines_are.row_wide ∙ wide ∙ r.plan_is.width_is);
+      wide = all_more rows row r.come.wide (lines_are.row_wide ∙ wide ∙ r.plan_is.width_is);
     };
     i = r.i;
     whole = r.whole;
@@ -243,9 +242,9 @@ module _ (image : Image) (rows : List (List Bool)) (row : List Bool) (v : RowVie
     bytes = (r.front ++ (move_bytes image.settings image.width r.at ++ r.pushed)) ++ cut.done;
     sent = Sends-more cut.done r.sent cut.appended;
     begins = λ raster m. subst (λ z. IsBeginning z (jbg image.settings raster)) (sym bytes_are)
-        (part_begins image r.i r.whole r.at r.front r.plan_is.some r.stripes (r.part ++ row ∷ []) (move_bytes image.settings image.width r.at ++ (r.pushed ++ cut.done)) few begins raster
+        (part_begins r.plan_is.some r.stripes (r.part ++ row ∷ []) (move_bytes image.settings image.width r.at ++ (r.pushed ++ cut.done)) few begins
         (subst (λ z. MayCome image z raster) all m)
-        (let long = come_long image (r.whole ++ (r.part ++ row ∷ [])) raster (subst (λ z. MayCome image z raster) all m) in omega (arith, long, length-append r.whole (r.part ++ row ∷ []), length-append r.part (row ∷ []), r.stripes.many)));
+        (let long = come_long (subst (λ z. MayCome image z raster) all m) in omega (arith, long, length-append r.whole (r.part ++ row ∷ []), length-append r.part (row ∷ []), r.stripes.many)));
   } where
     all : rows ++ row ∷ [] ≡ r.whole ++ (r.part ++ row ∷ [])
     all = ap (λ z. z ++ row ∷ []) r.all ∙ append_assoc r.whole r.part (row ∷ [])
@@ -290,16 +289,16 @@ module _ (image : Image) (rows : List (List Bool)) (v : RowView) (window : Held)
 
 -- ---- a stripe ends
 
-module _ (image : Image) (rows : List (List Bool)) (v : RowView) (window : Held) (origin : Origin) (mid text' : Option (List ℕ)) (some : 0 < v.in_stripe) (r : Runs image rows v window origin mid) where
+module _ {image : Image} {rows : List (List Bool)} {v : RowView} {window : Held} {origin : Origin} {mid : Option (List ℕ)} (text' : Option (List ℕ)) (some : 0 < v.in_stripe) (r : Runs image rows v window origin mid) where
   abbrev last : RowStart
   last = row_start_in image.settings image.width r.at r.part
 
   some_part : 0 < length r.part
   some_part = omega (arith, some, r.in_stripe)
 
-  bytes_of : (laws : WritingLaws) (code more : List ℕ) → Rattle.qm_core.specs.Code.IsCode last.state.place code → r.pushed ++ more ≡ stuffed code ++ marker_bytes v.plan.reset
-      → (r.front ++ (move_bytes image.settings image.width r.at ++ r.pushed)) ++ more ≡ r.front ++ stripe_bytes (next_stripe image.settings image.width r.at r.part)
-  bytes_of laws code more is all =
+  bytes_of : {code : List ℕ} (laws : WritingLaws) (more : List ℕ) → Rattle.qm_core.specs.Code.IsCode last.state.place code → r.pushed ++ more ≡ stuffed code ++ marker_bytes v.plan.reset →
+      (r.front ++ (move_bytes image.settings image.width r.at ++ r.pushed)) ++ more ≡ r.front ++ stripe_bytes (next_stripe image.settings image.width r.at r.part)
+  bytes_of {code} laws more is all =
       append_assoc r.front (move_bytes image.settings image.width r.at ++ r.pushed) more
       ∙ ap (λ z. r.front ++ z) (append_assoc (move_bytes image.settings image.width r.at) r.pushed more)
       ∙ ap (λ z. r.front ++ (move_bytes image.settings image.width r.at ++ z)) all
@@ -323,8 +322,8 @@ module _ (image : Image) (rows : List (List Bool)) (v : RowView) (window : Held)
   counted_none : (lines : List Lines) → counted_of v ≡ None → IsCountedTo image.width (counted_of v) v.tally lines → (current : ℕ) → CountsLines v.tally image.width current []
   counted_none lines none counts = subst (λ o. IsCountedTo image.width o v.tally lines) none counts
 
-  counted_some : (lines : List Lines) (offset : ℕ) → counted_of v ≡ Some offset → IsCountedTo image.width (counted_of v) v.tally lines → CountsLines v.tally image.width offset lines
-  counted_some lines offset is counts = subst (λ o. IsCountedTo image.width o v.tally lines) is counts
+  counted_some : {offset : ℕ} (lines : List Lines) → counted_of v ≡ Some offset → IsCountedTo image.width (counted_of v) v.tally lines → CountsLines v.tally image.width offset lines
+  counted_some lines is counts = subst (λ o. IsCountedTo image.width o v.tally lines) is counts
 
   -- what was counted chooses the next move
   tallied : (r.i + 1) * image.settings.stripe_rows < image.limit → IsTallied image.settings image.width (next_encoder_start image.settings image.width r.at r.part) v.tally
@@ -347,7 +346,7 @@ module _ (image : Image) (rows : List (List Bool)) (v : RowView) (window : Held)
       two_line = r.running.two_line;
       most = r.running.most;
       lines = lines;
-      counts = subst (λ o. CountsLines v.tally image.width o lines) same (counted_some lines (if v.plan.reset then 0 else v.kept.offset) (ap (λ z. if z then Some (if v.plan.reset then 0 else v.kept.offset) else None) is) r.running.tallied);
+      counts = subst (λ o. CountsLines v.tally image.width o lines) same (counted_some lines (ap (λ z. if z then Some (if v.plan.reset then 0 else v.kept.offset) else None) is) r.running.tallied);
       lines_are = λ _. refl;
     }
     by_count false is counts = record {
@@ -358,11 +357,13 @@ module _ (image : Image) (rows : List (List Bool)) (v : RowView) (window : Held)
       lines_are = λ some'. absurd (let e : false ≡ true = counts some' in let bot : ⊥ = cc in bot);
     }
 
-  pub stripe_ended : (laws : WritingLaws) (e : Encoder) (kept : Kept) (learned : List Estimate) (window' : Held) (text'' : Option (List ℕ)) (in_stripe : ℕ) → in_stripe ≡ 0 → EncoderIsAt e start []
-      → ((last' : RowStart) → IsHeldBy None 0 last' v.kept v.learned window → IsHeldBy None 0 (first_row_start (next_stripe_start v.plan.width v.plan.reset last')) kept learned window')
-      → (code more : List ℕ) → Rattle.qm_core.specs.Code.IsCode last.state.place code → r.pushed ++ more ≡ stuffed code ++ marker_bytes v.plan.reset → Appends mid text' more → Rattle.std.specs.Io.KnownBytes.Keeps text' text''
-      → StripeEnded image v.in_stripe rows (encoder_at (record v { kept = kept; learned = learned; encoder = e; in_stripe = in_stripe }) window' text'') origin
-  stripe_ended laws e kept learned window' text'' in_stripe none codes goes code more is all put keeps = record {
+  pub stripe_ended : {in_stripe : ℕ} {code : List ℕ} (laws : WritingLaws) (e : Encoder) (kept : Kept) (learned : List Estimate) (window' : Held) (text'' : Option (List ℕ)) → in_stripe ≡ 0 →
+      EncoderIsAt e start [] →
+      ((last' : RowStart) → IsHeldBy None 0 last' v.kept v.learned window → IsHeldBy None 0 (first_row_start (next_stripe_start v.plan.width v.plan.reset last')) kept learned window') →
+      (more : List ℕ) → Rattle.qm_core.specs.Code.IsCode last.state.place code → r.pushed ++ more ≡ stuffed code ++ marker_bytes v.plan.reset → Appends mid text' more →
+      Rattle.std.specs.Io.KnownBytes.Keeps text' text'' →
+      StripeEnded image v.in_stripe rows (encoder_at (record v { kept = kept; learned = learned; encoder = e; in_stripe = in_stripe }) window' text'') origin
+  stripe_ended {in_stripe} laws e kept learned window' text'' none codes goes more is all put keeps = record {
     plan_is = r.plan_is;
     come = r.come;
     i = r.i;
@@ -385,11 +386,12 @@ module _ (image : Image) (rows : List (List Bool)) (v : RowView) (window : Held)
       named_is = r.none_named ∙ sym (get_or_past image.settings.named (suc r.at.stripe) None (let is : r.at.stripe ≡ r.i = r.stripes.stripe_is in omega (arith, is, r.names_to)));
     };
     sent = Sends-keeps
-        (subst (Sends origin text') (bytes_of laws code more is all) (Sends-more more r.sent put)) keeps;
+        (subst (Sends origin text') (bytes_of laws more is all) (Sends-more more r.sent put)) keeps;
   }
 
-  pub stripe_cut : (laws : WritingLaws) (code more : List ℕ) → Rattle.qm_core.specs.Code.IsCode last.state.place code → r.pushed ++ more ≡ stuffed code ++ marker_bytes v.plan.reset → AppendsBeginning mid text' more → StripeBegun image v.in_stripe rows origin text'
-  stripe_cut laws code more is all cut = record {
+  pub stripe_cut : {code more : List ℕ} (laws : WritingLaws) → Rattle.qm_core.specs.Code.IsCode last.state.place code → r.pushed ++ more ≡ stuffed code ++ marker_bytes v.plan.reset →
+      AppendsBeginning mid text' more → StripeBegun image v.in_stripe rows origin text'
+  stripe_cut {more} laws is all cut = record {
     i = r.i;
     whole = r.whole;
     part = r.part;
@@ -400,7 +402,7 @@ module _ (image : Image) (rows : List (List Bool)) (v : RowView) (window : Held)
     many = sym r.in_stripe;
     some = some_part;
     few = r.few;
-    sent = subst (SendsBeginning origin text') (bytes_of laws code more is all) (sends_after r.sent cut);
+    sent = subst (SendsBeginning origin text') (bytes_of laws more is all) (sends_after r.sent cut);
   }
 
 -- ---- from a stripe that was ended
@@ -415,7 +417,7 @@ module _ (image : Image) (count : ℕ) (rows : List (List Bool)) (v : RowView) (
     at = next_encoder_start image.settings image.width e.at e.part;
     front = e.front ++ stripe_bytes (next_stripe image.settings image.width e.at e.part);
     stripes = subst (λ z. StripesWhole image (e.i + 1) z (next_encoder_start image.settings image.width e.at e.part) (e.front ++ stripe_bytes (next_stripe image.settings image.width e.at e.part))) (sym e.all)
-        (whole_more image e.i e.whole e.at e.front e.plan_is.some e.stripes e.part (e.many ∙ full ∙ e.plan_is.stripe_rows_is));
+        (whole_more e.plan_is.some e.stripes e.part (e.many ∙ full ∙ e.plan_is.stripe_rows_is));
     in_stripe = e.in_stripe;
     codes = e.codes;
     names_to = omega (arith, e.names_to);
@@ -430,15 +432,15 @@ module _ (image : Image) (count : ℕ) (rows : List (List Bool)) (v : RowView) (
     sent = e.sent.sends;
     begins = λ raster b.
         let m : MayCome image (e.whole ++ e.part) raster = subst (λ z. MayCome image z raster) e.all b in
-        let long = come_long image (e.whole ++ e.part) raster m in
+        let long = come_long m in
         let sum = length-append e.whole e.part in
         let full_part : length e.part ≡ image.settings.stripe_rows = e.many ∙ full in
-        front_begins image.settings raster (e.i + 1) e.sent.front
+        front_begins image.settings raster (e.i + 1)
         (let inside = inside_of (height raster) image.settings.stripe_rows e.i some (omega (arith, long, sum, e.stripes.many, full_part, some)) in omega (arith, inside))
         (record {
           rest = e.sent.rest;
           bytes_are =
-              sym (stripe_more image e.i e.whole e.at e.front some e.stripes e.part raster m (omega (arith, long, sum, e.stripes.many, full_part, some)) (omega (arith, long, sum, e.stripes.many, full_part)))
+              sym (stripe_more some e.stripes e.part m (omega (arith, long, sum, e.stripes.many, full_part, some)) (omega (arith, long, sum, e.stripes.many, full_part)))
               ∙ e.sent.text_is;
         });
   }
@@ -463,12 +465,12 @@ count_is n l c some from to = went (less_or_not c (stripe_count n l)) (less_or_n
       absurd (omega (arith, up, sum, to, low))
   went (inr h) (inr k) = omega (arith, h, k)
 
-not_some : (o : Option ℕ) → o ≡ None → is_some o ≡ false
-not_some o none = ap is_some none
+not_some : {o : Option ℕ} → o ≡ None → is_some o ≡ false
+not_some none = ap is_some none
 
-module _ (image : Image) (rows : List (List Bool)) (v : RowView) (plan : IsPlan image v.plan) (come : HaveCome image.width image.limit rows v.rows) (some : 0 < v.rows) (whole : v.plan.may_end ≡ false → v.rows ≡ v.plan.limit) where
+module _ {image : Image} {rows : List (List Bool)} (v : RowView) (plan : IsPlan image v.plan) (come : HaveCome image.width image.limit rows v.rows) (some : 0 < v.rows) (whole : v.plan.may_end ≡ false → v.rows ≡ v.plan.limit) where
   all_rows : image.settings.announced ≡ None → length rows ≡ image.limit
-  all_rows none = (let full = whole (plan.may_end_is ∙ not_some image.settings.announced none) in omega (arith, full, plan.limit_is, come.many))
+  all_rows none = (let full = whole (plan.may_end_is ∙ not_some none) in omega (arith, full, plan.limit_is, come.many))
 
   -- the image itself may come
   pub itself : MayCome image rows (raster_of image.width rows)
@@ -490,47 +492,48 @@ module _ (image : Image) (rows : List (List Bool)) (v : RowView) (plan : IsPlan 
   announced_at = plan.announced_is ∙ same_announced image.settings.announced image.limit (length rows) (λ none. sym (all_rows none))
 
   -- no stripe runs
-  pub waits_ended : (window : Held) (origin : Origin) (text' : Option (List ℕ)) → Waits image rows v window origin text' → StripesEnded image rows v origin text'
-  waits_ended window origin text' w = record {
+  pub waits_ended : {window : Held} {origin : Origin} {text' : Option (List ℕ)} → Waits image rows v window origin text' → StripesEnded image rows v origin text'
+  waits_ended {origin} {text'} w = record {
     rows_are = come.many;
     reset_is = plan.reset_is;
     announced_is = announced_at;
     sent = subst (Sends origin text')
-        ((stands_here image w.i rows w.at w.front w.stripes).front_is (raster_of image.width rows) itself
+        ((stands_here w.stripes).front_is (raster_of image.width rows) itself
         ∙ ap (jbg_up_to image.settings (raster_of image.width rows)) (sym (count_is (length rows) image.settings.stripe_rows w.i plan.some (omega (arith, w.stripes.many)) (omega (arith, w.stripes.many, plan.some))))) w.sent;
   }
 
-module _ (image : Image) (count : ℕ) (rows whole part : List (List Bool)) (i : ℕ) (at : EncoderStart) (front : List ℕ) (some : 1 ≤ image.settings.stripe_rows) (all : rows ≡ whole ++ part) (stripes : StripesWhole image i whole at front)
-    (some_part : 0 < length part) (few : length part ≤ image.settings.stripe_rows) (m : MayCome image rows (raster_of image.width rows)) where
+module _ {image : Image} {rows whole : List (List Bool)} {i : ℕ} {at : EncoderStart} {front : List ℕ} (count : ℕ) (part : List (List Bool)) (some : 1 ≤ image.settings.stripe_rows) (all : rows ≡ whole ++ part) (stripes : StripesWhole image i whole at front) (some_part : 0 < length part) (few : length part ≤ image.settings.stripe_rows) (m : MayCome image rows (raster_of image.width rows)) where
   sum : length rows ≡ i * image.settings.stripe_rows + length part
   sum = (let lengths : length rows ≡ length (whole ++ part) = ap length all in omega (arith, lengths, length-append whole part, stripes.many))
 
   -- the stripes with this one are all
   pub last_stripe : front ++ stripe_bytes (next_stripe image.settings image.width at part) ≡ jbg_up_to image.settings (raster_of image.width rows) (stripe_count (length rows) image.settings.stripe_rows)
   last_stripe =
-      stripe_more image i whole at front some stripes part (raster_of image.width rows) (subst (λ z. MayCome image z (raster_of image.width rows)) all m) (omega (arith, sum, some_part)) (omega (arith, sum, few))
+      stripe_more some stripes part (subst (λ z. MayCome image z (raster_of image.width rows)) all m) (omega (arith, sum, some_part)) (omega (arith, sum, few))
       ∙ ap (jbg_up_to image.settings (raster_of image.width rows)) (sym (count_is (length rows) image.settings.stripe_rows (i + 1) some (omega (arith, sum, few, product)) (omega (arith, sum, some_part, product))))
     where
       product : (i + 1) * image.settings.stripe_rows ≡ i * image.settings.stripe_rows + 1 * image.settings.stripe_rows
       product = Rattle.std.proofs.Math.Nat.add-mul i 1 image.settings.stripe_rows
 
-pub ended_stripes : (image : Image) (count : ℕ) (rows : List (List Bool)) (v v' : RowView) (window window' : Held) (origin : Origin) (mid text' : Option (List ℕ)) → 0 < v.rows → (v.plan.may_end ≡ false → v.rows ≡ v.plan.limit)
-    → Runs image rows v window origin mid → StripeEnded image count rows (encoder_at v' window' text') origin → StripesEnded image rows v' origin text'
-ended_stripes image count rows v v' window window' origin mid text' some whole r e = record {
+pub ended_stripes : {image : Image} {count : ℕ} {rows : List (List Bool)} {v : RowView} {window : Held} {origin : Origin} {mid : Option (List ℕ)} (v' : RowView) (window' : Held) (text' : Option (List ℕ)) →
+    0 < v.rows → (v.plan.may_end ≡ false → v.rows ≡ v.plan.limit) → Runs image rows v window origin mid → StripeEnded image count rows (encoder_at v' window' text') origin →
+    StripesEnded image rows v' origin text'
+ended_stripes {image} {count} {rows} {v} {origin} v' window' text' some whole r e = record {
   rows_are = e.come.many;
   reset_is = e.plan_is.reset_is;
-  announced_is = e.plan_is.announced_is ∙ same_announced image.settings.announced image.limit (length rows) (λ none. sym (all_rows image rows v r.plan_is r.come some whole none));
-  sent = subst (Sends origin text') (last_stripe image count rows e.whole e.part e.i e.at e.front r.plan_is.some e.all e.stripes e.some e.few (itself image rows v r.plan_is r.come some whole)) e.sent;
+  announced_is = e.plan_is.announced_is ∙ same_announced image.settings.announced image.limit (length rows) (λ none. sym (all_rows v r.plan_is r.come some whole none));
+  sent = subst (Sends origin text') (last_stripe count e.part r.plan_is.some e.all e.stripes e.some e.few (itself v r.plan_is r.come some whole)) e.sent;
 }
 
 -- no more than a beginning of the last stripe was written
-pub cut_stripes : (image : Image) (count : ℕ) (rows : List (List Bool)) (v : RowView) (window : Held) (origin : Origin) (mid text' : Option (List ℕ)) → 0 < v.rows → (v.plan.may_end ≡ false → v.rows ≡ v.plan.limit)
-    → Runs image rows v window origin mid → StripeBegun image count rows origin text' → SendsBeginning origin text' (jbg image.settings (raster_of image.width rows))
-cut_stripes image count rows v window origin mid text' some whole r e =
+pub cut_stripes : {image : Image} {count : ℕ} {rows : List (List Bool)} {v : RowView} {window : Held} {origin : Origin} {mid text' : Option (List ℕ)} → 0 < v.rows →
+    (v.plan.may_end ≡ false → v.rows ≡ v.plan.limit) → Runs image rows v window origin mid → StripeBegun image count rows origin text' →
+    SendsBeginning origin text' (jbg image.settings (raster_of image.width rows))
+cut_stripes {image} {count} {rows} {v} {origin} {text'} some whole r e =
     sends_longer (ending image.settings (length rows))
-    (subst (SendsBeginning origin text') (last_stripe image count rows e.whole e.part e.i e.at e.front r.plan_is.some e.all e.stripes e.some e.few (itself image rows v r.plan_is r.come some whole)) e.sent)
+    (subst (SendsBeginning origin text') (last_stripe count e.part r.plan_is.some e.all e.stripes e.some e.few (itself v r.plan_is r.come some whole)) e.sent)
 
-module _ (image : Image) (rows : List (List Bool)) (v : RowView) (origin : Origin) (mid text' : Option (List ℕ)) (e : StripesEnded image rows v origin mid) where
+module _ {image : Image} {rows : List (List Bool)} {v : RowView} {origin : Origin} {mid : Option (List ℕ)} (text' : Option (List ℕ)) (e : StripesEnded image rows v origin mid) where
   ending_is : ending_of v.plan.announced v.plan.reset v.rows ≡ ending image.settings (length rows)
   ending_is =
       ap (λ n. ending_of n v.plan.reset v.rows) e.announced_is ∙ ap (λ b. ending_of (unwrap_or image.settings.announced (length rows)) b v.rows) e.reset_is ∙ ap (ending_of (unwrap_or image.settings.announced (length rows)) image.settings.reset) e.rows_are
@@ -543,10 +546,11 @@ module _ (image : Image) (rows : List (List Bool)) (v : RowView) (origin : Origi
 
 -- ---- an image begins
 
-pub none_stand : (image : Image) (v : RowView) (window : Held) (text text' : Option (List ℕ)) → IsPlan image v.plan → v.rows ≡ 0 → v.in_stripe ≡ 0 → v.named ≡ None → image.settings.named ≡ [] → EncoderIsAt v.encoder start [] → v.kept.offset ≡ 0 → v.kept.previous_typical ≡ false → v.learned ≡ fresh
-    → HasLines window (white_lines image.width) → is_two_line v.tally ≡ (mode_of image.settings.options).two_line → most_of v.tally ≡ image.settings.most_offset → ((width' current : ℕ) → CountsLines v.tally width' current []) → Appends text text' (head_of image.settings image.width image.limit)
-    → Stands image [] v window (here text) text'
-none_stand image v window text text' plan rows_is none nameless unnamed codes offset previous learned white two_line most counts put = inl (record {
+pub none_stand : {image : Image} {window : Held} {text text' : Option (List ℕ)} (v : RowView) → IsPlan image v.plan → v.rows ≡ 0 → v.in_stripe ≡ 0 → v.named ≡ None → image.settings.named ≡ [] →
+    EncoderIsAt v.encoder start [] → v.kept.offset ≡ 0 → v.kept.previous_typical ≡ false → v.learned ≡ fresh → HasLines window (white_lines image.width) →
+    is_two_line v.tally ≡ (mode_of image.settings.options).two_line → most_of v.tally ≡ image.settings.most_offset → ((width' current : ℕ) → CountsLines v.tally width' current []) →
+    Appends text text' (head_of image.settings image.width image.limit) → Stands image [] v window (here text) text'
+none_stand {image} v plan rows_is none nameless unnamed codes offset previous learned white two_line most counts put = inl (record {
   plan_is = plan;
   come = record { many = rows_is; few = omega arith; wide = tt };
   i = 0;

@@ -22,8 +22,8 @@ use Rattle.t85_core.proofs.Encodings.EncoderStarts.{CourseGoes, course_begins, c
 use Rattle.t85_core.proofs.Encodings.RowsOn.{RowsGoOn, front_splits, rows_continue, rows_go_on}
 
 -- a raster that begins with rows begins with the first of them
-pub come_first : (image : Image) (first rows : List (List Bool)) (raster : Raster) → MayCome image (first ++ rows) raster → MayCome image first raster
-come_first image first rows raster b = record {
+pub come_first : {image : Image} {raster : Raster} (first rows : List (List Bool)) → MayCome image (first ++ rows) raster → MayCome image first raster
+come_first {raster} first rows b = record {
   proper = b.proper;
   width_is = b.width_is;
   height_to = b.height_to;
@@ -34,16 +34,16 @@ come_first image first rows raster b = record {
 }
 
 -- it has them all
-pub come_long : (image : Image) (rows : List (List Bool)) (raster : Raster) → MayCome image rows raster → length rows ≤ height raster
-come_long image rows raster b = (front_splits raster.rows rows b.first).0
+pub come_long : {image : Image} {rows : List (List Bool)} {raster : Raster} → MayCome image rows raster → length rows ≤ height raster
+come_long {rows} {raster} b = (front_splits raster.rows b.first).0
 
 pub same_announced : (o : Option ℕ) (a b : ℕ) → (o ≡ None → a ≡ b) → unwrap_or o a ≡ unwrap_or o b
 same_announced None a b h = h refl
 same_announced (Some n) a b h = refl
 
 -- the head of each raster that may come
-pub come_head : (image : Image) (rows : List (List Bool)) (raster : Raster) → MayCome image rows raster → head_of image.settings image.width image.limit ≡ head_of image.settings raster.width (height raster)
-come_head image rows raster b =
+pub come_head : {image : Image} {rows : List (List Bool)} {raster : Raster} → MayCome image rows raster → head_of image.settings image.width image.limit ≡ head_of image.settings raster.width (height raster)
+come_head {image} {raster} b =
     ap (λ w. head_of image.settings w image.limit) (sym b.width_is)
     ∙ ap (λ n. header_bytes (record { xd = raster.width; yd = n; l0 = image.settings.stripe_rows; mx = image.settings.most_offset; options = written_options image.settings }) ++ flat_map segment_bytes (map Comment (option_to_list image.settings.comment)))
     (same_announced image.settings.announced image.limit (height raster) (λ none. sym (b.height_is none)))
@@ -51,7 +51,7 @@ come_head image rows raster b =
 -- nothing but the head
 none_stands : (image : Image) → FrontStands image 0 [] (first_encoder_start image.width) (head_of image.settings image.width image.limit)
 none_stands image = record {
-  front_is = λ raster b. come_head image [] raster b ∙ sym (append-nil (head_of image.settings raster.width (height raster)));
+  front_is = λ raster b. come_head b ∙ sym (append-nil (head_of image.settings raster.width (height raster)));
   course = λ raster b _. subst (λ w. CourseAt image.settings raster 0 (first_encoder_start w)) b.width_is (course_begins image.settings raster);
 }
 
@@ -63,13 +63,13 @@ none_whole image = record {
 }
 
 -- where the encoder stands with the names that were given
-pub stands_here : (image : Image) (i : ℕ) (rows : List (List Bool)) (at : EncoderStart) (front : List ℕ) → StripesWhole image i rows at front → FrontStands image i rows at front
-stands_here image i rows at front so = so.stands image.settings.named (λ j _. refl)
+pub stands_here : {image : Image} {i : ℕ} {rows : List (List Bool)} {at : EncoderStart} {front : List ℕ} → StripesWhole image i rows at front → FrontStands image i rows at front
+stands_here {image} so = so.stands image.settings.named (λ j _. refl)
 
 -- the same where later stripes get other names
-pub stands_anew : (image : Image) (i : ℕ) (rows : List (List Bool)) (at : EncoderStart) (front : List ℕ) → StripesWhole image i rows at front
-    → (names : List (Option ℕ)) → SameNames i image.settings.named names → StripesWhole (naming image names) i rows at front
-stands_anew image i rows at front so names same = record {
+pub stands_anew : {image : Image} {i : ℕ} {rows : List (List Bool)} {at : EncoderStart} {front : List ℕ} → StripesWhole image i rows at front → (names : List (Option ℕ)) →
+    SameNames i image.settings.named names → StripesWhole (naming image names) i rows at front
+stands_anew so names same = record {
   many = so.many;
   stripe_is = so.stripe_is;
   stands = λ names' same'. so.stands names' (λ j lt. same j lt ∙ same' j lt);
@@ -105,8 +105,8 @@ stripes_begin s raster n (suc m) =
     }
 
 -- a beginning of the stream up to some stripe is one of the stream
-pub front_begins : (s : Settings) (raster : Raster) (n : ℕ) (bytes : List ℕ) → n ≤ stripe_count (height raster) s.stripe_rows → IsBeginning bytes (jbg_up_to s raster n) → IsBeginning bytes (jbg s raster)
-front_begins s raster n bytes few b = record { rest = b.rest ++ (more.rest ++ ending s (height raster)); bytes_are = all_are } where
+pub front_begins : {bytes : List ℕ} (s : Settings) (raster : Raster) (n : ℕ) → n ≤ stripe_count (height raster) s.stripe_rows → IsBeginning bytes (jbg_up_to s raster n) → IsBeginning bytes (jbg s raster)
+front_begins {bytes} s raster n few b = record { rest = b.rest ++ (more.rest ++ ending s (height raster)); bytes_are = all_are } where
   count : ℕ
   count = stripe_count (height raster) s.stripe_rows
 
@@ -133,53 +133,57 @@ up_to_more s raster i =
     ap (λ z. head_of s raster.width (height raster) ++ z) (stripes_more s raster i)
     ∙ sym (append_assoc (head_of s raster.width (height raster)) (stripes_up_to s raster i) (stripe_bytes (coded_stripe (coding_of s raster) i)))
 
-module _ (image : Image) (i : ℕ) (whole : List (List Bool)) (at : EncoderStart) (front : List ℕ) (some : 1 ≤ image.settings.stripe_rows) (so : StripesWhole image i whole at front) where
+module _ {image : Image} {i : ℕ} {whole : List (List Bool)} {at : EncoderStart} {front : List ℕ} (some : 1 ≤ image.settings.stripe_rows) (so : StripesWhole image i whole at front) where
   abbrev l : ℕ
   l = image.settings.stripe_rows
 
   here : FrontStands image i whole at front
-  here = stands_here image i whole at front so
+  here = stands_here so
 
   -- the stripe of a raster that begins so
-  pub stripe_comes : (part : List (List Bool)) (raster : Raster) → MayCome image (whole ++ part) raster → i * l < height raster → length part ≡ min l (height raster - i * l) → CourseGoes image.settings raster i at part
-  stripe_comes part raster b within enough =
-      course_step image.settings raster i at part some (inside_of (height raster) l i some within) (here.course raster (come_first image whole part raster b) within)
-      (rows_continue (white_row raster.width) raster.rows whole part (i * l) b.first so.many) enough
+  pub stripe_comes : {raster : Raster} (part : List (List Bool)) → MayCome image (whole ++ part) raster → i * l < height raster → length part ≡ min l (height raster - i * l) →
+      CourseGoes image.settings raster i at part
+  stripe_comes {raster} part b within enough =
+      course_step part some (inside_of (height raster) l i some within) (here.course raster (come_first whole part b) within)
+      (rows_continue (white_row raster.width) raster.rows whole part b.first so.many) enough
 
-  next_bytes : (part : List (List Bool)) (raster : Raster) → raster.width ≡ image.width → CourseGoes image.settings raster i at part → stripe_bytes (next_stripe image.settings image.width at part) ≡ stripe_bytes (coded_stripe (coding_of image.settings raster) i)
-  next_bytes part raster wide goes = ap stripe_bytes (subst (λ w. next_stripe image.settings w at part ≡ coded_stripe (coding_of image.settings raster) i) wide goes.stripe)
+  next_bytes : {part : List (List Bool)} {raster : Raster} → raster.width ≡ image.width → CourseGoes image.settings raster i at part →
+      stripe_bytes (next_stripe image.settings image.width at part) ≡ stripe_bytes (coded_stripe (coding_of image.settings raster) i)
+  next_bytes {part} {raster} wide goes = ap stripe_bytes (subst (λ w. next_stripe image.settings w at part ≡ coded_stripe (coding_of image.settings raster) i) wide goes.stripe)
 
   -- the stream up to there, with this stripe
-  pub stripe_more : (part : List (List Bool)) (raster : Raster) → MayCome image (whole ++ part) raster → i * l < height raster → length part ≡ min l (height raster - i * l) → front ++ stripe_bytes (next_stripe image.settings image.width at part) ≡ jbg_up_to image.settings raster (i + 1)
-  stripe_more part raster b within enough =
-      ap (λ z. z ++ stripe_bytes (next_stripe image.settings image.width at part)) (here.front_is raster (come_first image whole part raster b))
-      ∙ ap (λ z. jbg_up_to image.settings raster i ++ z) (next_bytes part raster b.width_is (stripe_comes part raster b within enough))
+  pub stripe_more : {raster : Raster} (part : List (List Bool)) → MayCome image (whole ++ part) raster → i * l < height raster → length part ≡ min l (height raster - i * l) →
+      front ++ stripe_bytes (next_stripe image.settings image.width at part) ≡ jbg_up_to image.settings raster (i + 1)
+  stripe_more {raster} part b within enough =
+      ap (λ z. z ++ stripe_bytes (next_stripe image.settings image.width at part)) (here.front_is raster (come_first whole part b))
+      ∙ ap (λ z. jbg_up_to image.settings raster i ++ z) (next_bytes b.width_is (stripe_comes part b within enough))
       ∙ sym (up_to_more image.settings raster i)
 
   -- a beginning of each stripe that begins with these rows, after those that are whole
-  pub part_begins : (part : List (List Bool)) (bytes : List ℕ) → length part ≤ l → ((later : List (List Bool)) → IsBeginning bytes (stripe_bytes (next_stripe image.settings image.width at (part ++ later))))
-      → (raster : Raster) → MayCome image (whole ++ part) raster → i * l < height raster → IsBeginning (front ++ bytes) (jbg image.settings raster)
-  part_begins part bytes few begins raster b within =
-      front_begins image.settings raster (i + 1) (front ++ bytes) (let inside = inside_of (height raster) l i some within in omega (arith, inside)) (record {
+  pub part_begins : {raster : Raster} (part : List (List Bool)) (bytes : List ℕ) → length part ≤ l →
+      ((later : List (List Bool)) → IsBeginning bytes (stripe_bytes (next_stripe image.settings image.width at (part ++ later)))) → MayCome image (whole ++ part) raster → i * l < height raster →
+      IsBeginning (front ++ bytes) (jbg image.settings raster)
+  part_begins {raster} part bytes few begins b within =
+      front_begins image.settings raster (i + 1) (let inside = inside_of (height raster) l i some within in omega (arith, inside)) (record {
         rest = p.rest;
         bytes_are =
             up_to_more image.settings raster i
             ∙ ap (λ z. z ++ stripe_bytes (coded_stripe (coding_of image.settings raster) i)) (sym (here.front_is raster first))
-            ∙ ap (λ z. front ++ z) (sym (next_bytes (part ++ go.later) raster b.width_is goes) ∙ p.bytes_are)
+            ∙ ap (λ z. front ++ z) (sym (next_bytes b.width_is goes) ∙ p.bytes_are)
             ∙ sym (append_assoc front bytes p.rest);
       })
     where
       first : MayCome image whole raster
-      first = come_first image whole part raster b
+      first = come_first whole part b
 
       long : length part ≤ min l (height raster - i * l)
-      long = (let all = come_long image (whole ++ part) raster b in omega (arith, all, length-append whole part, so.many, few))
+      long = (let all = come_long b in omega (arith, all, length-append whole part, so.many, few))
 
       go : RowsGoOn (white_row raster.width) raster.rows (i * l) l part
-      go = rows_go_on (white_row raster.width) raster.rows whole part (i * l) l b.first so.many long
+      go = rows_go_on (white_row raster.width) raster.rows whole part l b.first so.many long
 
       goes : CourseGoes image.settings raster i at (part ++ go.later)
-      goes = course_step image.settings raster i at (part ++ go.later) some (inside_of (height raster) l i some within) (here.course raster first within) go.continues (length-append part go.later ∙ go.many)
+      goes = course_step (part ++ go.later) some (inside_of (height raster) l i some within) (here.course raster first within) go.continues (length-append part go.later ∙ go.many)
 
       p : IsBeginning bytes (stripe_bytes (next_stripe image.settings image.width at (part ++ go.later)))
       p = begins go.later
@@ -190,12 +194,12 @@ module _ (image : Image) (i : ℕ) (whole : List (List Bool)) (at : EncoderStart
   -- a stripe with all its rows
   part_stands : (part : List (List Bool)) → length part ≡ l → FrontStands image (i + 1) (whole ++ part) (next_encoder_start image.settings image.width at part) (front ++ stripe_bytes (next_stripe image.settings image.width at part))
   part_stands part enough = record {
-    front_is = λ raster b. stripe_more part raster b (within raster b) (all raster b);
+    front_is = λ raster b. stripe_more part b (within raster b) (all raster b);
     course = λ raster b more. subst (λ w. CourseAt image.settings raster (i + 1) (next_encoder_start image.settings w at part)) b.width_is
-        ((stripe_comes part raster b (within raster b) (all raster b)).next (inside_of (height raster) l (i + 1) some more));
+        ((stripe_comes part b (within raster b) (all raster b)).next (inside_of (height raster) l (i + 1) some more));
   } where
     long : (raster : Raster) → MayCome image (whole ++ part) raster → i * l + l ≤ height raster
-    long raster b = (let has = come_long image (whole ++ part) raster b in omega (arith, has, length-append whole part, so.many, enough))
+    long raster b = (let has = come_long b in omega (arith, has, length-append whole part, so.many, enough))
 
     within : (raster : Raster) → MayCome image (whole ++ part) raster → i * l < height raster
     within raster b = omega (arith, long raster b, some)
@@ -204,7 +208,7 @@ module _ (image : Image) (i : ℕ) (whole : List (List Bool)) (at : EncoderStart
     all raster b = omega (arith, long raster b, enough)
 
 -- what is written for a stripe is the same where its own name is
-module _ (image : Image) (i : ℕ) (whole : List (List Bool)) (at : EncoderStart) (front : List ℕ) (some : 1 ≤ image.settings.stripe_rows) (so : StripesWhole image i whole at front) (part : List (List Bool)) (enough : length part ≡ image.settings.stripe_rows) where
+module _ {image : Image} {i : ℕ} {whole : List (List Bool)} {at : EncoderStart} {front : List ℕ} (some : 1 ≤ image.settings.stripe_rows) (so : StripesWhole image i whole at front) (part : List (List Bool)) (enough : length part ≡ image.settings.stripe_rows) where
   start_with : Option (ℕ × ℕ) → EncoderStart
   start_with move = record {
     stripe = suc at.stripe;
@@ -226,11 +230,11 @@ module _ (image : Image) (i : ℕ) (whole : List (List Bool)) (at : EncoderStart
   pub whole_more : StripesWhole image (i + 1) (whole ++ part) (next_encoder_start image.settings image.width at part) (front ++ stripe_bytes (next_stripe image.settings image.width at part))
   unfolding start_with stripe_with move_named
   whole_more = record {
-    many = rows_more image i whole at front some so part enough;
+    many = rows_more some so part enough;
     stripe_is = (let is : at.stripe ≡ i = so.stripe_is in omega (arith, is));
     stands = λ names same.
-        let anew = stands_anew image i whole at front so names (λ j lt. same j (omega (arith, lt))) in
+        let anew = stands_anew so names (λ j lt. same j (omega (arith, lt))) in
         let name : slice_index_or names at.stripe None ≡ slice_index_or image.settings.named at.stripe None = sym (same at.stripe (let is : at.stripe ≡ i = so.stripe_is in omega (arith, is))) in
         subst (λ move. FrontStands (naming image names) (i + 1) (whole ++ part) (start_with move) (front ++ stripe_bytes (stripe_with move))) (ap move_named name)
-        (part_stands (naming image names) i whole at front some anew part enough);
+        (part_stands some anew part enough);
   }

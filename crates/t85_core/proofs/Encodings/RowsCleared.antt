@@ -18,7 +18,7 @@ cleared width w = next_cleared width (next_cleared width (next_cleared width w))
 abbrev AreSmall : List ℕ → Type 0
 AreSmall bytes = (k : ℕ) → slice_index bytes k < 256
 
-module _ (width : ℕ) (some : 1 ≤ width) (w0 w1 w2 w3 : Held) (wide : w0.width ≡ width) (e1 : w1 ≡ next_cleared width w0) (e2 : w2 ≡ next_cleared width w1) (e3 : w3 ≡ next_cleared width w2) where
+module _ {width : ℕ} {w1 w2 w3 : Held} (some : 1 ≤ width) (w0 : Held) (wide : w0.width ≡ width) (e1 : w1 ≡ next_cleared width w0) (e2 : w2 ≡ next_cleared width w1) (e3 : w3 ≡ next_cleared width w2) where
   third : w3 ≡ cleared width w0
   third = e3 ∙ ap (next_cleared width) (e2 ∙ ap (next_cleared width) e1)
 

@@ -17,8 +17,8 @@ reads_none form width known = record { given = []; taken = nothing known; are_ro
   nothing None = tt
   nothing (Some a) = refl
 
-pub reads_join : (form : Form) (width : ℕ) (a b c : Option (List ℕ)) (rows more : List (List Bool)) → ReadsRows form width a b rows → ReadsRows form width b c more → ReadsRows form width a c (rows ++ more)
-reads_join form width a b c rows more p q = record {
+pub reads_join : {form : Form} {width : ℕ} {a b c : Option (List ℕ)} {rows more : List (List Bool)} → ReadsRows form width a b rows → ReadsRows form width b c more → ReadsRows form width a c (rows ++ more)
+reads_join {form} {width} {a} {b} {c} {rows} {more} p q = record {
   given = p.given ++ q.given;
   taken = Consumes-more a b c p.given q.given p.taken q.taken;
   are_rows = rows_append form width p.given q.given rows more p.are_rows q.are_rows;

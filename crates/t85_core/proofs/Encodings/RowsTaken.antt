@@ -14,10 +14,10 @@ use Rattle.raster_core.specs.Window.{turned}
 use Rattle.t85_core.specs.Steps.EncodeRows.{RowTaken}
 
 -- The current row of a window is written, with a given place and width.
-pub put_current : (told place told_width width start end : ℕ) (bytes row : List ℕ) → told ≡ place → told_width ≡ width → length bytes ≡ 3 * div_ceil width 8 → length row ≡ div_ceil width 8 →
+pub put_current : {told place told_width width : ℕ} (start end : ℕ) (bytes row : List ℕ) → told ≡ place → told_width ≡ width → length bytes ≡ 3 * div_ceil width 8 → length row ≡ div_ceil width 8 →
     ((bytes row : List ℕ) → length bytes ≡ 3 * div_ceil told_width 8 → length row ≡ div_ceil told_width 8 → rows_at told told_width (with_part start end bytes row) ≡ with_current (rows_at told told_width bytes) row) →
     rows_at place width (with_part start end bytes row) ≡ with_current (rows_at place width bytes) row
-put_current told place told_width width start end bytes row place_is width_is long wide put =
+put_current {told} {width} start end bytes row place_is width_is long wide put =
     subst (λ p. rows_at p width (with_part start end bytes row) ≡ with_current (rows_at p width bytes) row) place_is
     (subst (λ w. rows_at told w (with_part start end bytes row) ≡ with_current (rows_at told w bytes) row) width_is
     (put bytes row (long ∙ ap (λ w. 3 * div_ceil w 8) (sym width_is)) (wide ∙ ap (λ w. div_ceil w 8) (sym width_is))))
@@ -37,9 +37,9 @@ pub row_wide : (form : Form) (width : ℕ) (given : List ℕ) (row : List Bool) 
 row_wide Raw width given row p = ap length p.1 ∙ pixels_many width given
 row_wide Plain width given row p = p.0
 
-pub row_taken : (form : Form) (width : ℕ) (known known' : Option (List ℕ)) (old mid : Held) (given row : List ℕ) → mid ≡ turned old → old.width ≡ width → IsRowOf form width given row → Consumes known known' given
-    → RowTaken form width known known' old (record { width = mid.width; current = row; above = mid.above; second = mid.second })
-row_taken form width known known' old mid given row mid_is wide is taken = record {
+pub row_taken : {form : Form} {width : ℕ} {mid : Held} {given row : List ℕ} (known known' : Option (List ℕ)) (old : Held) → mid ≡ turned old → old.width ≡ width → IsRowOf form width given row →
+    Consumes known known' given → RowTaken form width known known' old (record { width = mid.width; current = row; above = mid.above; second = mid.second })
+row_taken {form} {width} {given} {row} known known' old mid_is wide is taken = record {
   row = is.pixels;
   read = record { given = given; taken = taken; are_rows = (given, [], sym (append-nil given), is.is_row, refl) };
   below = λ lines has. record {

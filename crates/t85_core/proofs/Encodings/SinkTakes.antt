@@ -20,8 +20,8 @@ which Write p = inl refl
 which (Pbm why) p = inr (why, refl)
 which f p = absurd p
 
-pub is_of : (fault f : Fault) → fault ≡ f → IsErrOf {T = Unit {0}} {E = Fault} (Err fault) f
-is_of fault f is = ap Err is
+pub is_of : {fault f : Fault} → fault ≡ f → IsErrOf {T = Unit {0}} {E = Fault} (Err fault) f
+is_of is = ap Err is
 
 module _ {S : Type 0} (view : S → SinkView) where
   abbrev takes : S → ℕ → S → Type 0

@@ -74,8 +74,7 @@ length-packed_rows width bytes k = simp length-map (many_numbers 0 k)
 
 -- ---- a row more
 
-module _ (shape : Shape) (most : ℕ) (carry : StripeStart) (offset : ℕ) (part : List (List Bool)) (row : List Bool) (before window : Held) (trial trial' : Trial) (below : IsBelow row before window)
-    (h : IsTried (trial_of (shape_mode shape) most carry offset) part shape.width trial before) where
+module _ {part : List (List Bool)} {before : Held} {trial : Trial} (shape : Shape) (most : ℕ) (carry : StripeStart) (offset : ℕ) (row : List Bool) (window : Held) (trial' : Trial) (below : IsBelow row before window) (h : IsTried (trial_of (shape_mode shape) most carry offset) part shape.width trial before) where
   abbrev mode : Mode
   mode = shape_mode shape
 
@@ -118,14 +117,14 @@ module _ (shape : Shape) (most : ℕ) (carry : StripeStart) (offset : ℕ) (part
       let all = count_by-le-length (λ l. not (may_be_typical mode l)) (lines_down carry.above carry.second part) in
       omega (arith, few, all, length-filter (λ l. not (may_be_typical mode l)) (lines_down carry.above carry.second part), length-lines_down carry.above carry.second part)
 
-  counted_more : length part < 2 ^ 32 - 1 → (may_be_typical mode line ≡ true → trial'.tally ≡ trial.tally)
-      → (may_be_typical mode line ≡ false → (lines : List Lines) → length lines < 2 ^ 32 - 1 → CountsLines trial.tally shape.width 0 lines → CountsLines trial'.tally shape.width 0 (lines ++ line ∷ []))
-      → CountsLines trial.tally shape.width 0 (plain_down (trial_of mode most carry offset) part)
-      → (flag : Bool) → may_be_typical mode line ≡ flag → CountsLines trial'.tally shape.width 0 (plain_down (trial_of mode most carry offset) (part ++ row ∷ []))
-  counted_more few typical plain was true is =
+  counted_more : {flag : Bool} → length part < 2 ^ 32 - 1 → (may_be_typical mode line ≡ true → trial'.tally ≡ trial.tally) →
+      (may_be_typical mode line ≡ false → (lines : List Lines) → length lines < 2 ^ 32 - 1 → CountsLines trial.tally shape.width 0 lines → CountsLines trial'.tally shape.width 0 (lines ++ line ∷ [])) →
+      CountsLines trial.tally shape.width 0 (plain_down (trial_of mode most carry offset) part) → may_be_typical mode line ≡ flag →
+      CountsLines trial'.tally shape.width 0 (plain_down (trial_of mode most carry offset) (part ++ row ∷ []))
+  counted_more {flag = true} few typical plain was is =
       subst (CountsLines trial'.tally shape.width 0) (sym (plain_more ∙ ap (λ f. plain_down (trial_of mode most carry offset) part ++ cond (not f) (line ∷ []) []) is ∙ append-nil (plain_down (trial_of mode most carry offset) part)))
       (subst (λ t. CountsLines t shape.width 0 (plain_down (trial_of mode most carry offset) part)) (sym (typical is)) was)
-  counted_more few typical plain was false is =
+  counted_more {flag = false} few typical plain was is =
       subst (CountsLines trial'.tally shape.width 0) (sym (plain_more ∙ ap (λ f. plain_down (trial_of mode most carry offset) part ++ cond (not f) (line ∷ []) []) is))
       (plain is (plain_down (trial_of mode most carry offset) part) (few_plain few) was)
 
@@ -149,13 +148,14 @@ module _ (shape : Shape) (most : ℕ) (carry : StripeStart) (offset : ℕ) (part
     }));
     two_line = two_line ∙ h.two_line;
     most_is = most_is ∙ h.most_is;
-    counts = λ is. counted_more few (λ flag. typical (coded.flag_is ∙ flag)) (λ flag. plain (sym same ∙ is) (coded.flag_is ∙ flag)) (h.counts (sym same ∙ is)) (may_be_typical mode line) refl;
+    counts = λ is. counted_more few (λ flag. typical (coded.flag_is ∙ flag)) (λ flag. plain (sym same ∙ is) (coded.flag_is ∙ flag)) (h.counts (sym same ∙ is)) refl;
   }
 
 -- ---- the end of the code
 
-pub code_counted : (laws : WritingLaws) (t : TrialOf) (part : List (List Bool)) (width : ℕ) (trial : Trial) (window : Held) (h : IsTried t part width trial window) (to : ByteCount) (r : Result (Unit {0}) CoderFault)
-    → OnErr r (◌≡◌ {A = ℕ} 0 (one_more 0)) → Finish (sink_at counts trial.sink h.pushed) (tried_to t part).state.place to r → to.bytes ≡ length (tried_code t part) % 2 ^ 64
-code_counted laws t part width trial window h to r never f =
+pub code_counted : {t : TrialOf} {part : List (List Bool)} {width : ℕ} {trial : Trial} {window : Held} {to : ByteCount} {r : Result (Unit {0}) CoderFault} (laws : WritingLaws)
+    (h : IsTried t part width trial window) → OnErr r (◌≡◌ {A = ℕ} 0 (one_more 0)) → Finish (sink_at counts trial.sink h.pushed) (tried_to t part).state.place to r →
+    to.bytes ≡ length (tried_code t part) % 2 ^ 64
+code_counted {t} {part} {trial} {to} {r} laws h never f =
     took_counted trial.sink to f.more (sure r never f.writes.ok) (length h.pushed) h.bytes
     ∙ ap (λ n. n % 2 ^ 64) (sym (length-append h.pushed f.more) ∙ ap length f.all ∙ ap (λ c. length (stuffed c)) ((laws.one_code (tried_to t part).state.place (rows_place laws t.mode (named_move t.offset t.carry.offset) 0 (first_row_start t.carry) part laws.start_is_place)).only f.code f.is))

@@ -11,5 +11,5 @@ returns-clause-outcome g c =
     let last = c.to_jbg_from.new.input in
     let known = known_unheld source.bytes (g.R.Input.view source.input.now).remaining c.new-source.ensures.empty ∙ ap (λ m. (g.R.Input.view m.now).remaining) c.new-source.ensures.lent in
     let same = c.to_jbg_from.ensures.same_input.same_source in
-    read_ahead (λ d. (g.R.Input.view d).remaining) (λ d. (g.R.Input.view d).failures) (settings_of c.args.options.now) _ _ (bytes_between last.bytes last.at last.end) c.args.input.now last.input.now _ _ _ c.to_jbg_from.result
+    read_ahead (λ d. (g.R.Input.view d).remaining) (λ d. (g.R.Input.view d).failures) (bytes_between last.bytes last.at last.end) c.args.input.now
     known (ap (λ m. (g.R.Input.view m.now).failures) c.new-source.ensures.lent) (search (rules, same)) c.to_jbg_from.ensures.same_input.drained c.to_jbg_from.ensures.outcome

@@ -22,7 +22,7 @@ returns-in-Ok-write_held g c =
     let empty = c.in-Ok-write_held.ensures.empty in
     record {
       ok = tt;
-      short = λ fault is. short_handed _ _ _ _ _ _ _ _ _ _ fault (c.in-Err.ensures.short fault is) (all_handed _ _ _ _ _ empty.0 empty.1 c.write_held-in_default.ensures.text);
+      short = λ fault is. short_handed _ _ _ _ _ _ _ _ (c.in-Err.ensures.short fault is) (all_handed _ _ _ _ _ empty.0 empty.1 c.write_held-in_default.ensures.text);
       begun = front_handed _ _ _ _ _ _ _ _ (told_front _ _ _ _ _ _ _ _ _ c.in-Err.fault c.in-Err.ensures.among c.in_default.not-Write c.in-Err.ensures.short) c.write_held-in_default.ensures.text;
       among = c.in-Err.ensures.among;
       reads = counts_any _ _ _ c.in-Err.ensures.reads;

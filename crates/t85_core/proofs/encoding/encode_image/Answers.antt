@@ -16,7 +16,7 @@ use Rattle.t85_core.proofs.Encodings.ImageByRow.{front_short, cut_refused, end_r
 use Rattle.t85_core.proofs.encoding.encode_image.Goals as goal
 
 pub returns-in_err-write_head-clause-unwritten : goal.returns-in_err-write_head-clause-unwritten
-returns-in_err-write_head-clause-unwritten g c is = head_refused (settings_of c.args.options.now) c.args.size.width c.args.size.height _ _ _ c.in_err-write_head.ensures.cut
+returns-in_err-write_head-clause-unwritten g c is = head_refused (settings_of c.args.options.now) c.args.size.width c.args.size.height _ c.in_err-write_head.ensures.cut
 
 pub rows-init : goal.rows-init
 rows-init g c =
@@ -46,19 +46,19 @@ returns-in_err-read_next_row-clause-short g c fault is =
     let so = c.rows.invariant.come in
     let short = c.in_err-read_next_row.ensures.short in
     exit_of c.from_residual-in_err-read_next_row.result c.from_residual-in_err-read_next_row.ensures.1 (λ told.
-    front_short s c.args.size.width c.args.size.height so.0 _ _ _ _ _ so.2 fault (omega (arith, so.1, c.rows-test.true))
+    front_short s c.args.size.height _ _ _ so.2 (omega (arith, so.1, c.rows-test.true))
     (subst (λ f. EndsInRow c.args.form c.args.size.width (g.R.Input.view c.rows.source).remaining (g.R.Input.view c.read_next_row.new.source).remaining f) (same_fault short.0 fault _ short.1 told) short.2)
     (c.fronts.ensures (image_of s c.args.size.width c.args.size.height) so.0 (view_of c.rows.encoder c.rows.learning) (held c.rows.window) _ _ so.3)) is
 
 pub put_taken-requires-clause-lined : goal.put_taken-requires-clause-lined
-put_taken-requires-clause-lined g c _ = taken_lined c.args.size.width _ _ (held c.rows.window) (held c.read_next_row.new.window) c.in_ok-read_next_row.ensures.ok c.rows.invariant.lined
+put_taken-requires-clause-lined g c _ = taken_lined c.in_ok-read_next_row.ensures.ok c.rows.invariant.lined
 
 pub returns-in_err-put_taken-clause-unwritten : goal.returns-in_err-put_taken-clause-unwritten
 returns-in_err-put_taken-clause-unwritten g c is =
     let s = settings_of c.args.options.now in
     let so = c.rows.invariant.come in
     let taken = c.in_ok-read_next_row.ensures.ok in
-    cut_refused s c.args.size.width c.args.size.height (so.0 ++ taken.row ∷ []) _ _ (g.R.Input.view c.args.source.now).remaining _ _ (reads_join c.args.form c.args.size.width _ _ _ so.0 (taken.row ∷ []) so.2 taken.read)
+    cut_refused s c.args.size.height (g.R.Input.view c.args.source.now).remaining _ _ (reads_join so.2 taken.read)
     (let sum = length-append so.0 (taken.row ∷ []) in omega (arith, sum, so.1, c.rows-test.true))
     (c.in_err-put_taken.ensures.cut c.rows.invariant.going taken.row (held c.rows.window) taken.below (image_of s c.args.size.width c.args.size.height) so.0 _ so.3)
 
@@ -71,7 +71,7 @@ rows-preserved g c =
       come = (
         so.0 ++ taken.row ∷ [],
         (let sum = length-append so.0 (taken.row ∷ []) in omega (arith, sum, so.1)),
-        reads_join c.args.form c.args.size.width _ _ _ so.0 (taken.row ∷ []) so.2 taken.read,
+        reads_join so.2 taken.read,
         c.in_ok-put_taken.ensures.ok taken.row (held c.rows.window) taken.below (image_of s c.args.size.width c.args.size.height) so.0 _ so.3,
       );
       going = c.in_ok-put_taken.ensures.goes_on.0;
@@ -99,4 +99,4 @@ returns-clause-unwritten g c is =
     let s = settings_of c.args.options.now in
     let so = c.rows.invariant.come in
     let ended : c.rows.counter ≡ c.args.size.height = omega (arith, c.rows.auto.counter-end, c.rows-test.false) in
-    end_refused s c.args.size.width c.args.size.height so.0 _ _ (g.R.Input.view c.args.source.now).remaining _ _ so.2 (so.1 ∙ ended) (err_of c.end.result is (c.end.ensures.cut c.rows.invariant.going) (image_of s c.args.size.width c.args.size.height) so.0 _ so.3)
+    end_refused s c.args.size.height (g.R.Input.view c.args.source.now).remaining _ _ so.2 (so.1 ∙ ended) (err_of c.end.result is (c.end.ensures.cut c.rows.invariant.going) (image_of s c.args.size.width c.args.size.height) so.0 _ so.3)

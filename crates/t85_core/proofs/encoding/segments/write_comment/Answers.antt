@@ -22,6 +22,6 @@ returns g c = record {
   err = c.put-2.ensures.err;
   cut = on_err c.put-2.result (λ more. beginning_after _ (rw c.write_u32.ensures at c.in_ok-put.ensures.ok) more) c.put-2.ensures.cut;
   grows = le_trans c.put.ensures.grows c.put-2.ensures.grows;
-  counts = counts_on _ _ _ c.put-2.result c.in_ok-put.ensures.counts c.put-2.ensures.counts;
+  counts = counts_on _ c.put-2.result c.in_ok-put.ensures.counts c.put-2.ensures.counts;
   same_writer = c.put-2.ensures.same_writer ∙ c.put.ensures.same_writer;
 }

@@ -11,7 +11,7 @@ use Rattle.t85_core.proofs.encoding.steps.code_row.Goals as goal
 -- it is the same target
 stays : (g : given.Over) (c : goal.After-written g) → SameSink (sink_view g.P.ByteTarget.view c.new-ink.result) (sink_view g.P.ByteTarget.view c.encode_row.new.out)
 stays g c =
-    row_stays (sink_view g.P.ByteTarget.view) (λ s. (g.P.ByteTarget.view s.target.now).failures) c.new-ink.result c.encode_row.new.out _ _ _ _ _ _ _ _ c.encode_row.result
+    row_stays (sink_view g.P.ByteTarget.view) (λ s. (g.P.ByteTarget.view s.target.now).failures) c.new-ink.result c.encode_row.new.out _ _ _ _ _ _ _
     (c.encode_row.ensures.row c.requires.somewhere.0 c.requires.somewhere.1 c.requires.lined.0 c.requires.able.2 c.requires.somewhere.2 c.requires.lined.1)
 
 pub returns-clause-row : goal.returns-clause-row

@@ -11,7 +11,7 @@ use Rattle.t85_core.proofs.encoding.steps.end_code.Goals as goal
 -- it is the same target
 stays : (g : given.Over) (c : goal.After-written g) → SameSink (sink_view g.P.ByteTarget.view c.new-ink.result) (sink_view g.P.ByteTarget.view c.finish.new.out)
 stays g c =
-    end_stays (sink_view g.P.ByteTarget.view) (λ s. (g.P.ByteTarget.view s.target.now).failures) c.new-ink.result c.finish.new.out _ _ c.finish.result
+    end_stays (sink_view g.P.ByteTarget.view) (λ s. (g.P.ByteTarget.view s.target.now).failures) c.new-ink.result c.finish.new.out _
     (c.finish.ensures.code c.requires.somewhere.0 c.requires.somewhere.1 c.requires.going c.requires.somewhere.2)
 
 pub returns-clause-ended : goal.returns-clause-ended

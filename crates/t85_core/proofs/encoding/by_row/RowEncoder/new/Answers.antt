@@ -31,5 +31,5 @@ returns-clause-plan c =
 
 pub returns-clause-first : goal.returns-clause-first
 returns-clause-first c learning untaught window text text' white put =
-    none_stand (image_of (settings_of c.args.options.now) c.args.size.width c.args.size.height) _ window text text' (returns-clause-plan c)
+    none_stand _ (returns-clause-plan c)
     refl refl refl refl c.start.ensures.codes refl refl untaught.learned_is white untaught.two_line untaught.most untaught.counts put

@@ -34,15 +34,15 @@ returns-clause-ok g c row before below image rows origin so =
 
 pub returns-in_err-code-clause-few : goal.returns-in_err-code-clause-few
 returns-in_err-code-clause-few g c =
-    row_begun_few (waiting_bytes c.args.self.now.encoder) (waiting_bytes c.begin_where_due.new.self.encoder) c.args.self.now.size.width c.begin_where_due.new.self.size.width _ _ _ (ap waiting_bytes c.begin_where_due.ensures.keeps.2) (ap (λ z. z.width) c.begin_where_due.ensures.keeps.0.0.0)
+    row_begun_few _ _ _ (ap waiting_bytes c.begin_where_due.ensures.keeps.2) (ap (λ z. z.width) c.begin_where_due.ensures.keeps.0.0.0)
     c.in_ok-begin_where_due.ensures.few c.in_err-code.ensures.few.err
 
 pub returns-in_err-end_where_due-clause-few : goal.returns-in_err-end_where_due-clause-few
 returns-in_err-end_where_due-clause-few g c =
-    row_few (waiting_bytes c.args.self.now.encoder) (waiting_bytes c.begin_where_due.new.self.encoder) (waiting_bytes c.code.new.self.encoder) c.args.self.now.size.width c.begin_where_due.new.self.size.width _ _ _ _ (ap waiting_bytes c.begin_where_due.ensures.keeps.2) (ap (λ z. z.width) c.begin_where_due.ensures.keeps.0.0.0)
+    row_few (waiting_bytes c.code.new.self.encoder) _ _ (ap waiting_bytes c.begin_where_due.ensures.keeps.2) (ap (λ z. z.width) c.begin_where_due.ensures.keeps.0.0.0)
     c.in_ok-begin_where_due.ensures.few c.in_ok-code.ensures.few.ok c.in_err-end_where_due.ensures.few
 
 pub returns-clause-few : goal.returns-clause-few
 returns-clause-few g c =
-    row_few (waiting_bytes c.args.self.now.encoder) (waiting_bytes c.begin_where_due.new.self.encoder) (waiting_bytes c.code.new.self.encoder) c.args.self.now.size.width c.begin_where_due.new.self.size.width _ _ _ _ (ap waiting_bytes c.begin_where_due.ensures.keeps.2) (ap (λ z. z.width) c.begin_where_due.ensures.keeps.0.0.0)
+    row_few (waiting_bytes c.code.new.self.encoder) _ _ (ap waiting_bytes c.begin_where_due.ensures.keeps.2) (ap (λ z. z.width) c.begin_where_due.ensures.keeps.0.0.0)
     c.in_ok-begin_where_due.ensures.few c.in_ok-code.ensures.few.ok c.in_ok-end_where_due.ensures.few
