@@ -187,7 +187,7 @@ module _ (q : CoderLaws) (in_old : Option (List ℕ)) (again_old : Option (List 
       of = subst (λ z. HeaderOf z h) (sym taken) (HeaderOf-append body t.header_of)
 
       by : IsFixed bytes ⊎ (again_old ≡ Some bytes) → WritesDenoted bytes out_old out_new
-      by (inl f) = absurd (true≢false (sym variable ∙ ap is_variable (header_is bytes h f.header of f.header_of) ∙ f.height_is_fixed))
+      by (inl f) = absurd (true≢false (sym variable ∙ ap is_variable (header_is of f.header_of) ∙ f.height_is_fixed))
       by (inr e) = second bytes again_old p.body e p.taken.taken p.converts.whole of (subst (λ z. IsHeight h z height) (sym (ap (drop 20) taken ∙ behind t.given body t.long)) is)
 
   -- whichever way the second reading goes

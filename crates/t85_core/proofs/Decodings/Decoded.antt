@@ -106,7 +106,7 @@ module _ (q : CoderLaws) (h : Fields) (height : ℕ) (use_ : IsInUse h height) (
   )
 
   cut_among : (bytes known : Option (List ℕ)) (fault : Fault) → ImageCut h height (passage bytes known out_mid out_new) fault → IsBodyFault fault
-  cut_among bytes known fault i = uncounted_body Truncated fault (body_faults h height (stripe_count height h.l0) i.ends.given (counted_as Truncated fault) i.ends.has_fault.broken)
+  cut_among bytes known fault i = uncounted_body Truncated fault (body_faults i.ends.has_fault.broken)
 
   -- what is written is a beginning of what was written
   front_written : (in_new : Option (List ℕ)) (in_held out_held : List ℕ) → known_length out_mid ≤ known_length out_new → ImageUnwritten h height (passage in_old (prepend_known in_held in_new) out_mid (append_known out_new out_held)) →

@@ -43,7 +43,7 @@ counted_never : (f : Fault) → counted_as Truncated f ≡ f → f ≢ Read
 counted_never f e is = let both : counted_as Truncated Read ≡ Read = subst (λ z. counted_as Truncated z ≡ z) is e in let bot : ⊥ = cc in bot
 
 cut_unread : (h : Fields) (height : ℕ) (text out : List ℕ) (f : Fault) → CutOff (sized h height) text out f → (n : ℕ) → reads_after f n ≡ n
-cut_unread h height text out f c = no_failed_read f (walk_fault f (body_faults h height _ text f (cut_all h height text out f c).1.broken)) (counted_never f c.counted)
+cut_unread h height text out f c = no_failed_read f (walk_fault f (body_faults (cut_all h height text out f c).1.broken)) (counted_never f c.counted)
 
 -- ---- a turn over what is held
 
@@ -257,7 +257,7 @@ module _ (h : Fields) (height : ℕ) (w w' : WalkView) (known known' known'' tex
   image_off_begun f off = let b = off so.bytes so.out so.stands in unset_there h height so.bytes so.out b.given known known' known'' text text' so.begun so.taken b.taken (beginning_all so.put)
 
   pub image_off_unwritten : (f : Fault) → BreaksWalk (sized h height) w known' known'' f → (n : ℕ) → writes_after f n ≡ n
-  image_off_unwritten f off = let b = off so.bytes so.out so.stands in unwritten f (walk_fault f (uncounted_body Truncated f (body_faults h height _ _ _ b.fixes.broken)))
+  image_off_unwritten f off = let b = off so.bytes so.out so.stands in unwritten f (walk_fault f (uncounted_body Truncated f (body_faults b.fixes.broken)))
 
   -- it is whole
   pub image_whole : ReadsWalk (sized h height) w w' known' known'' [] → w'.stage ≡ stage.Done → ImageRead h height (passage known known'' text text')

@@ -29,8 +29,8 @@ segment_long (NewLength n) = omega arith
 segment_long (Move row offset) = omega arith
 segment_long (Comment text) = omega arith
 
-pub shorter : (xs piece more : List ℕ) (fuel : ℕ) → length xs ≤ suc fuel → 1 ≤ length piece → xs ≡ piece ++ more → length more ≤ fuel
-shorter xs piece more fuel le long e =
+pub shorter : {xs : List ℕ} (piece more : List ℕ) (fuel : ℕ) → length xs ≤ suc fuel → 1 ≤ length piece → xs ≡ piece ++ more → length more ≤ fuel
+shorter {xs} piece more fuel le long e =
     let l : length xs ≡ length piece + length more = ap length e ∙ length-append piece more in
     omega (arith, l, le, long)
 
@@ -62,7 +62,7 @@ module _ (h : Fields) (height : ℕ) where
         look None q further = take_piece (front_of h (spot_of height k (n + length (lengths segments))) (count_by is_move segments) (not (is_nil code)) rest all begun.one_move gives.one q) where
           take_piece : Front h (spot_of height k (n + length (lengths segments))) (count_by is_move segments) (not (is_nil code)) rest → Parsed k n tail
           take_piece (code_byte b more small is) =
-              further segments (code ++ b ∷ []) more (shorter rest (stuff b) more fuel le (stuff_long b) is)
+              further segments (code ++ b ∷ []) more (shorter (stuff b) more fuel le (stuff_long b) is)
               (record { legal = begun.legal; one_move = begun.one_move; bytes = All-push (λ x. x < 256) code b begun.bytes small }) gives
               (all_right (λ x. x < 256) (stuff b) more (subst AreBytes is all))
               (e ∙ ap (λ u. flat_map segment_bytes segments ++ (stuffed code ++ u)) is ∙ ap (λ u. flat_map segment_bytes segments ++ u) (sym (stuffed_push code b more)))
@@ -70,7 +70,7 @@ module _ (h : Fields) (height : ℕ) where
               whole (record { segments = segments; code = code; reset = reset }) more begun gives
               (e ∙ ap (λ u. flat_map segment_bytes segments ++ (stuffed code ++ u)) is ∙ sym (cut_at_marker (record { segments = segments; code = code; reset = reset }) more))
           take_piece (segment_at none at) =
-              further (segments ++ at.segment ∷ []) [] at.more (shorter rest (segment_bytes at.segment) at.more fuel le (segment_long at.segment) at.tail_is)
+              further (segments ++ at.segment ∷ []) [] at.more (shorter (segment_bytes at.segment) at.more fuel le (segment_long at.segment) at.tail_is)
               (record { legal = All-push (IsLegal h) segments at.segment begun.legal at.legal; one_move = (let c = count_push is_move segments at.segment in omega (arith, c, at.one_move)); bytes = tt })
               (gives_both height n (at.segment ∷ []) gives at.gives)
               (all_right (λ x. x < 256) (segment_bytes at.segment) at.more (subst AreBytes at.tail_is all))

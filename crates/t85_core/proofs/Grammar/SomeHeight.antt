@@ -21,7 +21,7 @@ use Rattle.t85_core.proofs.Grammar.Fronts.{AreBytes, Front, code_byte, end_marke
 use Rattle.t85_core.proofs.Grammar.Parsed.{Cut, enough, too_few, cut_of, shorter, segment_long}
 use Rattle.t85_core.proofs.Grammar.Heights.{never_suits, given_breaks, stripes_give_none}
 
-module _ (h : Fields) (ok : IsAccepted h) where
+module _ {h : Fields} (ok : IsAccepted h) where
   -- a valid height is at the front, or none is
   data HeightAt (k : ℕ) (rest : List ℕ) : Type 0 where
     there : (n : ℕ) (more : List ℕ) → is_valid_length h k n ≡ true → rest ≡ segment_bytes (NewLength n) ++ more → HeightAt k rest
@@ -90,7 +90,7 @@ module _ (h : Fields) (ok : IsAccepted h) where
         by (Move row offset) e =
             let few : 1 + cond (is_move (Move row offset)) 1 0 ≤ 1 = subst (λ u. 1 + cond (is_move u) 1 0 ≤ 1) e at.one_move in
             absurd (omega (arith, few))
-        by (Comment text) e = next (further at.more (shorter rest (segment_bytes at.segment) at.more fuel le (segment_long at.segment) at.tail_is)
+        by (Comment text) e = next (further at.more (shorter (segment_bytes at.segment) at.more fuel le (segment_long at.segment) at.tail_is)
             (all_right (λ x. x < 256) (segment_bytes at.segment) at.more (subst AreBytes at.tail_is all))) where
               legal : IsLegal h (Comment text)
               legal = subst (IsLegal h) e at.legal
@@ -135,7 +135,7 @@ module _ (h : Fields) (ok : IsAccepted h) where
   no_look k n [] (s ∷ ds) last more c l d m valid no_height no_comment e = true≢false (sym d.0)
   no_look k n (Comment text ∷ cs) [] last more c l d m valid no_height no_comment e = let s : 7 ≡ 5 = second e in omega (arith, s)
   no_look k n (Comment text ∷ cs) (Comment text' ∷ ds) last more c l d m valid no_height no_comment e =
-      let first = one_segment h ok (Comment text) (Comment text') (flat_map segment_bytes cs ++ last) (flat_map segment_bytes ds ++ (segment_bytes (NewLength n) ++ more)) l.0 m.0
+      let first = one_segment ok (Comment text) (Comment text') (flat_map segment_bytes cs ++ last) (flat_map segment_bytes ds ++ (segment_bytes (NewLength n) ++ more)) l.0 m.0
       (sym (append_assoc (segment_bytes (Comment text)) (flat_map segment_bytes cs) last) ∙ e ∙ append_assoc (segment_bytes (Comment text')) (flat_map segment_bytes ds) (segment_bytes (NewLength n) ++ more)) in
       no_look k n cs ds last more c.1 l.1 d.1 m.1 valid no_height no_comment first.1
   no_look k n (Comment text ∷ cs) (s ∷ ds) last more c l d m valid no_height no_comment e = true≢false (sym d.0)
@@ -158,36 +158,34 @@ module _ (h : Fields) (ok : IsAccepted h) where
   header_height body never = (h.yd, inr (refl, never))
 
   -- No height is given where the look after the last stripe ended.
-  pub never_behind : (body : List ℕ) (ss : List Stripe) (rest : List ℕ) (cs : List Segment) (last : List ℕ) → length ss ≡ stripe_count h.yd h.l0 → AreStripes h ss → GiveOnly 0 0 (all_segments ss) → body ≡ flat_map stripe_bytes ss ++ rest →
-      AllByRecursion (λ s. IsTrue (is_comment s)) cs → AllByRecursion (IsLegal h) cs →
+  pub never_behind : {body rest : List ℕ} {n : ℕ} (ss : List Stripe) (cs : List Segment) (last : List ℕ) → length ss ≡ stripe_count h.yd h.l0 → AreStripes h ss → GiveOnly 0 0 (all_segments ss) →
+      body ≡ flat_map stripe_bytes ss ++ rest → AllByRecursion (λ s. IsTrue (is_comment s)) cs → AllByRecursion (IsLegal h) cs →
       ((n : ℕ) (more : List ℕ) → is_valid_length h (length ss) n ≡ true → last ≡ segment_bytes (NewLength n) ++ more → ⊥) →
-      ((text more : List ℕ) → length text < 2 ^ 32 → last ≡ segment_bytes (Comment text) ++ more → ⊥) →
-      rest ≡ flat_map segment_bytes cs ++ last → (n : ℕ) → GivesHeight h body n → ⊥
-  never_behind body ss rest cs last many each gives is c l no_height no_comment e n g = by (cases_lt (length g.stripes) (length ss)) where
+      ((text more : List ℕ) → length text < 2 ^ 32 → last ≡ segment_bytes (Comment text) ++ more → ⊥) → rest ≡ flat_map segment_bytes cs ++ last → GivesHeight h body n → ⊥
+  never_behind {body} {rest} {n} ss cs last many each gives is c l no_height no_comment e g = by (cases_lt (length g.stripes) (length ss)) where
     by : (length g.stripes < length ss) ⊎ (length ss ≤ length g.stripes) → ⊥
     by (inl less) =
-        parts_or_fault h ok 0 (length ss) (never_suits h (length ss)) ss g.stripes rest (flat_map segment_bytes g.segments ++ (segment_bytes (NewLength n) ++ g.rest)) Changed each g.each gives
-        (omega (arith, less)) less (given_breaks h ok body n g) (sym is ∙ g.body_is)
+        parts_or_fault ok 0 (length ss) (never_suits h (length ss)) ss g.stripes rest each g.each gives
+        (omega (arith, less)) less (given_breaks ok body n g) (sym is ∙ g.body_is)
     by (inr more) =
         let same : length ss ≡ length g.stripes = omega (arith, more, many, g.within) in
-        let front = one_front h ok ss g.stripes rest (flat_map segment_bytes g.segments ++ (segment_bytes (NewLength n) ++ g.rest)) each g.each same (sym is ∙ g.body_is) in
+        let front = one_front ok ss g.stripes rest (flat_map segment_bytes g.segments ++ (segment_bytes (NewLength n) ++ g.rest)) each g.each same (sym is ∙ g.body_is) in
         no_look (length ss) n cs g.segments last g.rest c l (g.behind (sym same ∙ many)) g.begun.legal (subst (λ k. is_valid_length h k n ≡ true) (sym same) g.valid) no_height no_comment (sym e ∙ front.1)
 
   -- and the header's is that of the image
-  pub height_of_ended : (body : List ℕ) (ss : List Stripe) (rest : List ℕ) (cs : List Segment) (last : List ℕ) → length ss ≡ stripe_count h.yd h.l0 → AreStripes h ss → GiveOnly 0 0 (all_segments ss) → body ≡ flat_map stripe_bytes ss ++ rest →
-      AllByRecursion (λ s. IsTrue (is_comment s)) cs → AllByRecursion (IsLegal h) cs →
+  pub height_of_ended : {body rest : List ℕ} (ss : List Stripe) (cs : List Segment) (last : List ℕ) → length ss ≡ stripe_count h.yd h.l0 → AreStripes h ss → GiveOnly 0 0 (all_segments ss) →
+      body ≡ flat_map stripe_bytes ss ++ rest → AllByRecursion (λ s. IsTrue (is_comment s)) cs → AllByRecursion (IsLegal h) cs →
       ((n : ℕ) (more : List ℕ) → is_valid_length h (length ss) n ≡ true → last ≡ segment_bytes (NewLength n) ++ more → ⊥) →
-      ((text more : List ℕ) → length text < 2 ^ 32 → last ≡ segment_bytes (Comment text) ++ more → ⊥) →
-      rest ≡ flat_map segment_bytes cs ++ last → IsHeight h body h.yd
-  height_of_ended body ss rest cs last many each gives is c l no_height no_comment e = inr (refl, never_behind body ss rest cs last many each gives is c l no_height no_comment e)
+      ((text more : List ℕ) → length text < 2 ^ 32 → last ≡ segment_bytes (Comment text) ++ more → ⊥) → rest ≡ flat_map segment_bytes cs ++ last → IsHeight h body h.yd
+  height_of_ended ss cs last many each gives is c l no_height no_comment e = inr (refl, λ other. never_behind ss cs last many each gives is c l no_height no_comment e)
 
   -- At height 0, a body that breaks with another error than that of a valid height contains none.
-  pub height_of_broken : (body : List ℕ) (f : Fault) → StripesFault h 0 (stripe_count h.yd h.l0) body f → (f ≡ Changed → ⊥) → IsHeight h body h.yd
-  height_of_broken body f b other = inr (refl, never) where
+  pub height_of_broken : {body : List ℕ} {f : Fault} → StripesFault h 0 (stripe_count h.yd h.l0) body f → (f ≡ Changed → ⊥) → IsHeight h body h.yd
+  height_of_broken {body} b other = inr (refl, never) where
     never : (n : ℕ) → GivesHeight h body n → ⊥
     never n g =
-        let cut = one_broken h ok 0 (length b.stripes + length g.stripes) (never_suits h (length b.stripes + length g.stripes)) b.stripes g.stripes b.tail (flat_map segment_bytes g.segments ++ (segment_bytes (NewLength n) ++ g.rest)) f Changed
-        b.each g.each b.gives (stripes_give_none h ok body n g) (omega arith) (omega arith) b.tail_has (given_breaks h ok body n g) (sym b.bytes_are ∙ g.body_is) in
+        let cut = one_broken ok 0 (length b.stripes + length g.stripes) (never_suits h (length b.stripes + length g.stripes)) b.stripes g.stripes
+        b.each g.each b.gives (stripes_give_none ok body g) (omega arith) (omega arith) b.tail_has (given_breaks ok body n g) (sym b.bytes_are ∙ g.body_is) in
         other cut.broken.fault
 
   module _ (body : List ℕ) (all : AreBytes body) (variable : is_variable h ≡ true) where
@@ -210,7 +208,7 @@ module _ (h : Fields) (ok : IsAccepted h) where
           valid = v;
         }),
       )
-      went (ended cs last c l no_height no_comment e) = (h.yd, height_of_ended body ss rest cs last many each gives is c l no_height no_comment e)
+      went (ended cs last c l no_height no_comment e) = (h.yd, height_of_ended ss cs last many each gives is c l no_height no_comment e)
 
     broken_there : (f : Fault) → StripesFault h 0 (stripe_count h.yd h.l0) body f → (n : ℕ) × IsHeight h body n
     broken_there f b = went (height_at (length b.stripes) b.tail_has.rest rest_bytes) (is_nil_or b.tail_has.code) where
@@ -226,8 +224,8 @@ module _ (h : Fields) (ok : IsAccepted h) where
       -- what is given must stand where the fault is
       same : (n : ℕ) (g : GivesHeight h body n) → (b.tail_has.code ≡ []) × (length b.stripes ≡ length g.stripes) × (b.tail_has.rest ≡ segment_bytes (NewLength n) ++ g.rest)
       same n g =
-          let cut = one_broken h ok 0 (length b.stripes + length g.stripes) (never_suits h (length b.stripes + length g.stripes)) b.stripes g.stripes b.tail (flat_map segment_bytes g.segments ++ (segment_bytes (NewLength n) ++ g.rest)) f Changed
-          b.each g.each b.gives (stripes_give_none h ok body n g) (omega arith) (omega arith) b.tail_has (given_breaks h ok body n g) (sym b.bytes_are ∙ g.body_is) in
+          let cut = one_broken ok 0 (length b.stripes + length g.stripes) (never_suits h (length b.stripes + length g.stripes)) b.stripes g.stripes
+          b.each g.each b.gives (stripes_give_none ok body g) (omega arith) (omega arith) b.tail_has (given_breaks ok body n g) (sym b.bytes_are ∙ g.body_is) in
           (cut.broken.code, ap length cut.stripes, cut.broken.rest)
 
       went : HeightAt (length b.stripes) b.tail_has.rest → (b.tail_has.code ≡ []) ⊎ (b.tail_has.code ≡ [] → ⊥) → (n : ℕ) × IsHeight h body n

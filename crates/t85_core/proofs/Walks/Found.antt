@@ -202,7 +202,7 @@ pub skips_faults : (h : Fields) (from count : ℕ) (given moved : Bool) {old new
 skips_faults h from count given moved {f = f} e =
     let q = e.has_fault in
     uncounted Truncated f (rest_faults h (record { height = 0; entities = from + length q.stripes; heights = cond given 1 0 }) (cond (moved_behind moved q.stripes) 1 0 + count_by is_move q.tail_has.segments) (not (is_nil q.tail_has.code)) q.tail_has.rest
-    (counted_as Truncated f) (q.tail_has.rest_has 0))
+    (q.tail_has.rest_has 0))
 
 -- no height comes after one
 pub sought_whole : (h : Fields) (from count : ℕ) (moved : Bool) (old new : Option (List ℕ)) (entities moves comments part_moves part_comments : ℕ) (o : Option ℕ) → Sought h (search_place from true moved) count (reading old new) (search_end entities moves comments part_moves part_comments) o →

@@ -62,7 +62,7 @@ module _ (in_old in_new : Option (List ℕ)) (reads_old reads_new : ℕ) where
   told_header f e counted = record {
     numbers = tt;
     refused = λ read. refused_header e read;
-    among = uncounted ShortHeader f (header_faults e.given (counted_as ShortHeader f) e.has_fault.1);
+    among = uncounted ShortHeader f (header_faults e.given e.has_fault.1);
     unread = λ is. unread_header in_old in_new f e (let same : f ≡ Read = cc in same);
     reads = counted;
   }
