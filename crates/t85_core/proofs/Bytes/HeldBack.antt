@@ -40,20 +40,20 @@ appends_held (Some a) held more = sym (append_assoc a held more)
 pub grows_with : (a b : Option (List ℕ)) (more : List ℕ) → Appends a b more → known_length a ≤ known_length b
 grows_with None b more p = omega arith
 grows_with (Some a) None more p = absurd p
-grows_with (Some a) (Some b) more p = let e = ap length p ∙ length-append a more in omega (arith, e)
+grows_with (Some a) (Some b) more p = let e = ap length p ∙ length-append a more in omega arith
 
 pub grows_kept : (a b : Option (List ℕ)) → Keeps a b → known_length a ≤ known_length b
 grows_kept None b p = omega arith
 grows_kept (Some a) None p = absurd p
-grows_kept (Some a) (Some b) p = let e = ap length p in omega (arith, e)
+grows_kept (Some a) (Some b) p = let e = ap length p in omega arith
 
 cut_front : (a c held front : List ℕ) → length a ≤ length c → c ++ held ≡ a ++ front → (more : List ℕ) × (c ≡ a ++ more) × (front ≡ more ++ held)
 cut_front [] c held front le e = (c, refl, sym e)
-cut_front (x ∷ a) [] held front le e = absurd (omega (arith, le))
+cut_front (x ∷ a) [] held front le e = absurd (omega arith)
 cut_front (x ∷ a) (y ∷ c) held front le e =
     let same : y ≡ x = cc in
     let rest : c ++ held ≡ a ++ front = cc in
-    let k = cut_front a c held front (omega (arith, le)) rest in
+    let k = cut_front a c held front (omega arith) rest in
     (k.0, ap (λ z. z ∷ c) same ∙ ap (λ z. x ∷ z) k.1, k.2)
 
 -- what was written of a beginning is a beginning

@@ -36,7 +36,7 @@ HeaderOf-append {given} more p =
       yd = long-append given more 8 (omega arith) ∙ p.yd;
       l0 = long-append given more 12 (omega arith) ∙ p.l0;
       mx = byte-append given more 16 (omega arith) ∙ p.mx;
-      order = omega (arith, byte-append given more 18 (omega arith), p.order);
+      order = omega (arith, byte-append given more 18 (omega arith));
       options = byte-append given more 19 (omega arith) ∙ p.options;
       accepted = p.accepted;
     }

@@ -69,11 +69,11 @@ last_end xs y = last_right xs y []
 
 stuffed_last : (code : List ℕ) → last_of (stuffed code) ≡ 255 → ⊥
 unfolding last_of
-stuffed_last [] e = absurd (omega (arith, e))
+stuffed_last [] e = absurd (omega arith)
 stuffed_last (b ∷ []) e = went (stuff_cases b) (sym (append-nil (stuffed (b ∷ []))) ∙ stuffed_cons b [] [])
   where
     went : ((b ≡ 255) × (stuff b ≡ 255 ∷ 0 ∷ [])) ⊎ ((b ≢ 255) × (stuff b ≡ b ∷ [])) → stuffed (b ∷ []) ≡ stuff b ++ [] → ⊥
-    went (inl p) is = let f : last_of (255 ∷ 0 ∷ []) ≡ 255 = subst (λ z. last_of z ≡ 255) (is ∙ append-nil (stuff b) ∙ p.1) e in omega (arith, f)
+    went (inl p) is = let f : last_of (255 ∷ 0 ∷ []) ≡ 255 = subst (λ z. last_of z ≡ 255) (is ∙ append-nil (stuff b) ∙ p.1) e in omega arith
     went (inr p) is = p.0 (subst (λ z. last_of z ≡ 255) (is ∙ append-nil (stuff b) ∙ p.1) e)
 stuffed_last (b ∷ c ∷ code) e = stuffed_last (c ∷ code) (went (stuff_cases c) (sym (append-nil (stuffed (c ∷ code))) ∙ stuffed_cons c code []))
   where

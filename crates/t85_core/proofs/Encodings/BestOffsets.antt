@@ -88,10 +88,10 @@ summed x y = omega arith
 
 module _ (cost : ℕ → ℕ) where
   than_both : (t u v : ℕ) → IsNoWorse cost t u → IsNoWorse cost u v → IsNoWorse cost t v
-  than_both t u v (inl a) (inl b) = inl (omega (arith, a, b))
-  than_both t u v (inl a) (inr (b, _)) = inl (omega (arith, a, b))
-  than_both t u v (inr (a, _)) (inl b) = inl (omega (arith, a, b))
-  than_both t u v (inr (a, c)) (inr (b, d)) = inr (a ∙ b, omega (arith, c, d))
+  than_both t u v (inl a) (inl b) = inl (omega arith)
+  than_both t u v (inl a) (inr (b, _)) = inl (omega arith)
+  than_both t u v (inr (a, _)) (inl b) = inl (omega arith)
+  than_both t u v (inr (a, c)) (inr (b, d)) = inr (a ∙ b, omega (arith, c))
 
   two_shortest : {current : ℕ} {second : Choice} → Chooses cost current 0 second → IsShortest cost (current ∷ 0 ∷ []) second.offset
   two_shortest {current} {second} h = record { among = which h.one; no_worse = (h.than_first, (h.than_second, tt)) } where
@@ -112,7 +112,7 @@ module _ (cost : ℕ → ℕ) where
   -- the same by another measure
   module _ (other : ℕ → ℕ) (same : (t : ℕ) → cost t ≡ other t) where
     as_good : (t u : ℕ) → IsNoWorse cost t u → IsNoWorse other t u
-    as_good t u (inl lt) = inl (let a = same t in let b = same u in omega (arith, lt, a, b))
+    as_good t u (inl lt) = inl (let a = same t in let b = same u in omega arith)
     as_good t u (inr (e, le)) = inr (sym (same t) ∙ e ∙ same u, le)
 
     pub two_best : (current : ℕ) (second : Choice) → Chooses cost current 0 second → IsShortest other (current ∷ 0 ∷ []) second.offset
@@ -168,10 +168,10 @@ module _ {image : Image} {rows : List (List Bool)} {window : Held} {origin : Ori
   many = enough ∙ ap (λ n. min l (height raster - n)) w.stripes.many
 
   within : w.i * l < height raster
-  within = omega (arith, many, some_part)
+  within = omega (arith, many)
 
   on : IsStart image.settings image.width w.at (view_of e learning) window
-  on = w.on_course (let high = m.height_to in omega (arith, within, high))
+  on = w.on_course (let high = m.height_to in omega (arith, within))
 
   pub carried : IsCarriedTo e learning.learned window c
   carried = on.is_held
@@ -206,8 +206,8 @@ module _ {image : Image} {rows : List (List Bool)} {window : Held} {origin : Ori
       let most = stripe_short double short (coding_of (named t) raster) m.proper w.i in
       let high = m.proper.height_to in
       let wide = m.proper.width_to in
-      let up : min l (height raster - w.i * l) * (raster.width + 1) ≤ 2 ^ 32 * (raster.width + 1) = mul-le-mul_right (raster.width + 1) (omega (arith, high)) in
-      omega (arith, most, up, wide)
+      let up : min l (height raster - w.i * l) * (raster.width + 1) ≤ 2 ^ 32 * (raster.width + 1) = mul-le-mul_right (raster.width + 1) (omega arith) in
+      omega arith
 
   length_is : (t : ℕ) → trial_length e c part t ≡ stripe_length s raster w.i t
   unfolding length_with
@@ -216,7 +216,7 @@ module _ {image : Image} {rows : List (List Bool)} {window : Held} {origin : Ori
       ap (λ mode. length_with mode (named_move t c.offset) % 2 ^ 64) w.plan_is.shape_is.mode_is
       ∙ ap (λ move. length_with (mode_of s.options) move % 2 ^ 64) (sym (move_is t))
       ∙ ap (λ n. n % 2 ^ 64) (sym (length_next t) ∙ ap (λ z. length (stripe_bytes z)) (goes t).stripe)
-      ∙ omega (arith, few)
+      ∙ omega arith
 
   lag_is : (t : ℕ) → tried_lag (trial_from e c t) part ≡ counted_lag s raster w.i
   lag_is t =

@@ -46,8 +46,8 @@ module _ {form : Form} (width height' : ℕ) (whole : Raster → List ℕ) (know
 
 -- no byte at all ends within a row
 pub nothing_short : (form : Form) (width : ℕ) → 1 ≤ width → RowFault form width [] pbm.Truncated
-nothing_short Raw width some = (let enough = (div_ceil_times width 8 (omega arith)).0 in omega (arith, enough, some), refl)
-nothing_short Plain width some = record { pixels = []; digits = []; space = []; following = []; bytes_are = refl; few = omega (arith, some); are_pixels = refl; is_space = tt; has_fault = refl }
+nothing_short Raw width some = (let enough = (div_ceil_times width 8 (omega arith)).0 in omega arith, refl)
+nothing_short Plain width some = record { pixels = []; digits = []; space = []; following = []; bytes_are = refl; few = omega arith; are_pixels = refl; is_space = tt; has_fault = refl }
 
 module _ {form : Form} (width height' : ℕ) (whole : Raster → List ℕ) (known known' text text' : Option (List ℕ)) where
   -- some were, and nothing more
@@ -70,7 +70,7 @@ module _ {form : Form} (width height' : ℕ) (whole : Raster → List ℕ) (know
   pub coded_front : 1 ≤ width → ImageCoded (layout_of form width height') whole (passage known known' text text') → ImageFront (layout_of form width height') whole (passage known known' text text')
   coded_front some i = refused_front some (record {
     rows = i.rows;
-    few = (let many = i.many in omega (arith, many));
+    few = (let many = i.many in omega arith);
     read = i.read;
     bytes = whole (raster_of width i.rows);
     begins = λ raster b. record {
@@ -88,7 +88,7 @@ module _ {form : Form} (width height' : ℕ) (whole : Raster → List ℕ) (know
       ImageFront (layout_of form width height') whole (passage known known' text text')
   short_front {fault} i = record {
     rows = i.rows;
-    few = (let less = i.few in omega (arith, less));
+    few = (let less = i.few in omega arith);
     mid = i.mid;
     read = i.read;
     part = i.part.given;

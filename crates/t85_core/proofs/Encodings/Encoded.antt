@@ -89,8 +89,8 @@ module _ (s : Settings) (form : Form) (width height' : ℕ) (in_old in_new out_o
     proper = record {
       width_from = size.width_from;
       width_to = size.width_to;
-      height_from = omega (arith, size.height_from, i.many);
-      height_to = omega (arith, size.height_to, i.many);
+      height_from = omega arith;
+      height_to = omega arith;
       rows = rows_wide form width i.read.given i.rows i.read.are_rows;
     }
 

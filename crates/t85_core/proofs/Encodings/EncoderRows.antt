@@ -13,11 +13,11 @@ use Rattle.t85_core.proofs.Bytes.Elements.{Continues, continues_first, continues
 use Rattle.t85_core.proofs.Theorems.StateLookedUp.{CarriedAt, row_lines, row_carried}
 
 pub get_mapped : {X : Type 0} (f : ℕ → X) (k n i : ℕ) (d : X) → i < n → slice_index_or (map f (numbers_from k n)) i d ≡ f (k + i)
-get_mapped f k zero i d h = absurd (omega (arith, h))
+get_mapped f k zero i d h = absurd (omega arith)
 get_mapped f k (suc n) zero d h = let at : k ≡ k + 0 = omega arith in ap f at
 get_mapped f k (suc n) (suc i) d h =
     let at : (k + 1) + i ≡ k + suc i = omega arith in
-    get_mapped f (k + 1) n i d (omega (arith, h)) ∙ ap f at
+    get_mapped f (k + 1) n i d (omega arith) ∙ ap f at
 
 -- ---- offsets
 
@@ -57,7 +57,7 @@ module _ (s : Settings) (raster : Raster) where
 
   -- the offset of a stripe
   pub offset_after : (choice : Option ℕ) (rows : List (List Bool)) (b : RowStart) → 0 < length rows → (after_rows c.mode (option_map (λ t. (0, t)) choice) 0 b rows).offset ≡ unwrap_or choice b.offset
-  offset_after choice [] b h = absurd (omega (arith, h))
+  offset_after choice [] b h = absurd (omega arith)
   offset_after choice (row ∷ rows) b h =
       rows_later choice rows (0 + 1) (after_row c.mode (option_map (λ t. (0, t)) choice) 0 b row (next_flag c.mode b row)) (omega arith)
       ∙ moved_first choice b.offset
@@ -92,13 +92,13 @@ module _ (s : Settings) (raster : Raster) where
         lines = refl;
       }
   rows_down {i} {y} {move} {b} move_is (row ∷ rows) r few within y_is h rows_at =
-      let lt : r < s.stripe_rows = omega (arith, few) in
+      let lt : r < s.stripe_rows = omega arith in
       let row_is = continues_first (white_row raster.width) raster.rows y row rows rows_at in
       let here : lines_with b row ≡ lines_of d y = row_lines c i r y lt y_is b h row (slice_index_or c.flags y false) row_is refl move move_is ∙ same_lines y in
-      let flag_is : slice_index_or c.flags y false ≡ next_flag c.mode b row = flag_is_typical y (omega (arith, within)) ∙ ap (may_be_typical c.mode) (sym here) in
-      let y_next : y + 1 ≡ i * s.stripe_rows + (r + 1) = omega (arith, y_is) in
+      let flag_is : slice_index_or c.flags y false ≡ next_flag c.mode b row = flag_is_typical y (omega arith) ∙ ap (may_be_typical c.mode) (sym here) in
+      let y_next : y + 1 ≡ i * s.stripe_rows + (r + 1) = omega arith in
       let rest : RowsDown i (r + 1) (y + 1) move (after_row c.mode move r b row (next_flag c.mode b row)) rows =
-      rows_down {y = y + 1} move_is rows (r + 1) (omega (arith, few)) (omega (arith, within)) y_next
+      rows_down {y = y + 1} move_is rows (r + 1) (omega arith) (omega arith) y_next
       (row_carried c i r y lt y_is b h row (next_flag c.mode b row) row_is flag_is move move_is)
       (continues_rest (white_row raster.width) raster.rows y row rows rows_at) in
       let rs : (r + 1) + length rows ≡ r + suc (length rows) = omega arith in

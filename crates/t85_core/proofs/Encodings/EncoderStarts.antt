@@ -40,7 +40,7 @@ next_carry {c} {i} {reset = true} reset_is long k =
 next_carry {c} {i} {reset = false} reset_is long k =
     let y : ℕ = suc i * c.stripe_rows in
     let fresh_before : fresh_stripe c i ≡ fresh_stripe c (suc i) = sym (ap (λ b. if b then suc i else fresh_stripe c i) reset_is) in
-    let many : c.stripe_rows ≡ min c.stripe_rows (height c.raster - i * c.stripe_rows) = omega (arith, long) in
+    let many : c.stripe_rows ≡ min c.stripe_rows (height c.raster - i * c.stripe_rows) = omega arith in
     record {
       learned =
           ap (λ s. s.learned) k.state
@@ -98,8 +98,8 @@ pub record CourseGoes (s : Settings) (raster : Raster) (i : ℕ) (at : EncoderSt
 pub stripe_within : (n l i : ℕ) → 1 ≤ l → i < stripe_count n l → i * l < n
 stripe_within n l i some inside =
     let times = div_ceil_times n l some in
-    let up : (i + 1) * l ≤ stripe_count n l * l = mul-le-mul_right l (omega (arith, inside)) in
-    omega (arith, times.1, up)
+    let up : (i + 1) * l ≤ stripe_count n l * l = mul-le-mul_right l (omega arith) in
+    omega arith
 
 -- the offset that is named for stripe i, or that the rows of the stripe before choose for it
 abbrev choice_before : Settings → Raster → ℕ → Option ℕ
@@ -137,18 +137,18 @@ module _ {s : Settings} {raster : Raster} {i : ℕ} {at : EncoderStart} (rows : 
   down : RowsDown s raster i 0 (i * s.stripe_rows) (next_move s raster.width at) (first_row_start at.carry) rows
   down =
       let y : i * s.stripe_rows ≡ i * s.stripe_rows + 0 = omega arith in
-      rows_down s raster move_is rows 0 (omega (arith, many)) (omega (arith, many, within)) y
+      rows_down s raster move_is rows 0 (omega arith) (omega (arith, within)) y
       (stripe_begins (coding_of s raster) i at.carry h.carry) rows_at
 
   state_is : (row_start_in s raster.width at rows).state ≡ after (begun (learned_at (coding_of s raster) i)) (events_of (coding_of s raster) i)
   state_is =
-      let all : 0 + length rows ≡ min s.stripe_rows (height raster - i * s.stripe_rows) = omega (arith, many) in
+      let all : 0 + length rows ≡ min s.stripe_rows (height raster - i * s.stripe_rows) = omega arith in
       down.carried.state ∙ ap (λ n. after (begun (learned_at (coding_of s raster) i)) (flat_map (events_of_row (coding_of s raster)) (numbers_from (i * s.stripe_rows) n))) all
 
   offset_is : (row_start_in s raster.width at rows).offset ≡ unwrap_or (choice_before s raster i) (offset_to s raster i)
   offset_is =
       ap (λ m. (after_rows (cut s raster).mode m 0 (first_row_start at.carry) rows).offset) (h.move ∙ move_chosen s raster i)
-      ∙ offset_after s raster (choice_before s raster i) rows (first_row_start at.carry) (omega (arith, many, within, some))
+      ∙ offset_after s raster (choice_before s raster i) rows (first_row_start at.carry) (omega (arith, within))
       ∙ ap (unwrap_or (choice_before s raster i)) h.offset
 
   stripe_is : next_stripe s raster.width at rows ≡ coded_stripe (coding_of s raster) i
@@ -176,8 +176,8 @@ module _ {s : Settings} {raster : Raster} {i : ℕ} {at : EncoderStart} (rows : 
 
     carried : CarriedAt (coding_of s raster) i s.stripe_rows (suc i * s.stripe_rows) (row_start_in s raster.width at rows)
     carried =
-        let r_is : 0 + length rows ≡ s.stripe_rows = omega (arith, many, long) in
-        let y_is : i * s.stripe_rows + length rows ≡ suc i * s.stripe_rows = omega (arith, r_is) in
+        let r_is : 0 + length rows ≡ s.stripe_rows = omega arith in
+        let y_is : i * s.stripe_rows + length rows ≡ suc i * s.stripe_rows = omega arith in
         subst (λ z. CarriedAt (coding_of s raster) i s.stripe_rows z (row_start_in s raster.width at rows)) y_is
         (subst (λ z. CarriedAt (coding_of s raster) i z (i * s.stripe_rows + length rows) (row_start_in s raster.width at rows)) r_is down.carried)
 
@@ -189,7 +189,7 @@ module _ {s : Settings} {raster : Raster} {i : ℕ} {at : EncoderStart} (rows : 
     next = λ more.
         let on : suc i ≡ i + 1 = omega arith in
         let long : (i + 1) * s.stripe_rows < height raster = stripe_within (height raster) s.stripe_rows (i + 1) some more in
-        subst (λ z. CourseAt s raster z (next_encoder_start s raster.width at rows)) on (next_is (omega (arith, long)));
+        subst (λ z. CourseAt s raster z (next_encoder_start s raster.width at rows)) on (next_is (omega arith));
   }
 
 -- a stripe more of the stream

@@ -29,7 +29,7 @@ use Rattle.t85_core.proofs.Theorems.StreamLength.{many, row_short, ending_short}
 pub beginning_few : {old new : Option (List ℕ)} {text : List ℕ} (most : ℕ) → length text ≤ most → AppendsBeginning old new text → AppendsAtMost most old new
 beginning_few {text} most few begins =
     let parts : length text ≡ length begins.front + length begins.rest = ap length begins.text_is ∙ length-append begins.front begins.rest in
-    record { bytes = begins.front; appended = begins.appends; few = omega (arith, few, parts) }
+    record { bytes = begins.front; appended = begins.appends; few = omega arith }
 
 -- what was written, or a beginning of it
 pub written_few : {E : Type 0} (most : ℕ) (old new : Option (List ℕ)) (text : List ℕ) (answer : Result (Unit {0}) E) → length text ≤ most →
@@ -42,7 +42,7 @@ kept_few {old} {mid} new a kept = record { bytes = a.bytes; appended = Appends-k
 
 -- of what was appended and is held back in part, that part which was written
 pub handed_few : (most : ℕ) (old new : Option (List ℕ)) (held : List ℕ) → known_length old ≤ known_length new → AppendsAtMost most old (append_known new held) → AppendsAtMost most old new
-handed_few most old new held grows a = (let few = a.few in beginning_few most (omega (arith, few)) (beginning_handed new held grows (beginning_all a.appended)))
+handed_few most old new held grows a = (let few = a.few in beginning_few most (omega arith) (beginning_handed new held grows (beginning_all a.appended)))
 
 pub joined_few : {others between most : ℕ} {old mid new : Option (List ℕ)} → AppendsBeside between most old mid → AppendsBeside others between mid new → AppendsBeside others most old new
 joined_few {old} {mid} {new} a b =
@@ -51,11 +51,11 @@ joined_few {old} {mid} {new} a b =
     record {
       bytes = a.bytes ++ b.bytes;
       appended = Appends-more old mid new a.bytes b.bytes a.appended b.appended;
-      few = omega (arith, first, second, length-append a.bytes b.bytes);
+      few = omega (arith, length-append a.bytes b.bytes);
     }
 
 pub eased_few : {others most : ℕ} {old new : Option (List ℕ)} (others' most' : ℕ) → most + others' ≤ most' + others → AppendsBeside others most old new → AppendsBeside others' most' old new
-eased_few others' most' within a = (let few = a.few in record { bytes = a.bytes; appended = a.appended; few = omega (arith, few, within) })
+eased_few others' most' within a = (let few = a.few in record { bytes = a.bytes; appended = a.appended; few = omega arith })
 
 -- ---- a row, and the end of a code
 
@@ -65,7 +65,7 @@ events_few {n} shape kept lines wide =
     let flag = may_be_typical mode lines in
     let pixels : length (pixel_events mode lines kept.offset) ≡ n = simp length-map (many 0 (length lines.row)) ∙ wide in
     let few = row_short mode.typical flag (pseudo_event mode kept.previous_typical flag) (pixel_events mode lines kept.offset) n pixels in
-    omega (arith, few)
+    omega arith
 
 module _ (laws : WritingLaws) (e : Encoder) (p : Place) (learned : List Estimate) (pushed : List ℕ) (at : EncoderIsAt e p pushed) (old new : Option (List ℕ)) where
   pub row_put_few : {kept' : Kept} {n : ℕ} (shape : Shape) (kept : Kept) (lines : Lines) (e' : Encoder) (learned' : List Estimate) → length lines.row ≡ n →
@@ -74,7 +74,7 @@ module _ (laws : WritingLaws) (e : Encoder) (p : Place) (learned : List Estimate
   row_put_few shape kept lines e' learned' wide put =
       let events = events_few shape kept lines wide in
       let few = laws.few_pushed e e' (record { place = p; learned = learned }) (canonical_events shape kept lines) pushed put.more at put.codes in
-      record { bytes = put.more; appended = put.appended; few = omega (arith, events, few) }
+      record { bytes = put.more; appended = put.appended; few = omega arith }
 
   pub row_cut_few : {n : ℕ} (shape : Shape) (kept : Kept) (lines : Lines) → length lines.row ≡ n → RowCut (record { place = p; learned = learned }) pushed (canonical_events shape kept lines) old new →
       AppendsAtMost (2 * waiting_bytes e + 4 * (n + 1)) old new
@@ -82,20 +82,20 @@ module _ (laws : WritingLaws) (e : Encoder) (p : Place) (learned : List Estimate
       let all = events_few shape kept lines wide in
       let parts : length (canonical_events shape kept lines) ≡ length cut.events + length cut.rest = ap length cut.all_are ∙ length-append cut.events cut.rest in
       let few = laws.few_in_front e (record { place = p; learned = learned }) cut.events pushed ((pushed ++ cut.done) ++ cut.left) at cut.begins in
-      record { bytes = cut.done; appended = cut.appended; few = omega (arith, all, parts, few, length-append (pushed ++ cut.done) cut.left, length-append pushed cut.done) }
+      record { bytes = cut.done; appended = cut.appended; few = omega (arith, length-append (pushed ++ cut.done) cut.left, length-append pushed cut.done) }
 
   pub code_ended_few : {reset : Bool} {answer : Result (Unit {0}) Fault} → CodeEnded p reset pushed old new answer → AppendsAtMost (2 * waiting_bytes e + 2) old new
   code_ended_few {reset} {answer} ended =
       let few = laws.few_to_end e (record { place = p; learned = learned }) [] pushed ended.code at ended.is in
       let parts : length pushed + length ended.more ≡ length (stuffed ended.code) + length (marker_bytes reset) = sym (length-append pushed ended.more) ∙ ap length ended.all ∙ length-append (stuffed ended.code) (marker_bytes reset) in
-      written_few (2 * waiting_bytes e + 2) old new ended.more answer (omega (arith, few, parts)) ended.ok ended.cut
+      written_few (2 * waiting_bytes e + 2) old new ended.more answer (omega arith) ended.ok ended.cut
 
 -- a move, a row and the end of its stripe
 pub row_few : {waits was n n' : ℕ} {b c : Option (List ℕ)} (waits' : ℕ) (a d : Option (List ℕ)) → was ≡ waits → n' ≡ n → AppendsAtMost 8 a b → AppendsBeside (2 * waits') (2 * was + 4 * (n' + 1)) b c →
     AppendsAtMost (2 * waits' + 2) c d → AppendsAtMost (2 * waits + 4 * (n + 1) + 10) a d
 row_few {waits} {was} {n} {n'} waits' a d same width first row last =
     let front = joined_few
-    (eased_few (2 * was + 4 * (n' + 1) + 2) (2 * waits + 4 * (n + 1) + 10) (omega (arith, same, width)) first)
+    (eased_few (2 * was + 4 * (n' + 1) + 2) (2 * waits + 4 * (n + 1) + 10) (omega arith) first)
     (eased_few (2 * waits' + 2) (2 * was + 4 * (n' + 1) + 2) (omega arith) row) in
     joined_few front last
 
@@ -103,7 +103,7 @@ row_few {waits} {was} {n} {n'} waits' a d same width first row last =
 pub row_begun_few : {waits was n n' : ℕ} (a b c : Option (List ℕ)) → was ≡ waits → n' ≡ n → AppendsAtMost 8 a b → AppendsAtMost (2 * was + 4 * (n' + 1)) b c → AppendsAtMost (2 * waits + 4 * (n + 1) + 10) a c
 row_begun_few {waits} {was} {n} {n'} a b c same width first row =
     joined_few
-    (eased_few (2 * was + 4 * (n' + 1) + 2) (2 * waits + 4 * (n + 1) + 10) (omega (arith, same, width)) first)
+    (eased_few (2 * was + 4 * (n' + 1) + 2) (2 * waits + 4 * (n + 1) + 10) (omega arith) first)
     (eased_few 0 (2 * was + 4 * (n' + 1) + 2) (omega arith) row)
 
 -- ---- the end of a stream

@@ -31,9 +31,9 @@ few_stripes n l i some within = went (less_or_not (stripe_count n l) i) where
   went (inr h) = h
   went (inl h) =
       let low = (div_ceil_times n l some).0 in
-      let up : (stripe_count n l + 1) * l ≤ i * l = Rattle.std.proofs.Math.Nat.mul-le-mul_right l (omega (arith, h)) in
+      let up : (stripe_count n l + 1) * l ≤ i * l = Rattle.std.proofs.Math.Nat.mul-le-mul_right l (omega arith) in
       let sum : (stripe_count n l + 1) * l ≡ stripe_count n l * l + 1 * l = Rattle.std.proofs.Math.Nat.add-mul (stripe_count n l) 1 l in
-      absurd (omega (arith, low, up, sum, within, some))
+      absurd (omega arith)
 
 module _ (image : Image) (rows : List (List Bool)) (v : RowView) (window : Held) (origin : Origin) (text : Option (List ℕ)) where
   -- no stripe runs
@@ -43,14 +43,14 @@ module _ (image : Image) (rows : List (List Bool)) (v : RowView) (window : Held)
     sent = w.sent;
     begun = λ raster b. record {
       holds = record { rest = []; bytes_are = (stands_here w.stripes).front_is raster b ∙ sym (ap (jbg_up_to image.settings raster) whole) ∙ sym (append-nil (jbg_up_to image.settings raster (length rows / image.settings.stripe_rows))) };
-      begins = front_begins image.settings raster w.i (few_stripes (height raster) image.settings.stripe_rows w.i w.plan_is.some (let long = come_long b in omega (arith, long, w.stripes.many)))
+      begins = front_begins image.settings raster w.i (few_stripes (height raster) image.settings.stripe_rows w.i w.plan_is.some (let long = come_long b in omega arith))
           (record { rest = []; bytes_are = sym ((stands_here w.stripes).front_is raster b) ∙ sym (append-nil w.front) });
     };
   } where
     whole : length rows / image.settings.stripe_rows ≡ w.i
     whole =
-        let sum : length rows ≡ w.i * image.settings.stripe_rows + 0 = omega (arith, w.stripes.many) in
-        ap (λ n. n / image.settings.stripe_rows) sum ∙ stripe_at image.settings.stripe_rows w.i 0 (omega (arith, w.plan_is.some))
+        let sum : length rows ≡ w.i * image.settings.stripe_rows + 0 = omega arith in
+        ap (λ n. n / image.settings.stripe_rows) sum ∙ stripe_at image.settings.stripe_rows w.i 0 (omega arith)
 
   -- one runs
   front_runs : WritingLaws → 0 < v.in_stripe → v.in_stripe < v.plan.stripe_rows → Runs image rows v window origin text → StreamFront image rows origin text
@@ -63,7 +63,7 @@ module _ (image : Image) (rows : List (List Bool)) (v : RowView) (window : Held)
         bytes_are = ap (λ z. z ++ (move_bytes image.settings image.width r.at ++ r.pushed)) ((stands_here r.stripes).front_is raster (first raster b) ∙ sym (ap (jbg_up_to image.settings raster) whole));
       };
       begins = part_begins r.plan_is.some r.stripes r.part (move_bytes image.settings image.width r.at ++ r.pushed) r.few begins (all raster b)
-          (let long = come_long (all raster b) in omega (arith, long, length-append r.whole r.part, r.stripes.many, some, r.in_stripe));
+          (let long = come_long (all raster b) in omega (arith, length-append r.whole r.part));
     };
   } where
     all : (raster : Raster) → MayCome image rows raster → MayCome image (r.whole ++ r.part) raster
@@ -74,8 +74,8 @@ module _ (image : Image) (rows : List (List Bool)) (v : RowView) (window : Held)
 
     whole : length rows / image.settings.stripe_rows ≡ r.i
     whole =
-        let sum : length rows ≡ r.i * image.settings.stripe_rows + length r.part = ap length r.all ∙ (omega (arith, length-append r.whole r.part, r.stripes.many)) in
-        ap (λ n. n / image.settings.stripe_rows) sum ∙ stripe_at image.settings.stripe_rows r.i (length r.part) (omega (arith, fewer, r.in_stripe, r.plan_is.stripe_rows_is))
+        let sum : length rows ≡ r.i * image.settings.stripe_rows + length r.part = ap length r.all ∙ (omega (arith, length-append r.whole r.part)) in
+        ap (λ n. n / image.settings.stripe_rows) sum ∙ stripe_at image.settings.stripe_rows r.i (length r.part) (omega arith)
 
     begins : (later : List (List Bool)) → IsBeginning (move_bytes image.settings image.width r.at ++ r.pushed) (stripe_bytes (next_stripe image.settings image.width r.at (r.part ++ later)))
     begins later =
@@ -96,7 +96,7 @@ module _ (image : Image) (rows : List (List Bool)) (v : RowView) (window : Held)
 -- ---- an image of a height that is known
 
 pub may_come : {width height' : ℕ} {rows : List (List Bool)} {raster : Raster} (s : Settings) → BeginsWith width height' rows raster → MayCome (image_of s width height') rows raster
-may_come s b = record { proper = b.proper; width_is = b.width_is; height_to = omega (arith, b.height_is); height_is = λ _. b.height_is; first = b.first }
+may_come s b = record { proper = b.proper; width_is = b.width_is; height_to = omega arith; height_is = λ _. b.height_is; first = b.first }
 
 module _ {form : Form} {width : ℕ} {rows : List (List Bool)} {known mid : Option (List ℕ)} (s : Settings) (height' : ℕ) (known' text text' : Option (List ℕ)) (read : ReadsRows form width known mid rows) where
   -- no whole row more came
@@ -121,7 +121,7 @@ module _ {form : Form} {width : ℕ} {rows : List (List Bool)} {known mid : Opti
   pub end_refused : length rows ≡ height' → SendsBeginning (here text) text' (jbg s (raster_of width rows)) → ImageRefused (layout_of form width height') (λ raster. jbg s raster) (passage known mid text text')
   end_refused many cut = record {
     rows = rows;
-    few = omega (arith, many);
+    few = omega arith;
     read = read;
     bytes = cut.front;
     begins = λ raster b. subst (λ z. IsBeginning cut.front (jbg s z)) (sym (same raster b)) (record { rest = cut.rest; bytes_are = cut.text_is });
@@ -130,7 +130,7 @@ module _ {form : Form} {width : ℕ} {rows : List (List Bool)} {known mid : Opti
     -- no other image has all these rows
     same : (raster : Raster) → BeginsWith width height' rows raster → raster ≡ raster_of width rows
     same raster b =
-        let long : length raster.rows ≡ length rows = omega (arith, b.height_is, many) in
+        let long : length raster.rows ≡ length rows = omega arith in
         let rows_are : raster.rows ≡ rows = sym (take-length raster.rows) ∙ ap (λ n. take n raster.rows) long ∙ b.first in
         ap (λ w. raster_of w raster.rows) b.width_is ∙ ap (raster_of width) rows_are
 

@@ -129,7 +129,7 @@ module _ (s : Settings) (in_old in_new : Option (List ℕ)) (reads_old reads_new
       unread = λ e. absurd (let bot : ⊥ = cc in bot);
       cut = λ e. absurd (let bot : ⊥ = cc in bot);
       among = λ n _ _. absurd (n refl);
-      reads = omega (arith, counted);
+      reads = omega arith;
       writes = omega arith;
     }
 
@@ -145,6 +145,6 @@ module _ (s : Settings) (in_old in_new : Option (List ℕ)) (reads_old reads_new
       unread = λ e. absurd (let bot : ⊥ = cc in bot);
       cut = λ e. absurd (let bot : ⊥ = cc in bot);
       among = λ _ n _. absurd (n refl);
-      reads = omega (arith, counted);
+      reads = omega arith;
       writes = omega arith;
     }

@@ -43,7 +43,7 @@ module _ {S : Type 0} (view : S → SinkView) (failed : S → ℕ) (from to : S)
   refused_stays r =
       let front = (took_inked view from r.last r.done r.taken).0 in
       let last = r.then.0 in
-      record { same_buffer = last.same_buffer ∙ front.same_buffer; same_writer = last.same_writer ∙ front.same_writer; grows = (let a = front.grows in let b = last.grows in omega (arith, a, b)) }
+      record { same_buffer = last.same_buffer ∙ front.same_buffer; same_writer = last.same_writer ∙ front.same_writer; grows = (let a = front.grows in let b = last.grows in omega arith) }
 
   -- it is the same target
   pub row_stays : {kept' : Kept} {answer : Result (Unit {0}) CoderFault} (shape : Shape) (kept : Kept) (s : State) (pushed : List ℕ) (lines : Lines) (e : Encoder) (learned : List Estimate) →

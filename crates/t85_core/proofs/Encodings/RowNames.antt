@@ -19,11 +19,11 @@ name_at t (suc i) [] = name_at t i []
 name_at t (suc i) (name ∷ names) = name_at t i names
 
 pub names_before : (t i : ℕ) (names : List (Option ℕ)) → SameNames i names (with_name t i names)
-names_before t zero names j lt = absurd (omega (arith, lt))
+names_before t zero names j lt = absurd (omega arith)
 names_before t (suc i) [] zero lt = refl
-names_before t (suc i) [] (suc j) lt = get_or_past [] (suc j) None (omega arith) ∙ sym (get_or_past [] j None (omega arith)) ∙ names_before t i [] j (omega (arith, lt))
+names_before t (suc i) [] (suc j) lt = get_or_past [] (suc j) None (omega arith) ∙ sym (get_or_past [] j None (omega arith)) ∙ names_before t i [] j (omega arith)
 names_before t (suc i) (name ∷ names) zero lt = refl
-names_before t (suc i) (name ∷ names) (suc j) lt = names_before t i names j (omega (arith, lt))
+names_before t (suc i) (name ∷ names) (suc j) lt = names_before t i names j (omega arith)
 
 length-with_name : (t i : ℕ) (names : List (Option ℕ)) → length (with_name t i names) ≡ suc i
 length-with_name t zero names = refl
@@ -52,8 +52,8 @@ plan_named names is = record {
 -- where whole stripes came
 pub whole_rows : {n : ℕ} (l i : ℕ) → 1 ≤ l → n ≡ i * l → (n / l ≡ i) × (n % l ≡ 0)
 whole_rows {n} l i some is =
-    let sum : n ≡ i * l + 0 = omega (arith, is) in
-    (ap (λ z. z / l) sum ∙ stripe_at l i 0 (omega (arith, some)), ap (λ z. z % l) is ∙ Rattle.std.proofs.Math.Nat.mul-mod_left i l)
+    let sum : n ≡ i * l + 0 = omega arith in
+    (ap (λ z. z / l) sum ∙ stripe_at l i 0 (omega arith), ap (λ z. z % l) is ∙ Rattle.std.proofs.Math.Nat.mul-mod_left i l)
 
 -- the stripes before stay
 pub offset_named : (t : ℕ) (image : Image) (rows : List (List Bool)) (v : RowView) (window : Held) (origin : Origin) (text : Option (List ℕ)) → v.in_stripe ≡ 0 → Stands image rows v window origin text
@@ -72,7 +72,7 @@ offset_named t image rows v window origin text none so =
         stripes = stands_anew w.stripes names (names_before t w.i image.settings.named);
         in_stripe = w.in_stripe;
         codes = w.codes;
-        names_to = (let many = length-with_name t w.i image.settings.named in omega (arith, many));
+        names_to = (let many = length-with_name t w.i image.settings.named in omega arith);
         on_course = λ within.
             let on = w.on_course within in
             record {

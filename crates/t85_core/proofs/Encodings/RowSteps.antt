@@ -58,7 +58,7 @@ moved_before (Some move) r offset h = ap (λ b. if b then move.1 else offset) (s
 pub events_more : (counter width old new : ℕ) → old ≤ counter * (width + 1) → new ≤ old + width + 1 → new ≤ (counter + 1) * (width + 1)
 events_more counter width old new h more =
     let sum : (counter + 1) * (width + 1) ≡ counter * (width + 1) + 1 * (width + 1) = Rattle.std.proofs.Math.Nat.add-mul counter 1 (width + 1) in
-    omega (arith, h, more, sum)
+    omega (arith, sum)
 
 none_counted : (width : ℕ) (counted : Option ℕ) (tally : Tally) → ((width' current : ℕ) → CountsLines tally width' current []) → IsCountedTo width counted tally []
 none_counted width None tally h = h width
@@ -69,7 +69,7 @@ none_counted width (Some current) tally h = h width current
 module _ {image : Image} {rows : List (List Bool)} {v : RowView} {before : Held} {origin : Origin} {mid : Option (List ℕ)} (text' : Option (List ℕ)) (w : Waits image rows v before origin mid) where
   -- where rows may still come
   waits_within : v.rows < v.plan.limit → w.i * image.settings.stripe_rows < image.limit
-  waits_within left = omega (arith, left, w.plan_is.limit_is, w.come.many, w.stripes.many)
+  waits_within left = omega arith
 
   pub stripe_begun : v.rows < v.plan.limit → (kept : Kept) (tally : Tally) (is_counted : Bool)
       → ((s' : Settings) (width' : ℕ) (at : EncoderStart) → v.kept.offset ≡ at.carry.offset → v.named ≡ named_for s' at.stripe → IsTallied s' width' at v.tally → MoveMade (next_move s' width' at) at.carry.offset mid text' v.kept kept)
@@ -106,7 +106,7 @@ module _ {image : Image} {rows : List (List Bool)} {v : RowView} {before : Held}
     names_to = w.names_to;
     none_named = refl;
     counts = λ more some. counted
-        (let sum : (w.i + 1) * image.settings.stripe_rows ≡ w.i * image.settings.stripe_rows + 1 * image.settings.stripe_rows = Rattle.std.proofs.Math.Nat.add-mul w.i 1 image.settings.stripe_rows in omega (arith, w.plan_is.limit_is, w.come.many, w.stripes.many, w.plan_is.stripe_rows_is, more, sum))
+        (let sum : (w.i + 1) * image.settings.stripe_rows ≡ w.i * image.settings.stripe_rows + 1 * image.settings.stripe_rows = Rattle.std.proofs.Math.Nat.add-mul w.i 1 image.settings.stripe_rows in omega (arith, sum))
         (w.plan_is.candidates_are ∙ (grind (arith, nat_tests, some)));
     sent = Sends-more (move_bytes image.settings image.width w.at ++ []) w.sent (subst (Appends mid text') (sym (append-nil (move_bytes image.settings image.width w.at))) made.appended);
   } where
@@ -129,7 +129,7 @@ module _ {image : Image} {rows : List (List Bool)} {v : RowView} {before : Held}
           bytes_are = ap (λ z. z ++ (stuffed (code_of (row_start_in image.settings image.width w.at later).state.place) ++ marker_bytes image.settings.reset)) p.text_is ∙ append_assoc p.front p.rest (stuffed (code_of (row_start_in image.settings image.width w.at later).state.place) ++ marker_bytes image.settings.reset);
         })
         (subst (λ z. MayCome image z raster) (sym (append-nil rows)) (come_first rows (row ∷ []) b))
-        (let long = come_long b in omega (arith, long, length-append rows (row ∷ []), w.stripes.many));
+        (let long = come_long b in omega (arith, length-append rows (row ∷ [])));
   } where
     on : IsStart image.settings image.width w.at v before
     on = w.on_course (waits_within left)
@@ -197,8 +197,8 @@ module _ {image : Image} {rows : List (List Bool)} {v : RowView} {before : Held}
   row_coded {kept} left fewer few_rows learned tally e rows_is in_stripe_is put counts two_line most = record {
     plan_is = r.plan_is;
     come = record {
-      many = (let sum = length-append rows (row ∷ []) in omega (arith, rows_is, r.come.many, sum));
-      few = (let sum = length-append rows (row ∷ []) in omega (arith, left, r.come.many, r.plan_is.limit_is, sum));
+      many = (let sum = length-append rows (row ∷ []) in omega (arith, sum));
+      few = (let sum = length-append rows (row ∷ []) in omega (arith, sum));
       wide = all_more rows row r.come.wide (lines_are.row_wide ∙ wide ∙ r.plan_is.width_is);
     };
     i = r.i;
@@ -208,8 +208,8 @@ module _ {image : Image} {rows : List (List Bool)} {v : RowView} {before : Held}
     at = r.at;
     front = r.front;
     stripes = r.stripes;
-    in_stripe = (let sum = length-append r.part (row ∷ []) in omega (arith, in_stripe_is, r.in_stripe, sum));
-    few = (let sum = length-append r.part (row ∷ []) in omega (arith, fewer, r.in_stripe, r.plan_is.stripe_rows_is, sum));
+    in_stripe = (let sum = length-append r.part (row ∷ []) in omega (arith, sum));
+    few = (let sum = length-append r.part (row ∷ []) in omega (arith, sum));
     pushed = r.pushed ++ put.more;
     running = record {
       codes = subst (λ n. EncoderIsAt e n.state.place (r.pushed ++ put.more)) (sym next_is) (subst (λ n. EncoderIsAt e n.place (r.pushed ++ put.more)) state_is put.codes);
@@ -225,7 +225,7 @@ module _ {image : Image} {rows : List (List Bool)} {v : RowView} {before : Held}
       most = most ∙ r.running.most;
       tallied = subst (λ lines. IsCountedTo image.width (counted_of (record v { kept = kept })) tally lines) (sym (lines_more mode move 0 (first_row_start c) r.part row))
           (subst (λ w. IsCountedTo w (counted_of (record v { kept = kept })) tally (lines_down c.above c.second r.part ++ lines_with b row ∷ [])) r.plan_is.width_is
-          (counts (lines_down c.above c.second r.part) (lines_with b row) (let many_lines = length-lines_down c.above c.second r.part in omega (arith, many_lines, fewer, few_rows, r.in_stripe)) lines_are
+          (counts (lines_down c.above c.second r.part) (lines_with b row) (let many_lines = length-lines_down c.above c.second r.part in omega arith) lines_are
           (subst (λ w. IsCountedTo w (counted_of (record v { kept = kept })) v.tally (lines_down c.above c.second r.part)) (sym r.plan_is.width_is)
           (subst (λ o. IsCountedTo image.width o v.tally (lines_down c.above c.second r.part)) (sym (counted_same kept put.offset_is)) r.running.tallied))));
     };
@@ -244,13 +244,13 @@ module _ {image : Image} {rows : List (List Bool)} {v : RowView} {before : Held}
     begins = λ raster m. subst (λ z. IsBeginning z (jbg image.settings raster)) (sym bytes_are)
         (part_begins r.plan_is.some r.stripes (r.part ++ row ∷ []) (move_bytes image.settings image.width r.at ++ (r.pushed ++ cut.done)) few begins
         (subst (λ z. MayCome image z raster) all m)
-        (let long = come_long (subst (λ z. MayCome image z raster) all m) in omega (arith, long, length-append r.whole (r.part ++ row ∷ []), length-append r.part (row ∷ []), r.stripes.many)));
+        (let long = come_long (subst (λ z. MayCome image z raster) all m) in omega (arith, length-append r.whole (r.part ++ row ∷ []), length-append r.part (row ∷ []))));
   } where
     all : rows ++ row ∷ [] ≡ r.whole ++ (r.part ++ row ∷ [])
     all = ap (λ z. z ++ row ∷ []) r.all ∙ append_assoc r.whole r.part (row ∷ [])
 
     few : length (r.part ++ row ∷ []) ≤ image.settings.stripe_rows
-    few = let sum = length-append r.part (row ∷ []) in omega (arith, fewer, r.in_stripe, r.plan_is.stripe_rows_is, sum)
+    few = let sum = length-append r.part (row ∷ []) in omega (arith, sum)
 
     bytes_are : (r.front ++ (move_bytes image.settings image.width r.at ++ r.pushed)) ++ cut.done ≡ r.front ++ (move_bytes image.settings image.width r.at ++ (r.pushed ++ cut.done))
     bytes_are = append_assoc r.front (move_bytes image.settings image.width r.at ++ r.pushed) cut.done ∙ ap (λ z. r.front ++ z) (append_assoc (move_bytes image.settings image.width r.at) r.pushed cut.done)
@@ -280,11 +280,11 @@ module _ (image : Image) (rows : List (List Bool)) (v : RowView) (window : Held)
   -- no stripe runs
   pub stands_waiting : v.in_stripe ≡ 0 → Stands image rows v window origin text' → Waits image rows v window origin text'
   stands_waiting none (inl w) = w
-  stands_waiting none (inr r) = absurd (omega (arith, r.1, none))
+  stands_waiting none (inr r) = absurd (omega arith)
 
   -- one runs
   pub stands_running : 0 < v.in_stripe → Stands image rows v window origin text' → Runs image rows v window origin text'
-  stands_running some (inl w) = absurd (omega (arith, w.in_stripe, some))
+  stands_running some (inl w) = absurd (omega arith)
   stands_running some (inr r) = r.0
 
 -- ---- a stripe ends
@@ -294,7 +294,7 @@ module _ {image : Image} {rows : List (List Bool)} {v : RowView} {window : Held}
   last = row_start_in image.settings image.width r.at r.part
 
   some_part : 0 < length r.part
-  some_part = omega (arith, some, r.in_stripe)
+  some_part = omega arith
 
   bytes_of : {code : List ℕ} (laws : WritingLaws) (more : List ℕ) → Rattle.qm_core.specs.Code.IsCode last.state.place code → r.pushed ++ more ≡ stuffed code ++ marker_bytes v.plan.reset →
       (r.front ++ (move_bytes image.settings image.width r.at ++ r.pushed)) ++ more ≡ r.front ++ stripe_bytes (next_stripe image.settings image.width r.at r.part)
@@ -316,7 +316,7 @@ module _ {image : Image} {rows : List (List Bool)} {v : RowView} {window : Held}
     lines_are = r.running.is_held.lines_are;
   } where
     moved : (n : ℕ) → length r.part ≡ n → offset_at (next_move image.settings image.width r.at) (length r.part) last.offset ≡ last.offset
-    moved zero e = absurd (omega (arith, e, some_part))
+    moved zero e = absurd (omega (arith, some_part))
     moved (suc n) e = ap (λ k. offset_at (next_move image.settings image.width r.at) k last.offset) e ∙ sym (moved_before (next_move image.settings image.width r.at) n last.offset r.running.is_held.at_top)
 
   counted_none : (lines : List Lines) → counted_of v ≡ None → IsCountedTo image.width (counted_of v) v.tally lines → (current : ℕ) → CountsLines v.tally image.width current []
@@ -383,7 +383,7 @@ module _ {image : Image} {rows : List (List Bool)} {v : RowView} {window : Held}
       is_held = subst (λ w. IsHeldBy None 0 (first_row_start (next_stripe_start w image.settings.reset last)) kept learned window') r.plan_is.width_is
           (subst (λ b. IsHeldBy None 0 (first_row_start (next_stripe_start v.plan.width b last)) kept learned window') r.plan_is.reset_is (goes last behind));
       is_tallied = tallied more';
-      named_is = r.none_named ∙ sym (get_or_past image.settings.named (suc r.at.stripe) None (let is : r.at.stripe ≡ r.i = r.stripes.stripe_is in omega (arith, is, r.names_to)));
+      named_is = r.none_named ∙ sym (get_or_past image.settings.named (suc r.at.stripe) None (let is : r.at.stripe ≡ r.i = r.stripes.stripe_is in omega arith));
     };
     sent = Sends-keeps
         (subst (Sends origin text') (bytes_of laws more is all) (Sends-more more r.sent put)) keeps;
@@ -420,7 +420,7 @@ module _ (image : Image) (count : ℕ) (rows : List (List Bool)) (v : RowView) (
         (whole_more e.plan_is.some e.stripes e.part (e.many ∙ full ∙ e.plan_is.stripe_rows_is));
     in_stripe = e.in_stripe;
     codes = e.codes;
-    names_to = omega (arith, e.names_to);
+    names_to = omega arith;
     on_course = e.on_course;
     sent = e.sent;
   }
@@ -436,11 +436,11 @@ module _ (image : Image) (count : ℕ) (rows : List (List Bool)) (v : RowView) (
         let sum = length-append e.whole e.part in
         let full_part : length e.part ≡ image.settings.stripe_rows = e.many ∙ full in
         front_begins image.settings raster (e.i + 1)
-        (let inside = inside_of (height raster) image.settings.stripe_rows e.i some (omega (arith, long, sum, e.stripes.many, full_part, some)) in omega (arith, inside))
+        (let inside = inside_of (height raster) image.settings.stripe_rows e.i some (omega (arith, sum)) in omega arith)
         (record {
           rest = e.sent.rest;
           bytes_are =
-              sym (stripe_more some e.stripes e.part m (omega (arith, long, sum, e.stripes.many, full_part, some)) (omega (arith, long, sum, e.stripes.many, full_part)))
+              sym (stripe_more some e.stripes e.part m (omega (arith, sum)) (omega (arith, sum)))
               ∙ e.sent.text_is;
         });
   }
@@ -454,23 +454,23 @@ count_is n l c some from to = went (less_or_not c (stripe_count n l)) (less_or_n
 
   went : (c < stripe_count n l) ⊎ (stripe_count n l ≤ c) → (stripe_count n l < c) ⊎ (c ≤ stripe_count n l) → stripe_count n l ≡ c
   went (inl h) k =
-      let up : (c + 1) * l ≤ stripe_count n l * l = Rattle.std.proofs.Math.Nat.mul-le-mul_right l (omega (arith, h)) in
+      let up : (c + 1) * l ≤ stripe_count n l * l = Rattle.std.proofs.Math.Nat.mul-le-mul_right l (omega arith) in
       let sum : (c + 1) * l ≡ c * l + 1 * l = Rattle.std.proofs.Math.Nat.add-mul c 1 l in
       let high = times.1 in
-      absurd (omega (arith, up, sum, from, high))
+      absurd (omega (arith, sum))
   went (inr h) (inl k) =
-      let up : (stripe_count n l + 1) * l ≤ c * l = Rattle.std.proofs.Math.Nat.mul-le-mul_right l (omega (arith, k)) in
+      let up : (stripe_count n l + 1) * l ≤ c * l = Rattle.std.proofs.Math.Nat.mul-le-mul_right l (omega arith) in
       let sum : (stripe_count n l + 1) * l ≡ stripe_count n l * l + 1 * l = Rattle.std.proofs.Math.Nat.add-mul (stripe_count n l) 1 l in
       let low = times.0 in
-      absurd (omega (arith, up, sum, to, low))
-  went (inr h) (inr k) = omega (arith, h, k)
+      absurd (omega (arith, sum))
+  went (inr h) (inr k) = omega arith
 
 not_some : {o : Option ℕ} → o ≡ None → is_some o ≡ false
 not_some none = ap is_some none
 
 module _ {image : Image} {rows : List (List Bool)} (v : RowView) (plan : IsPlan image v.plan) (come : HaveCome image.width image.limit rows v.rows) (some : 0 < v.rows) (whole : v.plan.may_end ≡ false → v.rows ≡ v.plan.limit) where
   all_rows : image.settings.announced ≡ None → length rows ≡ image.limit
-  all_rows none = (let full = whole (plan.may_end_is ∙ not_some none) in omega (arith, full, plan.limit_is, come.many))
+  all_rows none = (let full = whole (plan.may_end_is ∙ not_some none) in omega arith)
 
   -- the image itself may come
   pub itself : MayCome image rows (raster_of image.width rows)
@@ -478,8 +478,8 @@ module _ {image : Image} {rows : List (List Bool)} (v : RowView) (plan : IsPlan 
     proper = record {
       width_from = plan.width_from;
       width_to = plan.width_to;
-      height_from = omega (arith, some, come.many);
-      height_to = omega (arith, come.few, plan.limit_to);
+      height_from = omega arith;
+      height_to = omega arith;
       rows = come.wide;
     };
     width_is = refl;
@@ -499,12 +499,12 @@ module _ {image : Image} {rows : List (List Bool)} (v : RowView) (plan : IsPlan 
     announced_is = announced_at;
     sent = subst (Sends origin text')
         ((stands_here w.stripes).front_is (raster_of image.width rows) itself
-        ∙ ap (jbg_up_to image.settings (raster_of image.width rows)) (sym (count_is (length rows) image.settings.stripe_rows w.i plan.some (omega (arith, w.stripes.many)) (omega (arith, w.stripes.many, plan.some))))) w.sent;
+        ∙ ap (jbg_up_to image.settings (raster_of image.width rows)) (sym (count_is (length rows) image.settings.stripe_rows w.i plan.some (omega arith) (omega arith)))) w.sent;
   }
 
 module _ {image : Image} {rows whole : List (List Bool)} {i : ℕ} {at : EncoderStart} {front : List ℕ} (count : ℕ) (part : List (List Bool)) (some : 1 ≤ image.settings.stripe_rows) (all : rows ≡ whole ++ part) (stripes : StripesWhole image i whole at front) (some_part : 0 < length part) (few : length part ≤ image.settings.stripe_rows) (m : MayCome image rows (raster_of image.width rows)) where
   sum : length rows ≡ i * image.settings.stripe_rows + length part
-  sum = (let lengths : length rows ≡ length (whole ++ part) = ap length all in omega (arith, lengths, length-append whole part, stripes.many))
+  sum = (let lengths : length rows ≡ length (whole ++ part) = ap length all in omega (arith, length-append whole part))
 
   -- the stripes with this one are all
   pub last_stripe : front ++ stripe_bytes (next_stripe image.settings image.width at part) ≡ jbg_up_to image.settings (raster_of image.width rows) (stripe_count (length rows) image.settings.stripe_rows)
@@ -559,7 +559,7 @@ none_stand {image} v plan rows_is none nameless unnamed codes offset previous le
   stripes = none_whole image;
   in_stripe = none;
   codes = codes;
-  names_to = (let none_are : length image.settings.named ≡ 0 = ap length unnamed in omega (arith, none_are));
+  names_to = (let none_are : length image.settings.named ≡ 0 = ap length unnamed in omega arith);
   on_course = λ _. record {
     is_held = record { at_top = tt; offset_is = offset; previous_is = previous; learned_is = learned; third = white_row image.width; lines_are = white };
     is_tallied = record { two_line = two_line; most = most; lines = []; counts = counts image.width 0; lines_are = λ _. refl };

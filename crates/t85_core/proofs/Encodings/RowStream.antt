@@ -89,7 +89,7 @@ inside_of n l i some within = went (less_or_not i (stripe_count n l)) where
   went (inr h) =
       let times = (div_ceil_times n l some).0 in
       let down : stripe_count n l * l ≤ i * l = Rattle.std.proofs.Math.Nat.mul-le-mul_right l h in
-      absurd (omega (arith, times, down, within))
+      absurd (omega (arith, within))
 
 -- the first stripes begin more of them
 stripes_begin : (s : Settings) (raster : Raster) (n m : ℕ) → IsBeginning (stripes_up_to s raster n) (stripes_up_to s raster (n + m))
@@ -114,7 +114,7 @@ front_begins {bytes} s raster n few b = record { rest = b.rest ++ (more.rest ++ 
   head = head_of s raster.width (height raster)
 
   same : n + (count - n) ≡ count
-  same = omega (arith, few)
+  same = omega arith
 
   more : IsBeginning (stripes_up_to s raster n) (stripes_up_to s raster count)
   more = subst (λ k. IsBeginning (stripes_up_to s raster n) (stripes_up_to s raster k)) same (stripes_begin s raster n (count - n))
@@ -164,7 +164,7 @@ module _ {image : Image} {i : ℕ} {whole : List (List Bool)} {at : EncoderStart
       ((later : List (List Bool)) → IsBeginning bytes (stripe_bytes (next_stripe image.settings image.width at (part ++ later)))) → MayCome image (whole ++ part) raster → i * l < height raster →
       IsBeginning (front ++ bytes) (jbg image.settings raster)
   part_begins {raster} part bytes few begins b within =
-      front_begins image.settings raster (i + 1) (let inside = inside_of (height raster) l i some within in omega (arith, inside)) (record {
+      front_begins image.settings raster (i + 1) (let inside = inside_of (height raster) l i some within in omega arith) (record {
         rest = p.rest;
         bytes_are =
             up_to_more image.settings raster i
@@ -177,7 +177,7 @@ module _ {image : Image} {i : ℕ} {whole : List (List Bool)} {at : EncoderStart
       first = come_first whole part b
 
       long : length part ≤ min l (height raster - i * l)
-      long = (let all = come_long b in omega (arith, all, length-append whole part, so.many, few))
+      long = (let all = come_long b in omega (arith, all, length-append whole part))
 
       go : RowsGoOn (white_row raster.width) raster.rows (i * l) l part
       go = rows_go_on (white_row raster.width) raster.rows whole part l b.first so.many long
@@ -189,7 +189,7 @@ module _ {image : Image} {i : ℕ} {whole : List (List Bool)} {at : EncoderStart
       p = begins go.later
 
   rows_more : (part : List (List Bool)) → length part ≡ l → length (whole ++ part) ≡ (i + 1) * l
-  rows_more part enough = let product : (i + 1) * l ≡ i * l + 1 * l = Rattle.std.proofs.Math.Nat.add-mul i 1 l in omega (arith, length-append whole part, so.many, enough, product)
+  rows_more part enough = let product : (i + 1) * l ≡ i * l + 1 * l = Rattle.std.proofs.Math.Nat.add-mul i 1 l in omega (arith, length-append whole part)
 
   -- a stripe with all its rows
   part_stands : (part : List (List Bool)) → length part ≡ l → FrontStands image (i + 1) (whole ++ part) (next_encoder_start image.settings image.width at part) (front ++ stripe_bytes (next_stripe image.settings image.width at part))
@@ -199,13 +199,13 @@ module _ {image : Image} {i : ℕ} {whole : List (List Bool)} {at : EncoderStart
         ((stripe_comes part b (within raster b) (all raster b)).next (inside_of (height raster) l (i + 1) some more));
   } where
     long : (raster : Raster) → MayCome image (whole ++ part) raster → i * l + l ≤ height raster
-    long raster b = (let has = come_long b in omega (arith, has, length-append whole part, so.many, enough))
+    long raster b = (let has = come_long b in omega (arith, length-append whole part))
 
     within : (raster : Raster) → MayCome image (whole ++ part) raster → i * l < height raster
-    within raster b = omega (arith, long raster b, some)
+    within raster b = omega (arith, long raster b)
 
     all : (raster : Raster) → MayCome image (whole ++ part) raster → length part ≡ min l (height raster - i * l)
-    all raster b = omega (arith, long raster b, enough)
+    all raster b = omega (arith, long raster b)
 
 -- what is written for a stripe is the same where its own name is
 module _ {image : Image} {i : ℕ} {whole : List (List Bool)} {at : EncoderStart} {front : List ℕ} (some : 1 ≤ image.settings.stripe_rows) (so : StripesWhole image i whole at front) (part : List (List Bool)) (enough : length part ≡ image.settings.stripe_rows) where
@@ -231,10 +231,10 @@ module _ {image : Image} {i : ℕ} {whole : List (List Bool)} {at : EncoderStart
   unfolding start_with stripe_with move_named
   whole_more = record {
     many = rows_more some so part enough;
-    stripe_is = (let is : at.stripe ≡ i = so.stripe_is in omega (arith, is));
+    stripe_is = (let is : at.stripe ≡ i = so.stripe_is in omega arith);
     stands = λ names same.
-        let anew = stands_anew so names (λ j lt. same j (omega (arith, lt))) in
-        let name : slice_index_or names at.stripe None ≡ slice_index_or image.settings.named at.stripe None = sym (same at.stripe (let is : at.stripe ≡ i = so.stripe_is in omega (arith, is))) in
+        let anew = stands_anew so names (λ j lt. same j (omega arith)) in
+        let name : slice_index_or names at.stripe None ≡ slice_index_or image.settings.named at.stripe None = sym (same at.stripe (let is : at.stripe ≡ i = so.stripe_is in omega arith)) in
         subst (λ move. FrontStands (naming image names) (i + 1) (whole ++ part) (start_with move) (front ++ stripe_bytes (stripe_with move))) (ap move_named name)
         (part_stands some anew part enough);
   }

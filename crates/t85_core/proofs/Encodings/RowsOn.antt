@@ -13,7 +13,7 @@ part_continues {n} d first rows rest all_is many k lt =
 
 pub front_splits : {X : Type 0} {front : List X} (all : List X) → take (length front) all ≡ front → (length front ≤ length all) × (all ≡ front ++ drop (length front) all)
 front_splits {front} all is =
-    let long : length front ≤ length all = (let e : length front ≡ min (length front) (length all) = ap length (sym is) ∙ length-take (length front) all in omega (arith, e)) in
+    let long : length front ≤ length all = (let e : length front ≡ min (length front) (length all) = ap length (sym is) ∙ length-take (length front) all in omega arith) in
     (long, sym (split_at (length front) all long).0 ∙ ap (λ z. z ++ drop (length front) all) is)
 
 -- Rows of an image after its first n rows.
@@ -31,7 +31,7 @@ pub rows_go_on : {X : Type 0} {n : ℕ} (d : X) (all first part : List X) (l : �
     RowsGoOn d all n l part
 rows_go_on {X} {n} d all first part l is many few = record {
   later = later;
-  many = omega (arith, later_many, few);
+  many = omega (arith, later_many);
   continues = part_continues d first (part ++ later) rest all_is many;
 } where
   behind : List X
@@ -47,7 +47,7 @@ rows_go_on {X} {n} d all first part l is many few = record {
   enough =
       let e = length-drop (length (first ++ part)) all in
       let f = length-append first part in
-      omega (arith, e, f, many, few)
+      omega (arith, many)
 
   later_many : length later ≡ min l (length all - n) - length part
   later_many = (split_at (min l (length all - n) - length part) behind enough).1

@@ -31,6 +31,6 @@ module _ {S : Type 0} (view : S → SinkView) where
   took_inked from to [] took = subst (λ z. SameSink (view from) (view z) × Appends (view from).text (view z).text []) took (record { same_buffer = refl; same_writer = refl; grows = omega arith }, appends_none (view from).text)
   took_inked from to (byte ∷ bytes) (next, first, rest) =
       let later = took_inked next to bytes rest in (
-        record { same_buffer = later.0.same_buffer ∙ first.0.same_buffer; same_writer = later.0.same_writer ∙ first.0.same_writer; grows = (let a = first.0.grows in let b = later.0.grows in omega (arith, a, b)) },
+        record { same_buffer = later.0.same_buffer ∙ first.0.same_buffer; same_writer = later.0.same_writer ∙ first.0.same_writer; grows = (let a = first.0.grows in let b = later.0.grows in omega arith) },
         Appends-more (view from).text (view next).text (view to).text (byte ∷ []) bytes first.1 later.1,
       )

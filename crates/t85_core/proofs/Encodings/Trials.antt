@@ -38,7 +38,7 @@ use Rattle.t85_core.proofs.Theorems.StreamLength.{many as many_numbers}
 -- it takes every byte
 pub sure : {A : Type 0} (r : Result (Unit {0}) CoderFault) → OnErr r (◌≡◌ {A = ℕ} 0 (one_more 0)) → OnOk r A → A
 sure (Ok u) never ok = ok
-sure (Err f) never ok = absurd (omega (arith, never))
+sure (Err f) never ok = absurd (omega arith)
 
 abbrev pub counting : ByteCount → ℕ → ByteCount → Type 0
 counting s byte t = t.bytes ≡ (s.bytes + 1) % 2 ^ 64
@@ -115,7 +115,7 @@ module _ {part : List (List Bool)} {before : Held} {trial : Trial} (shape : Shap
   few_plain : length part < 2 ^ 32 - 1 → length (plain_down (trial_of mode most carry offset) part) < 2 ^ 32 - 1
   few_plain few =
       let all = count_by-le-length (λ l. not (may_be_typical mode l)) (lines_down carry.above carry.second part) in
-      omega (arith, few, all, length-filter (λ l. not (may_be_typical mode l)) (lines_down carry.above carry.second part), length-lines_down carry.above carry.second part)
+      omega (arith, length-filter (λ l. not (may_be_typical mode l)) (lines_down carry.above carry.second part), length-lines_down carry.above carry.second part)
 
   counted_more : {flag : Bool} → length part < 2 ^ 32 - 1 → (may_be_typical mode line ≡ true → trial'.tally ≡ trial.tally) →
       (may_be_typical mode line ≡ false → (lines : List Lines) → length lines < 2 ^ 32 - 1 → CountsLines trial.tally shape.width 0 lines → CountsLines trial'.tally shape.width 0 (lines ++ line ∷ [])) →

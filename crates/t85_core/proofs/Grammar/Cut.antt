@@ -41,10 +41,10 @@ one_number a b x y p q e = (sym (row_of a x p) ∙ ap (big_number 4) e ∙ row_o
 
 pub one_segment : {h : Fields} → IsAccepted h → (s t : Segment) (x y : List ℕ) → IsLegal h s → IsLegal h t → segment_bytes s ++ x ≡ segment_bytes t ++ y → (s ≡ t) × (x ≡ y)
 one_segment ok (NewLength a) (NewLength b) x y p q e =
-    let k = one_number a b x y (omega (arith, p.2, ok.height_to)) (omega (arith, q.2, ok.height_to)) (ap (drop 2) e) in
+    let k = one_number a b x y (omega arith) (omega arith) (ap (drop 2) e) in
     (ap NewLength k.0, k.1)
 one_segment ok (Move row offset) (Move row' offset') x y p q e =
-    let k = one_number row row' (offset ∷ 0 ∷ x) (offset' ∷ 0 ∷ y) (omega (arith, p.0, ok.stripe_to)) (omega (arith, q.0, ok.stripe_to)) (ap (drop 2) e) in
+    let k = one_number row row' (offset ∷ 0 ∷ x) (offset' ∷ 0 ∷ y) (omega arith) (omega arith) (ap (drop 2) e) in
     let o : offset ∷ 0 ∷ x ≡ offset' ∷ 0 ∷ y = k.1 in
     let same : offset ≡ offset' = cc in
     (ap (λ r. Move r offset) k.0 ∙ ap (Move row') same, (cc))
@@ -145,10 +145,10 @@ pub one_front : {h : Fields} → IsAccepted h → (ss ts : List Stripe) (x y : L
 one_front ok [] [] x y p q n e = (refl, e)
 one_front ok (s ∷ ss) (t ∷ ts) x y p q n e =
     let first = one_stripe ok s t (flat_map stripe_bytes ss ++ x) (flat_map stripe_bytes ts ++ y) p.0 q.0 (sym (append_assoc (stripe_bytes s) (flat_map stripe_bytes ss) x) ∙ e ∙ append_assoc (stripe_bytes t) (flat_map stripe_bytes ts) y) in
-    let fewer : length ss ≡ length ts = omega (arith, n) in
+    let fewer : length ss ≡ length ts = omega arith in
     let rest = one_front ok ss ts x y p.1 q.1 fewer first.1 in
     (ap (λ z. z ∷ ss) first.0 ∙ ap (λ z. t ∷ z) rest.0, rest.1)
-one_front ok ss ts x y p q n e = absurd (omega (arith, n))
+one_front ok ss ts x y p q n e = absurd (omega arith)
 
 pub one_parts : {h : Fields} → IsAccepted h → (ss ts : List Stripe) (x y : List ℕ) → AllByRecursion (IsStripe h) ss → AllByRecursion (IsStripe h) ts → length ss ≡ length ts →
     flat_map stripe_bytes ss ++ x ≡ flat_map stripe_bytes ts ++ y → ss ≡ ts
@@ -189,7 +189,7 @@ module _ {h : Fields} (ok : IsAccepted h) (height k n : ℕ) (suits : Suits h he
   fits_closed : (ss ts : List Segment) → Fits (ss ++ ts) → Fits ss
   fits_closed ss ts f = record { one_move = few ss ts f.one_move; gives = gives_left height n ss ts f.gives } where
     few : (ss ts : List Segment) → count_by is_move (ss ++ ts) ≤ 1 → count_by is_move ss ≤ 1
-    few ss ts e = let c = sum_by-append (λ y. cond (is_move y) 1 0) ss ts in omega (arith, c, e)
+    few ss ts e = let c = sum_by-append (λ y. cond (is_move y) 1 0) ss ts in omega arith
 
   fault_ends : {f : Fault} (segments : List Segment) (code rest : List ℕ) → rest_fault h (spot_of height k (n + length (lengths segments))) (count_by is_move segments) (not (is_nil code)) rest ≡ Some f →
       EndsPieces h Fits segments code rest
@@ -202,18 +202,18 @@ module _ {h : Fields} (ok : IsAccepted h) (height k n : ℕ) (suits : Suits h he
     no (NewLength a) z legal fits is e =
         let given = gives_right height n segments (NewLength a ∷ []) fits.gives in
         let same : a ≡ height = given.this.0 in
-        let none : n + length (lengths segments) ≡ 0 = (let one : (n + length (lengths segments)) + 1 ≤ 1 = given.one in omega (arith, one)) in
+        let none : n + length (lengths segments) ≡ 0 = (let one : (n + length (lengths segments)) + 1 ≤ 1 = given.one in omega arith) in
         let e1 : length_fault h (spot_of height k (n + length (lengths segments))) (big_bytes 4 a ++ z) ≡ Some f =
         subst (λ u. rest_fault h (spot_of height k (n + length (lengths segments))) (count_by is_move segments) false u ≡ Some f) is e in
         let e2 : length_fault h (spot_of height k 0) (big_bytes 4 a ++ z) ≡ Some f = subst (λ u. length_fault h (spot_of height k u) (big_bytes 4 a ++ z) ≡ Some f) none e1 in
         let e3 : length_fault h (spot_of height k 0) (big_bytes 4 height ++ z) ≡ Some f = subst (λ u. length_fault h (spot_of height k 0) (big_bytes 4 u ++ z) ≡ Some f) same e2 in
-        none_some (sym (length_whole h height k legal.0 z (omega (arith, legal.2, same, ok.height_to)) (suits (omega (arith, legal.1, same)))) ∙ e3)
+        none_some (sym (length_whole h height k legal.0 z (omega arith) (suits (omega arith))) ∙ e3)
     no (Move row offset) z legal fits is e =
-        let none : count_by is_move segments ≡ 0 = (let c = count_push is_move segments (Move row offset) in omega (arith, c, fits.one_move)) in
+        let none : count_by is_move segments ≡ 0 = (let c = count_push is_move segments (Move row offset) in omega arith) in
         let e1 : move_fault h (count_by is_move segments) (big_bytes 4 row ++ offset ∷ 0 ∷ z) ≡ Some f =
         subst (λ u. rest_fault h (spot_of height k (n + length (lengths segments))) (count_by is_move segments) false u ≡ Some f) is e in
         let e2 : move_fault h 0 (big_bytes 4 row ++ offset ∷ 0 ∷ z) ≡ Some f = subst (λ u. move_fault h u (big_bytes 4 row ++ offset ∷ 0 ∷ z) ≡ Some f) none e1 in
-        none_some (sym (move_whole h row offset z (omega (arith, legal.0, ok.stripe_to)) legal.0 legal.1) ∙ e2)
+        none_some (sym (move_whole h row offset z (omega arith) legal.0 legal.1) ∙ e2)
     no (Comment text) z legal fits is e =
         let e1 : comment_fault (big_bytes 4 (length text) ++ (text ++ z)) ≡ Some f =
         subst (λ u. rest_fault h (spot_of height k (n + length (lengths segments))) (count_by is_move segments) false u ≡ Some f) is e in
@@ -266,7 +266,7 @@ module _ {h : Fields} (ok : IsAccepted h) (height most : ℕ) (suits : (k : ℕ)
   onward k n s ss =
       let a : k + suc (length ss) ≡ suc k + length ss = omega arith in
       let c = many_lengths s.segments (all_segments ss) in
-      let b : n + length (lengths (all_segments (s ∷ ss))) ≡ (n + length (lengths s.segments)) + length (lengths (all_segments ss)) = omega (arith, c) in
+      let b : n + length (lengths (all_segments (s ∷ ss))) ≡ (n + length (lengths s.segments)) + length (lengths (all_segments ss)) = omega arith in
       ap (λ u. spot_of height u (n + length (lengths (all_segments (s ∷ ss))))) a ∙ ap (spot_of height (suc k + length ss)) b
 
   here : (k n : ℕ) → spot_on height k n [] ≡ spot_of height k n
@@ -284,15 +284,15 @@ module _ {h : Fields} (ok : IsAccepted h) (height most : ℕ) (suits : (k : ℕ)
   -- whole stripes, or fewer and one that isn't whole
   pub never_both : {tail : List ℕ} {f : Fault} (k n : ℕ) (ss ts : List Stripe) (x : List ℕ) → AllByRecursion (IsStripe h) ss → AllByRecursion (IsStripe h) ts → GiveOnly height n (all_segments ss) →
       k + length ts ≤ most → length ts < length ss → StripeFault h (spot_on height k n ts) tail f → flat_map stripe_bytes ss ++ x ≡ flat_map stripe_bytes ts ++ tail → ⊥
-  never_both k n [] ts x p q g le less w e = omega (arith, less)
+  never_both k n [] ts x p q g le less w e = omega arith
   never_both {tail} {f} k n (s ∷ ss) [] x p q g le less w e =
-      no_stripe_in_fault ok height k n (suits k (omega (arith, le))) s (flat_map stripe_bytes ss ++ x) p.0 (first_gives s ss g) (subst (λ u. StripeFault h u tail f) (here k n) w)
+      no_stripe_in_fault ok height k n (suits k (omega arith)) s (flat_map stripe_bytes ss ++ x) p.0 (first_gives s ss g) (subst (λ u. StripeFault h u tail f) (here k n) w)
       (sym (append_assoc (stripe_bytes s) (flat_map stripe_bytes ss) x) ∙ e)
   never_both {tail} {f} k n (s ∷ ss) (t ∷ ts) x p q g le less w e =
       let first = one_stripe ok s t (flat_map stripe_bytes ss ++ x) (flat_map stripe_bytes ts ++ tail) p.0 q.0 (sym (append_assoc (stripe_bytes s) (flat_map stripe_bytes ss) x) ∙ e ∙ append_assoc (stripe_bytes t) (flat_map stripe_bytes ts) tail) in
       let w' : StripeFault h (spot_on height (suc k) (n + length (lengths s.segments)) ts) tail f =
       subst (λ u. StripeFault h (spot_on height (suc k) (n + length (lengths u.segments)) ts) tail f) (sym first.0) (subst (λ u. StripeFault h u tail f) (onward k n t ts) w) in
-      never_both (suc k) (n + length (lengths s.segments)) ss ts x p.1 q.1 (rest_gives s ss g) (omega (arith, le)) (omega (arith, less)) w' first.1
+      never_both (suc k) (n + length (lengths s.segments)) ss ts x p.1 q.1 (rest_gives s ss g) (omega arith) (omega arith) w' first.1
 
   -- two cuts that end in a stripe that isn't whole have the same stripes, and leave the same bytes
   pub same_front : {x y : List ℕ} {f g : Fault} (k n : ℕ) (ss ts : List Stripe) → AllByRecursion (IsStripe h) ss → AllByRecursion (IsStripe h) ts → GiveOnly height n (all_segments ss) →
@@ -300,10 +300,10 @@ module _ {h : Fields} (ok : IsAccepted h) (height most : ℕ) (suits : (k : ℕ)
       flat_map stripe_bytes ss ++ x ≡ flat_map stripe_bytes ts ++ y → (ss ≡ ts) × (x ≡ y)
   same_front k n [] [] p q gs gt ls lt v w e = (refl, e)
   same_front {x} {y} {g} k n (s ∷ ss) [] p q gs gt ls lt v w e =
-      absurd (no_stripe_in_fault ok height k n (suits k (omega (arith, lt))) s (flat_map stripe_bytes ss ++ x) p.0 (first_gives s ss gs) (subst (λ u. StripeFault h u y g) (here k n) w)
+      absurd (no_stripe_in_fault ok height k n (suits k (omega arith)) s (flat_map stripe_bytes ss ++ x) p.0 (first_gives s ss gs) (subst (λ u. StripeFault h u y g) (here k n) w)
       (sym (append_assoc (stripe_bytes s) (flat_map stripe_bytes ss) x) ∙ e))
   same_front {x} {y} {f} k n [] (t ∷ ts) p q gs gt ls lt v w e =
-      absurd (no_stripe_in_fault ok height k n (suits k (omega (arith, ls))) t (flat_map stripe_bytes ts ++ y) q.0 (first_gives t ts gt) (subst (λ u. StripeFault h u x f) (here k n) v)
+      absurd (no_stripe_in_fault ok height k n (suits k (omega arith)) t (flat_map stripe_bytes ts ++ y) q.0 (first_gives t ts gt) (subst (λ u. StripeFault h u x f) (here k n) v)
       (sym (append_assoc (stripe_bytes t) (flat_map stripe_bytes ts) y) ∙ sym e))
   same_front {x} {y} {f} {g} k n (s ∷ ss) (t ∷ ts) p q gs gt ls lt v w e =
       let first = one_stripe ok s t (flat_map stripe_bytes ss ++ x) (flat_map stripe_bytes ts ++ y) p.0 q.0 (sym (append_assoc (stripe_bytes s) (flat_map stripe_bytes ss) x) ∙ e ∙ append_assoc (stripe_bytes t) (flat_map stripe_bytes ts) y) in
@@ -311,7 +311,7 @@ module _ {h : Fields} (ok : IsAccepted h) (height most : ℕ) (suits : (k : ℕ)
       let w' : StripeFault h (spot_on height (suc k) (n + length (lengths s.segments)) ts) y g =
       subst (λ u. StripeFault h (spot_on height (suc k) (n + length (lengths u.segments)) ts) y g) back (subst (λ u. StripeFault h u y g) (onward k n t ts) w) in
       let gt' : GiveOnly height (n + length (lengths s.segments)) (all_segments ts) = subst (λ u. GiveOnly height (n + length (lengths u.segments)) (all_segments ts)) back (rest_gives t ts gt) in
-      let rest = same_front (suc k) (n + length (lengths s.segments)) ss ts p.1 q.1 (rest_gives s ss gs) gt' (omega (arith, ls)) (omega (arith, lt))
+      let rest = same_front (suc k) (n + length (lengths s.segments)) ss ts p.1 q.1 (rest_gives s ss gs) gt' (omega arith) (omega arith)
       (subst (λ u. StripeFault h u x f) (onward k n s ss) v) w' first.1 in
       (ap (λ z. z ∷ ss) first.0 ∙ ap (λ z. t ∷ z) rest.0, rest.1)
 
@@ -325,7 +325,7 @@ module _ {h : Fields} (ok : IsAccepted h) (height most : ℕ) (suits : (k : ℕ)
   pub parts_or_fault : {tail : List ℕ} {f : Fault} (ss ts : List Stripe) (x : List ℕ) → AllByRecursion (IsStripe h) ss → AllByRecursion (IsStripe h) ts → GiveOnly height 0 (all_segments ss) → length ts ≤ most →
       length ts < length ss → StripeFault h (spot_after height ts) tail f → flat_map stripe_bytes ss ++ x ≡ flat_map stripe_bytes ts ++ tail → ⊥
   parts_or_fault {tail} {f} ss ts x p q g le less w e =
-      never_both 0 0 ss ts x p q g (omega (arith, le)) less (subst (λ u. StripeFault h u tail f) (after_is ts) w) e
+      never_both 0 0 ss ts x p q g (omega arith) less (subst (λ u. StripeFault h u tail f) (after_is ts) w) e
 
   -- two cuts that end in a stripe that isn't whole are one
   pub record SameCut {x y : List ℕ} {f g : Fault} (ss ts : List Stripe) (v : StripeFault h (spot_after height ss) x f) (w : StripeFault h (spot_after height ts) y g) : Type 0 where
@@ -336,7 +336,7 @@ module _ {h : Fields} (ok : IsAccepted h) (height most : ℕ) (suits : (k : ℕ)
       GiveOnly height 0 (all_segments ts) → length ss ≤ most → length ts ≤ most → (v : StripeFault h (spot_after height ss) x f) (w : StripeFault h (spot_after height ts) y g) →
       flat_map stripe_bytes ss ++ x ≡ flat_map stripe_bytes ts ++ y → SameCut ss ts v w
   one_broken {x} {y} {f} {g} ss ts p q gs gt ls lt v w e =
-      let front = same_front 0 0 ss ts p q gs gt (omega (arith, ls)) (omega (arith, lt))
+      let front = same_front 0 0 ss ts p q gs gt (omega arith) (omega arith)
       (subst (λ u. StripeFault h u x f) (after_is ss) v) (subst (λ u. StripeFault h u y g) (after_is ts) w) e in
       made ts front.0 y front.1 w
     where
@@ -397,25 +397,25 @@ module _ {h : Fields} (ok : IsAccepted h) (height most : ℕ) (suits : (k : ℕ)
       (length ss ≤ length ts) ⊎ ((f : Fault) × StripeFault h (spot_on height k n ts) y f) → flat_map stripe_bytes ss ++ x ≡ flat_map stripe_bytes ts ++ y →
       (later : List Stripe) × (ts ≡ ss ++ later) × (x ≡ flat_map stripe_bytes later ++ y)
   first_on k n [] ts x y p q g le w e = (ts, refl, e)
-  first_on k n (s ∷ ss) [] x y p q g le (inl m) e = absurd (omega (arith, m))
+  first_on k n (s ∷ ss) [] x y p q g le (inl m) e = absurd (omega arith)
   first_on k n (s ∷ ss) [] x y p q g le (inr w) e =
-      absurd (no_stripe_in_fault ok height k n (suits k (omega (arith, le))) s (flat_map stripe_bytes ss ++ x) p.0 (first_gives ok height most suits s ss g)
+      absurd (no_stripe_in_fault ok height k n (suits k (omega arith)) s (flat_map stripe_bytes ss ++ x) p.0 (first_gives ok height most suits s ss g)
       (subst (λ u. StripeFault h u y w.0) (here ok height most suits k n) w.1) (sym (append_assoc (stripe_bytes s) (flat_map stripe_bytes ss) x) ∙ e))
   first_on k n (s ∷ ss) (t ∷ ts) x y p q g le w e =
       let first = one_stripe ok s t (flat_map stripe_bytes ss ++ x) (flat_map stripe_bytes ts ++ y) p.0 q.0 (sym (append_assoc (stripe_bytes s) (flat_map stripe_bytes ss) x) ∙ e ∙ append_assoc (stripe_bytes t) (flat_map stripe_bytes ts) y) in
-      let rest = first_on (suc k) (n + length (lengths s.segments)) ss ts x y p.1 q.1 (rest_gives ok height most suits s ss g) (omega (arith, le)) (fewer first.0 w) first.1 in
+      let rest = first_on (suc k) (n + length (lengths s.segments)) ss ts x y p.1 q.1 (rest_gives ok height most suits s ss g) (omega arith) (fewer first.0 w) first.1 in
       (rest.0, ap (λ z. z ∷ ts) (sym first.0) ∙ ap (λ z. s ∷ z) rest.1, rest.2)
     where
       fewer : s ≡ t → (length (s ∷ ss) ≤ length (t ∷ ts)) ⊎ ((f : Fault) × StripeFault h (spot_on height k n (t ∷ ts)) y f) →
           (length ss ≤ length ts) ⊎ ((f : Fault) × StripeFault h (spot_on height (suc k) (n + length (lengths s.segments)) ts) y f)
-      fewer same (inl m) = inl (omega (arith, m))
+      fewer same (inl m) = inl (omega arith)
       fewer same (inr u) = inr (u.0, subst (λ z. StripeFault h (spot_on height (suc k) (n + length (lengths z.segments)) ts) y u.0) (sym same) (subst (λ z. StripeFault h z y u.0) (onward ok height most suits k n t ts) u.1))
 
   -- Whole stripes are the first of each other reading: of more stripes, or of some and one that isn't whole.
   pub first_parts : (ss ts : List Stripe) (x y : List ℕ) → AllByRecursion (IsStripe h) ss → AllByRecursion (IsStripe h) ts → GiveOnly height 0 (all_segments ss) → length ts ≤ most →
       (length ss ≤ length ts) ⊎ ((f : Fault) × StripeFault h (spot_after height ts) y f) → flat_map stripe_bytes ss ++ x ≡ flat_map stripe_bytes ts ++ y →
       (later : List Stripe) × (ts ≡ ss ++ later) × (x ≡ flat_map stripe_bytes later ++ y)
-  first_parts ss ts x y p q g le w e = first_on 0 0 ss ts x y p q g (omega (arith, le)) (turned w) e where
+  first_parts ss ts x y p q g le w e = first_on 0 0 ss ts x y p q g (omega arith) (turned w) e where
     turned : (length ss ≤ length ts) ⊎ ((f : Fault) × StripeFault h (spot_after height ts) y f) → (length ss ≤ length ts) ⊎ ((f : Fault) × StripeFault h (spot_on height 0 0 ts) y f)
     turned (inl m) = inl m
     turned (inr u) = inr (u.0, subst (λ z. StripeFault h z y u.0) (after_is ok height most suits ts) u.1)

@@ -28,7 +28,7 @@ module _ {h : Fields} (ok : IsAccepted h) where
     nowhere : ((n : ℕ) (more : List ℕ) → is_valid_length h k n ≡ true → rest ≡ segment_bytes (NewLength n) ++ more → ⊥) → HeightAt k rest
 
   short : (k : ℕ) (rest : List ℕ) → length rest < 6 → HeightAt k rest
-  short k rest less = nowhere (λ n more valid e. let l : length rest ≡ length (segment_bytes (NewLength n) ++ more) = ap length e in omega (arith, less, l))
+  short k rest less = nowhere (λ n more valid e. let l : length rest ≡ length (segment_bytes (NewLength n) ++ more) = ap length e in omega arith)
 
   height_at : (k : ℕ) (rest : List ℕ) → AreBytes rest → HeightAt k rest
   height_at k (a ∷ b ∷ x ∷ y ∷ z ∷ w ∷ more) all = went (cases_eq a 255) (cases_eq b 5) where
@@ -41,7 +41,7 @@ module _ {h : Fields} (ok : IsAccepted h) where
         there (big_number 4 (x ∷ y ∷ z ∷ w ∷ more)) more v (ap (λ u. 255 ∷ 5 ∷ (u ++ more)) (sym (four_back x y z w more four.0 four.1.0 four.1.1.0 four.1.1.1.0)))
     judged false v = nowhere (λ n tail valid e.
         let parts = valid_parts h k n valid in
-        let same : big_number 4 (x ∷ y ∷ z ∷ w ∷ more) ≡ n = ap (λ u. big_number 4 (drop 2 u)) e ∙ row_of n tail (omega (arith, parts.1, ok.height_to)) in
+        let same : big_number 4 (x ∷ y ∷ z ∷ w ∷ more) ≡ n = ap (λ u. big_number 4 (drop 2 u)) e ∙ row_of n tail (omega arith) in
         true≢false (sym valid ∙ ap (is_valid_length h k) (sym same) ∙ v))
 
     went : (a ≡ 255) ⊎ (a ≢ 255) → (b ≡ 5) ⊎ (b ≢ 5) → HeightAt k (a ∷ b ∷ x ∷ y ∷ z ∷ w ∷ more)
@@ -69,8 +69,8 @@ module _ {h : Fields} (ok : IsAccepted h) where
   look_fault k rest = rest_fault h (spot_of 0 k 0) 1 false rest
 
   look_at : (fuel k : ℕ) (rest : List ℕ) → length rest ≤ fuel → AreBytes rest → Look k rest
-  look_at zero k [] le all = ended [] [] tt tt (λ n more v e. let l : 0 ≡ length (segment_bytes (NewLength n) ++ more) = ap length e in omega (arith, l)) (λ text more s e. let l : 0 ≡ length (segment_bytes (Comment text) ++ more) = ap length e in omega (arith, l)) refl
-  look_at zero k (b ∷ rest) le all = absurd (omega (arith, le))
+  look_at zero k [] le all = ended [] [] tt tt (λ n more v e. let l : 0 ≡ length (segment_bytes (NewLength n) ++ more) = ap length e in omega arith) (λ text more s e. let l : 0 ≡ length (segment_bytes (Comment text) ++ more) = ap length e in omega arith) refl
+  look_at zero k (b ∷ rest) le all = absurd (omega arith)
   look_at (suc fuel) k rest le all = went (height_at k rest all) (λ r less a. look_at fuel k r less a) where
     went : HeightAt k rest → ((r : List ℕ) → length r ≤ fuel → AreBytes r → Look k r) → Look k rest
     went (there n more v e) further = found [] n more tt tt v e
@@ -86,10 +86,10 @@ module _ {h : Fields} (ok : IsAccepted h) where
         by (NewLength n) e =
             let legal : IsLegal h (NewLength n) = subst (IsLegal h) e at.legal in
             let given : GiveOnly 0 0 (NewLength n ∷ []) = subst (λ u. GiveOnly 0 0 (u ∷ [])) e at.gives in
-            absurd (omega (arith, legal.1, given.this.0))
+            absurd (omega (arith, legal.1))
         by (Move row offset) e =
             let few : 1 + cond (is_move (Move row offset)) 1 0 ≤ 1 = subst (λ u. 1 + cond (is_move u) 1 0 ≤ 1) e at.one_move in
-            absurd (omega (arith, few))
+            absurd (omega arith)
         by (Comment text) e = next (further at.more (shorter (segment_bytes at.segment) at.more fuel le (segment_long at.segment) at.tail_is)
             (all_right (λ x. x < 256) (segment_bytes at.segment) at.more (subst AreBytes at.tail_is all))) where
               legal : IsLegal h (Comment text)
@@ -121,7 +121,7 @@ module _ {h : Fields} (ok : IsAccepted h) where
   no_moves (s ∷ cs) c = absurd (true≢false (sym c.0))
 
   pub comments_make_none : (cs : List Segment) → AllByRecursion (λ s. IsTrue (is_comment s)) cs → count_by is_move cs ≤ 1
-  comments_make_none cs c = let e = no_moves cs c in omega (arith, e)
+  comments_make_none cs c = let e = no_moves cs c in omega arith
 
   -- where the look ended there is no height
   no_look : (k n : ℕ) (cs ds : List Segment) (last more : List ℕ) → AllByRecursion (λ s. IsTrue (is_comment s)) cs → AllByRecursion (IsLegal h) cs → AllByRecursion (λ s. IsTrue (is_comment s)) ds → AllByRecursion (IsLegal h) ds →
@@ -166,9 +166,9 @@ module _ {h : Fields} (ok : IsAccepted h) where
     by : (length g.stripes < length ss) ⊎ (length ss ≤ length g.stripes) → ⊥
     by (inl less) =
         parts_or_fault ok 0 (length ss) (never_suits h (length ss)) ss g.stripes rest each g.each gives
-        (omega (arith, less)) less (given_breaks ok body n g) (sym is ∙ g.body_is)
+        (omega arith) less (given_breaks ok body n g) (sym is ∙ g.body_is)
     by (inr more) =
-        let same : length ss ≡ length g.stripes = omega (arith, more, many, g.within) in
+        let same : length ss ≡ length g.stripes = omega arith in
         let front = one_front ok ss g.stripes rest (flat_map segment_bytes g.segments ++ (segment_bytes (NewLength n) ++ g.rest)) each g.each same (sym is ∙ g.body_is) in
         no_look (length ss) n cs g.segments last g.rest c l (g.behind (sym same ∙ many)) g.begun.legal (subst (λ k. is_valid_length h k n ≡ true) (sym same) g.valid) no_height no_comment (sym e ∙ front.1)
 
@@ -203,7 +203,7 @@ module _ {h : Fields} (ok : IsAccepted h) where
           each = each;
           begun = record { legal = l; one_move = comments_make_none cs c; bytes = tt };
           first = both_none ss cs each l gives (subst (AllByRecursion (λ n. n ≡ 0)) (sym (comments_give_none cs c)) tt);
-          within = omega (arith, many);
+          within = omega arith;
           behind = λ _. c;
           valid = v;
         }),
@@ -242,8 +242,8 @@ module _ {h : Fields} (ok : IsAccepted h) where
           each = b.each;
           begun = record { legal = b.tail_has.begun.legal; one_move = b.tail_has.begun.one_move; bytes = tt };
           first = both_none b.stripes b.tail_has.segments b.each b.tail_has.begun.legal b.gives b.tail_has.gives.this;
-          within = omega (arith, b.fewer);
-          behind = λ many. absurd (omega (arith, many, b.fewer));
+          within = omega arith;
+          behind = λ many. absurd (omega arith);
           valid = v;
         }),
       )

@@ -47,7 +47,7 @@ pub accepted : (bytes : List ℕ) (h : Fields) → HeaderOf bytes h → header_f
 accepted bytes h p =
     let private : slice_index bytes 19 % 8 ≢ 6 = λ e. p.accepted.no_table (ap (λ o. o % 8) (sym p.options) ∙ e) in
     skip _ (not_above_20 (length bytes) p.whole)
-    (skip _ (reserved (slice_index bytes 18) (slice_index bytes 19) p.zero p.order (omega (arith, p.options, p.accepted.options_to)))
+    (skip _ (reserved (slice_index bytes 18) (slice_index bytes 19) p.zero p.order (omega arith))
     (skip _ (layers p.dl p.d)
     (skip _ (planes p.p)
     (skip _ (sizes (long_at 4 bytes) (long_at 8 bytes) (long_at 12 bytes) (subst (λ n. 1 ≤ n) (sym p.xd) p.accepted.width_from) (subst (λ n. 1 ≤ n) (sym p.yd) p.accepted.height_from) (subst (λ n. 1 ≤ n) (sym p.l0) p.accepted.stripe_from))

@@ -27,7 +27,7 @@ returns-in-Ok-write_held g c =
       among = c.in-Err.ensures.among;
       reads = counts_any _ _ _ c.in-Err.ensures.reads;
       same_input = c.in-Err.ensures.same_input;
-      writes = (c.in-Ok-write_held.ensures.writes.0 ∙ c.in-Err.ensures.writes.counts, (let more = c.write_held-in_default.ensures.writes.1 in let before = c.in-Err.ensures.writes.grows in omega (arith, more, before)), c.write_held-in_default.ensures.writes.2 ∙ c.in-Err.ensures.writes.same_writer);
+      writes = (c.in-Ok-write_held.ensures.writes.0 ∙ c.in-Err.ensures.writes.counts, (let more = c.write_held-in_default.ensures.writes.1 in let before = c.in-Err.ensures.writes.grows in omega arith), c.write_held-in_default.ensures.writes.2 ∙ c.in-Err.ensures.writes.same_writer);
     }
 
 pub returns-in-Err-write_held : goal.returns-in-Err-write_held
@@ -41,5 +41,5 @@ returns-in-Err-write_held g c =
       among = subst IsEncodeFault (sym last) tt;
       reads = counts_written _ _ c.in-Err.fault _ c.in-Err.ensures.reads last;
       same_input = c.in-Err.ensures.same_input;
-      writes = (c.in-Err-write_held.ensures.writes.0 ∙ ap (writes_after _) (c.in-Err.ensures.writes.counts ∙ none _), (let more = c.write_held-in_default.ensures.writes.1 in let before = c.in-Err.ensures.writes.grows in omega (arith, more, before)), c.write_held-in_default.ensures.writes.2 ∙ c.in-Err.ensures.writes.same_writer);
+      writes = (c.in-Err-write_held.ensures.writes.0 ∙ ap (writes_after _) (c.in-Err.ensures.writes.counts ∙ none _), (let more = c.write_held-in_default.ensures.writes.1 in let before = c.in-Err.ensures.writes.grows in omega arith), c.write_held-in_default.ensures.writes.2 ∙ c.in-Err.ensures.writes.same_writer);
     }

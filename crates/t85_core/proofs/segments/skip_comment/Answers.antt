@@ -22,5 +22,5 @@ text-preserved g c = record {
   taken = Consumes-more _ _ _ _ _ c.text.invariant.taken c.in_ok-next.ensures.ok;
   same_source = c.in_ok-next.ensures.same_source ∙ c.text.invariant.same_source;
   unfailed = c.in_ok-next.ensures.counts ∙ c.text.invariant.unfailed;
-  no_more = omega (arith, c.in_ok-next.ensures.no_more, c.text.invariant.no_more);
+  no_more = omega arith;
 }

@@ -54,9 +54,9 @@ loop-taken-preserved g c =
     ] in
     let more = rw take_rest at c.fill-taken.ensures.text in
     record {
-      within = omega (arith, c.fill-taken.ensures.bound, length-drop c.loop-taken.taken c.args.bytes.now, length-take (length c.args.bytes.now - c.loop-taken.taken) (drop c.loop-taken.taken c.args.bytes.now), c.loop-taken.invariant.within);
+      within = omega (arith, length-drop c.loop-taken.taken c.args.bytes.now, length-take (length c.args.bytes.now - c.loop-taken.taken) (drop c.loop-taken.taken c.args.bytes.now));
       text = rw take-add (Appends-more _ _ _ _ _ (Appends-keeps _ _ _ _ c.loop-taken.invariant.text kept) more);
-      grows = rw c.fill-taken.ensures.lent (let before = c.loop-taken.invariant.grows in omega (arith, grows, before));
+      grows = rw c.fill-taken.ensures.lent (let before = c.loop-taken.invariant.grows in omega arith);
       unfailed = rw c.fill-taken.ensures.lent (unfailed ∙ c.loop-taken.invariant.unfailed);
       same_writer = rw c.fill-taken.ensures.lent (same_writer ∙ c.loop-taken.invariant.same_writer);
     }

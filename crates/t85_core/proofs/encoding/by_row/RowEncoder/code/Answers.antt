@@ -41,14 +41,14 @@ returns-clause-able g c =
     let put = (c.in_ok-code_row.ensures.row somewhere.0 somewhere.1 c.requires.lined.0.0 somewhere.2 c.requires.lined.0.1).ok in
     record {
       wide = able.wide;
-      offset = omega (arith, offset, able.offset);
+      offset = omega arith;
       named = able.named;
       most = able.most;
-      few = omega (arith, c.requires.ready.1.fewer);
+      few = omega arith;
       few_rows = able.few_rows;
-      rows_to = omega (arith, c.requires.ready.0);
-      inside = omega (arith, able.inside);
-      events = events_more c.args.self.now.in_stripe c.args.self.now.size.width _ _ able.events (omega (arith, more, able.wide));
+      rows_to = omega arith;
+      inside = omega arith;
+      events = events_more c.args.self.now.in_stripe c.args.self.now.size.width _ _ able.events (omega arith);
       going = c.in_ok-code_row.ensures.able.0;
       somewhere = (_, somewhere.1 ++ put.more, put.codes);
     }
