@@ -42,8 +42,8 @@ at_top t current = went (t == current) where
   went true = tt
   went false = refl
 
-moved_there : (t current : ℕ) → t ≡ offset_at (named_move t current) 0 current
-moved_there t current = went (t == current) refl where
+moved_there : {t : ℕ} (current : ℕ) → t ≡ offset_at (named_move t current) 0 current
+moved_there {t} current = went (t == current) refl where
   went : (b : Bool) → (t == current) ≡ b → t ≡ offset_at (option_map (λ u. (0, u)) (if b then None else Some t)) 0 current
   went true is = grind (arith, nat_tests)
   went false is = refl
@@ -54,16 +54,16 @@ pub copied : {copy : Held} {place place' width width' : ℕ} {bytes bytes' : Lis
 copied {place'} {width} {width'} {bytes} same at wide is = is ∙ ap (λ p. rows_at p width bytes) at ∙ ap (λ n. rows_at place' n bytes) (sym wide) ∙ ap (rows_at place' width') same
 
 -- before the first row
-pub trial_begins : {learned : List Estimate} {t width : ℕ} (e : RowEncoder) (window window' : Held) (carry : StripeStart) (trial : Trial) → IsCarriedTo e learned window carry → trial.kept.offset ≡ t →
+pub trial_begins : {learned : List Estimate} {t width : ℕ} {window' : Held} {trial : Trial} (e : RowEncoder) (window : Held) (carry : StripeStart) → IsCarriedTo e learned window carry → trial.kept.offset ≡ t →
     trial.kept.previous_typical ≡ e.kept.previous_typical → trial.learned ≡ learned → EncoderIsAt trial.encoder start [] → trial.sink.bytes ≡ 0 → is_two_line trial.tally ≡ e.shape.two_line →
     most_of trial.tally ≡ e.most_offset → CountsLines trial.tally width 0 [] → (IsLined window → window' ≡ window) → IsTried (trial_from e carry t) [] width trial window'
-trial_begins {t} e window window' carry trial carried offset previous taught codes none two_line most counts stays = record {
+trial_begins {t} e window carry carried offset previous taught codes none two_line most counts stays = record {
   pushed = [];
   codes = codes;
   bytes = none;
   is_held = record {
     at_top = at_top t carry.offset;
-    offset_is = offset ∙ moved_there t carry.offset;
+    offset_is = offset ∙ moved_there carry.offset;
     previous_is = previous ∙ carried.previous_is;
     learned_is = taught ∙ carried.learned_is;
     third = carried.third;
@@ -127,15 +127,15 @@ module _ (cost : ℕ → ℕ) where
 
 -- ---- of each raster that may come
 
-holds : (a b c d f : Bool) → (a && (b && (c && (d && f)))) ≡ true → (b ≡ true) × (d ≡ true)
-holds true true true true f h = (refl, refl)
-holds true true true false f h = absurd (let bot : ⊥ = cc in bot)
-holds true true false d f h = absurd (let bot : ⊥ = cc in bot)
-holds true false c d f h = absurd (let bot : ⊥ = cc in bot)
-holds false b c d f h = absurd (let bot : ⊥ = cc in bot)
+holds : {b d : Bool} (a c f : Bool) → (a && (b && (c && (d && f)))) ≡ true → (b ≡ true) × (d ≡ true)
+holds {b = true} {d = true} true true f h = (refl, refl)
+holds {b = true} {d = false} true true f h = absurd (let bot : ⊥ = cc in bot)
+holds {b = true} true false f h = absurd (let bot : ⊥ = cc in bot)
+holds {b = false} true c f h = absurd (let bot : ⊥ = cc in bot)
+holds false c f h = absurd (let bot : ⊥ = cc in bot)
 
-is_zero : (n : ℕ) → (n == 0) ≡ true → n ≡ 0
-is_zero n h = grind (arith, nat_tests)
+is_zero : {n : ℕ} → (n == 0) ≡ true → n ≡ 0
+is_zero h = grind (arith, nat_tests)
 
 is_some_row : (n : ℕ) → nat_le 1 n ≡ true → 1 ≤ n
 is_some_row n h = grind (arith, nat_tests)
@@ -145,8 +145,8 @@ pub rows_held : (e : RowEncoder) (n : ℕ) → are_stripe_rows e n ≡ true → 
 rows_held e n is =
     let count = n / bytes_of_row e.size.width in
     let most = min e.stripe_rows (e.size.height - e.rows) in
-    let h = holds (not e.is_closed) (e.in_stripe == 0) (n % bytes_of_row e.size.width == 0) (nat_le 1 count) ((count == most) || (e.may_end && nat_le count most)) is in
-    (is_zero e.in_stripe h.0, is_some_row count h.1)
+    let h = holds (not e.is_closed) (n % bytes_of_row e.size.width == 0) ((count == most) || (e.may_end && nat_le count most)) is in
+    (is_zero h.0, is_some_row count h.1)
 
 module _ {image : Image} {rows : List (List Bool)} {window : Held} {origin : Origin} {text : Option (List ℕ)} {raster : Raster} (double : EventsDouble) (short : CodeIsShort) (part : List (List Bool)) (e : RowEncoder) (learning : Learning) (w : Waits image rows (view_of e learning) window origin text) (m : MayCome image (rows ++ part) raster) (enough : length part ≡ min image.settings.stripe_rows (height raster - length rows)) (some_part : 1 ≤ length part) where
   abbrev s : Settings
@@ -183,13 +183,13 @@ module _ {image : Image} {rows : List (List Bool)} {window : Held} {origin : Ori
   whole t = stands_anew w.stripes (names t) (names_before t w.i image.settings.named)
 
   goes : (t : ℕ) → CourseGoes (named t) raster w.i w.at part
-  goes t = stripe_comes w.plan_is.some (whole t) part (come t) within many
+  goes t = stripe_comes w.plan_is.some (whole t) (come t) within many
 
-  named_is : (t : ℕ) → named_for (named t) w.at.stripe ≡ Some t
-  named_is t = ap (λ j. slice_index_or (names t) j None) w.stripes.stripe_is ∙ name_at t w.i image.settings.named
+  named_is : {t : ℕ} → named_for (named t) w.at.stripe ≡ Some t
+  named_is {t} = ap (λ j. slice_index_or (names t) j None) w.stripes.stripe_is ∙ name_at w.i image.settings.named
 
   move_is : (t : ℕ) → next_move (named t) raster.width w.at ≡ named_move t c.offset
-  move_is t = ap (λ name. option_map (λ u. (0, u)) (moved_to name c.offset (chosen_offset (mode_of s.options).two_line s.most_offset raster.width w.at.counted c.offset))) (named_is t)
+  move_is t = ap (λ name. option_map (λ u. (0, u)) (moved_to name c.offset (chosen_offset (mode_of s.options).two_line s.most_offset raster.width w.at.counted c.offset))) (named_is)
 
   -- the length of the stripe that is coded in this mode after this move
   length_with : Mode → Option (ℕ × ℕ) → ℕ
@@ -225,13 +225,13 @@ module _ {image : Image} {rows : List (List Bool)} {window : Held} {origin : Ori
       ∙ ap (λ lines. best_offset (plain_lines (mode_of s.options) lines) (candidates (mode_of s.options).two_line s.most_offset)) (goes t).lines
 
   course : CourseAt image.settings raster w.i w.at
-  course = (stands_here w.stripes).course raster (come_first rows part m) within
+  course = (stands_here w.stripes).course raster (come_first part m) within
 
   offset_is : e.kept.offset ≡ offset_to s raster w.i
   offset_is = on.is_held.offset_is ∙ course.offset
 
   index_is : length rows / l ≡ w.i
-  index_is = (whole_rows l w.i w.plan_is.some w.stripes.many).0
+  index_is = (whole_rows l w.plan_is.some w.stripes.many).0
 
   pub found : {lag : Option ℕ} {t : ℕ} → lag ≡ tried_lag (trial_from e c e.kept.offset) part → IsShortest (stripe_length s raster w.i) (e.kept.offset ∷ 0 ∷ option_to_list lag) t →
       IsBestFor s raster (length rows / l) t

@@ -98,7 +98,7 @@ module _ (s : Settings) (form : Form) (width height' : ℕ) (in_old in_new out_o
     whole rest = record {
       rows = i.rows;
       rest = rest;
-      holds = rows_hold form width i.read.given rest i.rows i.read.are_rows;
+      holds = rows_hold i.read.given i.read.are_rows;
       many = i.many;
       appends = i.appended;
       denotes = law s (raster_of width i.rows) are proper (subst (λ n. IsAnnounced s n) (sym i.many) (not_low (unwrap_or s.announced height') height' low));
@@ -117,7 +117,7 @@ module _ (s : Settings) (form : Form) (width height' : ℕ) (in_old in_new out_o
     begun left at_end = record {
       rows = i.rows;
       rest = i.part.given ++ left;
-      holds = subst (λ z. HoldsRows form z width i.rows (i.part.given ++ left)) (sym (append_assoc i.read.given i.part.given left)) (rows_hold form width i.read.given (i.part.given ++ left) i.rows i.read.are_rows);
+      holds = subst (λ z. HoldsRows form z width i.rows (i.part.given ++ left)) (sym (append_assoc i.read.given i.part.given left)) (rows_hold i.read.given i.read.are_rows);
       few = i.few;
       part = record { front = i.part.given; rest = left; bytes_are = refl; shows = i.part.has_fault; at_end = at_end };
       text = i.bytes;
@@ -154,7 +154,7 @@ module _ (s : Settings) (form : Form) (width height' : ℕ) (in_old in_new out_o
         record {
           rows = i.rows;
           rest = i.part;
-          holds = rows_hold form width i.read.given i.part i.rows i.read.are_rows;
+          holds = rows_hold i.read.given i.read.are_rows;
           few = i.few;
           fault = i.fault;
           part = i.short;
@@ -164,13 +164,13 @@ module _ (s : Settings) (form : Form) (width height' : ℕ) (in_old in_new out_o
         },
       )
 
-  pub encoded : (held : List ℕ) → CodeDenotes → AreSettings s → is_low s height' ≡ false → IsSize width height' → (reads_old reads_new writes_old writes_new : ℕ) (r : Result (Unit {0}) Fault) →
+  pub encoded : {r : Result (Unit {0}) Fault} (held : List ℕ) → CodeDenotes → AreSettings s → is_low s height' ≡ false → IsSize width height' → (reads_old reads_new writes_old writes_new : ℕ) →
       OnOk r (ImageCoded (layout_of form width height') (λ raster. jbg s raster) (passage in_old in_new out_old out_new)) →
       ((fault : PbmFault) → IsErrOf r (Pbm fault) → ImageShort s (layout_of form width height') (λ raster n. jbg_up_to s raster n) (λ raster. jbg s raster) (passage in_old in_new out_old out_new) fault) →
-      IfErr r IsEncodeFault → CountsBoth reads_old reads_new r → CountsWrite writes_old writes_new r →
-      known_length out_old ≤ known_length out_new → ImageFront (layout_of form width height') (λ raster. jbg s raster) (passage in_old in_new out_old (append_known out_new held)) →
+      IfErr r IsEncodeFault → CountsBoth reads_old reads_new r → CountsWrite writes_old writes_new r → known_length out_old ≤ known_length out_new →
+      ImageFront (layout_of form width height') (λ raster. jbg s raster) (passage in_old in_new out_old (append_known out_new held)) →
       Encode s (layout_of form width height') (between in_old in_new reads_old reads_new) (between out_old out_new writes_old writes_new) r
-  encoded held law are low size reads_old reads_new writes_old writes_new r ok short among reads writes grows begun = record {
+  encoded {r} held law are low size reads_old reads_new writes_old writes_new ok short among reads writes grows begun = record {
     low = λ e. absurd (none_low r among e);
     not_low = always r low;
     told_if_low = always_err r low;
@@ -195,8 +195,9 @@ encodes_at {s} {before} {output} {r} contents failures form width height' in_old
     (subst (λ z. Encode s (layout_of form width height') (between in_old in_new reads_old reads_new) (between before (contents output) z (failures output)) r) n e))
 
 -- an announced height that is too low is reported at once
-pub told_low : (s : Settings) (form : Form) (width height' : ℕ) (known text : Option (List ℕ)) (reads writes : ℕ) → 1 ≤ width → is_low s height' ≡ true → Encode s (layout_of form width height') (between known known reads reads) (between text text writes writes) (Err AnnouncedLow)
-told_low s form width height' known text reads writes some is = record {
+pub told_low : {s : Settings} (form : Form) (width height' : ℕ) (known text : Option (List ℕ)) (reads writes : ℕ) → 1 ≤ width → is_low s height' ≡ true →
+    Encode s (layout_of form width height') (between known known reads reads) (between text text writes writes) (Err AnnouncedLow)
+told_low {s} form width height' known text reads writes some is = record {
   low = λ _. (is, Keeps-same known, Keeps-same text);
   not_low = tt;
   told_if_low = λ n. absurd (n refl);
@@ -210,7 +211,7 @@ told_low s form width height' known text reads writes some is = record {
     record {
       rows = [];
       rest = [];
-      holds = rows_hold form width [] [] [] refl;
+      holds = rows_hold [] refl;
       few = omega arith;
       fault = pbm.Truncated;
       part = nothing_short form width some;

@@ -36,9 +36,9 @@ moved_first None offset = refl
 moved_first (Some t) offset = refl
 
 -- and at no later row
-moved_later : (choice : Option ℕ) (r offset : ℕ) → 0 < r → offset_at (option_map (λ t. (0, t)) choice) r offset ≡ offset
-moved_later None r offset h = refl
-moved_later (Some t) r offset h =
+moved_later : {offset : ℕ} (choice : Option ℕ) (r : ℕ) → 0 < r → offset_at (option_map (λ t. (0, t)) choice) r offset ≡ offset
+moved_later None r h = refl
+moved_later {offset} (Some t) r h =
     let test : nat_eq 0 r ≡ false = grind (arith, nat_tests) in
     ap (λ b. if b then t else offset) test
 
@@ -53,7 +53,7 @@ module _ (s : Settings) (raster : Raster) where
   rows_later choice [] r b h = refl
   rows_later choice (row ∷ rows) r b h =
       rows_later choice rows (r + 1) (after_row c.mode (option_map (λ t. (0, t)) choice) r b row (next_flag c.mode b row)) (omega arith)
-      ∙ moved_later choice r b.offset h
+      ∙ moved_later choice r h
 
   -- the offset of a stripe
   pub offset_after : (choice : Option ℕ) (rows : List (List Bool)) (b : RowStart) → 0 < length rows → (after_rows c.mode (option_map (λ t. (0, t)) choice) 0 b rows).offset ≡ unwrap_or choice b.offset

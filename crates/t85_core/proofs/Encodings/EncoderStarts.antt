@@ -68,8 +68,8 @@ move_is_before {i} s raster at stripe counted offset =
     chosen (suc i) = refl
 
 -- the top of the image
-pub course_begins : (s : Settings) (raster : Raster) → CourseAt s raster 0 (first_encoder_start raster.width)
-course_begins s raster = record {
+pub course_begins : {s : Settings} {raster : Raster} → CourseAt s raster 0 (first_encoder_start raster.width)
+course_begins {s} {raster} = record {
   stripe = refl;
   carry = record {
     learned = refl;

@@ -22,9 +22,9 @@ module _ (p : Place) (reset : Bool) (pushed : List ℕ) (text mid text' : Option
   }
 
   -- the code was, and then the marker or a beginning of it
-  pub entity_ended : {u : Unit {0}} → CodeFinished {E = Fault} p pushed text mid (Ok u) → (answer : Result (Unit {0}) Fault) → OnOk answer (Appends mid text' (marker_bytes reset)) →
+  pub entity_ended : {u : Unit {0}} {answer : Result (Unit {0}) Fault} → CodeFinished {E = Fault} p pushed text mid (Ok u) → OnOk answer (Appends mid text' (marker_bytes reset)) →
       OnErr answer (AppendsBeginning mid text' (marker_bytes reset)) → CodeEnded p reset pushed text text' answer
-  entity_ended c (Ok v) ok cut = record {
+  entity_ended {answer = (Ok v)} c ok cut = record {
     code = c.code;
     is = c.is;
     more = c.more ++ marker_bytes reset;
@@ -32,7 +32,7 @@ module _ (p : Place) (reset : Bool) (pushed : List ℕ) (text mid text' : Option
     ok = Appends-more text mid text' c.more (marker_bytes reset) c.ok ok;
     cut = tt;
   }
-  entity_ended c (Err f) ok cut = record {
+  entity_ended {answer = (Err f)} c ok cut = record {
     code = c.code;
     is = c.is;
     more = c.more ++ marker_bytes reset;

@@ -37,8 +37,8 @@ pub written_few : {E : Type 0} (most : ℕ) (old new : Option (List ℕ)) (text 
 written_few most old new text (Ok u) few whole cut = beginning_few most few (beginning_all whole)
 written_few most old new text (Err f) few whole cut = beginning_few most few cut
 
-pub kept_few : {others most : ℕ} {old mid : Option (List ℕ)} (new : Option (List ℕ)) → AppendsBeside others most old mid → Keeps mid new → AppendsBeside others most old new
-kept_few {old} {mid} new a kept = record { bytes = a.bytes; appended = Appends-keeps old mid new a.bytes a.appended kept; few = a.few }
+pub kept_few : {others most : ℕ} {old mid new : Option (List ℕ)} → AppendsBeside others most old mid → Keeps mid new → AppendsBeside others most old new
+kept_few {old} {mid} {new} a kept = record { bytes = a.bytes; appended = Appends-keeps old mid new a.bytes a.appended kept; few = a.few }
 
 -- of what was appended and is held back in part, that part which was written
 pub handed_few : (most : ℕ) (old new : Option (List ℕ)) (held : List ℕ) → known_length old ≤ known_length new → AppendsAtMost most old (append_known new held) → AppendsAtMost most old new

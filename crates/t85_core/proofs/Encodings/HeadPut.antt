@@ -47,7 +47,7 @@ pub head_refused : {form : Form} {text text' : Option (List ℕ)} (s : Settings)
 head_refused s width height' known p = record {
   rows = [];
   few = omega arith;
-  read = reads_none _ width known;
+  read = reads_none;
   bytes = p.front;
   begins = λ raster b. record {
     rest = p.rest ++ (stripes_of s raster ++ ending s (height raster));

@@ -70,7 +70,7 @@ module _ (image : Image) (rows : List (List Bool)) (v : RowView) (window : Held)
     all raster b = subst (λ z. MayCome image z raster) r.all b
 
     first : (raster : Raster) → MayCome image rows raster → MayCome image r.whole raster
-    first raster b = come_first r.whole r.part (all raster b)
+    first raster b = come_first r.part (all raster b)
 
     whole : length rows / image.settings.stripe_rows ≡ r.i
     whole =

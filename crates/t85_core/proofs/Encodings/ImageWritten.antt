@@ -19,9 +19,9 @@ use Rattle.t85_core.proofs.Bytes.Streams.{Appends-keeps, Consumes-more, known_be
 
 module _ {in_old mid : Option (List ℕ)} {reads_old reads_mid width height' : ℕ} {form : Form} (s : Settings) (in_new : Option (List ℕ)) (reads_new : ℕ) (out_old out_new : Option (List ℕ)) (writes_old writes_new : ℕ) (t : TakesHeader in_old mid form width height') (counted : reads_mid ≡ reads_old) where
   -- a write failed, or the flush after all that was written
-  cut_at : {given : List ℕ} → is_low s height' ≡ false → (out_last : Option (List ℕ)) → Keeps out_new out_last → Consumes mid in_new given →
+  cut_at : {given : List ℕ} {out_last : Option (List ℕ)} → is_low s height' ≡ false → Keeps out_new out_last → Consumes mid in_new given →
       WritesCodeFront s (layout_of form width height') given out_old out_new → (all : List ℕ) × Consumes in_old in_new all × WritesStreamFront s all out_old out_last
-  cut_at {given} fits out_last keeps taken w = (
+  cut_at {given} {out_last} fits keeps taken w = (
     t.front ++ given,
     Consumes-more in_old mid in_new t.front given t.taken taken,
     record {
@@ -33,10 +33,10 @@ module _ {in_old mid : Option (List ℕ)} {reads_old reads_mid width height' : �
     },
   )
 
-  pub image_unflushed : {writes_last : ℕ} (flushed : Bool) (out_last : Option (List ℕ)) →
+  pub image_unflushed : {writes_last : ℕ} {flushed : Bool} (out_last : Option (List ℕ)) →
       Encode s (layout_of form width height') (between mid in_new reads_mid reads_new) (between out_old out_new writes_old writes_new) (Ok tt) → Keeps out_new out_last →
       writes_last ≡ one_more writes_new → ToJbg s (between in_old in_new reads_old reads_new) (between out_old out_last writes_old writes_last) flushed (Err Write)
-  image_unflushed flushed out_last e keeps more = record {
+  image_unflushed out_last e keeps more = record {
     whole = tt;
     taken = tt;
     flushed_last = tt;
@@ -44,17 +44,17 @@ module _ {in_old mid : Option (List ℕ)} {reads_old reads_mid width height' : �
     low = λ is. absurd (let bot : ⊥ = cc in bot);
     no_memory = λ is. absurd (let bot : ⊥ = cc in bot);
     unread = λ is. absurd (let bot : ⊥ = cc in bot);
-    cut = λ _. cut_at e.not_low out_last keeps e.front.1 e.front.2;
+    cut = λ _. cut_at e.not_low keeps e.front.1 e.front.2;
     among = λ _ _ n. absurd (n refl);
     reads = inl (e.reads ∙ counted);
     writes = more ∙ ap one_more e.writes;
   }
 
   -- rows are missing, or a device failed
-  pub image_broken : {f : Fault} → is_low s height' ≡ false → (flushed : Bool) →
+  pub image_broken : {f : Fault} {flushed : Bool} → is_low s height' ≡ false →
       Encode s (layout_of form width height') (between mid in_new reads_mid reads_new) (between out_old out_new writes_old writes_new) (Err f) →
       ToJbg s (between in_old in_new reads_old reads_new) (between out_old out_new writes_old writes_new) flushed (Err f)
-  image_broken {f} fits flushed e = record {
+  image_broken {f} fits e = record {
     whole = tt;
     taken = tt;
     flushed_last = tt;
@@ -63,8 +63,8 @@ module _ {in_old mid : Option (List ℕ)} {reads_old reads_mid width height' : �
     low = λ is. absurd (not_low_told (e.low is).0);
     no_memory = λ is. absurd (not_no_memory (subst IsEncodeFault (let same : f ≡ OutOfMemory = cc in same) may));
     unread = λ is. (let u = e.unread is in (t.front ++ u.0, Consumes-more in_old mid in_new t.front u.0 t.taken u.1, inr (some pbm.Truncated u.0 u.2)));
-    cut = λ _. cut_at fits out_new (Keeps-same out_new) e.front.1 e.front.2;
-    among = λ _. among_faults f may;
+    cut = λ _. cut_at fits (Keeps-same out_new) e.front.1 e.front.2;
+    among = λ _. among_faults may;
     reads = subst (λ n. CountsBoth n reads_new (Err f)) counted e.reads;
     writes = e.writes;
   } where

@@ -88,9 +88,9 @@ module _ (image : Image) (rows : List (List Bool)) (v : RowView) (old new : Held
   stands_cleared (inr r) = subst (λ z. Stands image rows v z origin text) (sym (stays (_, r.0.running.is_held.lines_are))) (inr r)
 
 -- what was written of a beginning is a beginning
-pub cut_written : {image : Image} {rows : List (List Bool)} {origin : Origin} (out : Option (List ℕ)) (held : List ℕ) → known_length origin.text ≤ known_length out →
+pub cut_written : {image : Image} {rows : List (List Bool)} {origin : Origin} {out : Option (List ℕ)} (held : List ℕ) → known_length origin.text ≤ known_length out →
     StreamCut image rows origin (append_known out held) → StreamCut image rows origin out
-cut_written out held grows c =
+cut_written held grows c =
     let p = sends_handed held grows c.sent in
     record {
       bytes = p.front;

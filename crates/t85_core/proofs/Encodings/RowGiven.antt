@@ -48,7 +48,7 @@ row_below {width} {row} bytes old some whole keeps packed row_is small mid_is wi
   row_is = packed_is ∙ same_row (pixels_of width bytes);
   above_is = ap (λ h. h.above) mid_is ∙ has.row_is;
   second_is = ap (λ h. h.second) mid_is ∙ has.above_is;
-  row_wide = pixels_many width bytes ∙ sym wide ∙ sym (ap (λ h. h.width) mid_is);
+  row_wide = pixels_many bytes ∙ sym wide ∙ sym (ap (λ h. h.width) mid_is);
   above_wide = has.row_wide ∙ sym (ap (λ h. h.width) mid_is);
   second_wide = has.above_wide ∙ sym (ap (λ h. h.width) mid_is);
 } where

@@ -13,10 +13,10 @@ use Rattle.t85_core.proofs.Encodings.RowSteps.{stands_waiting}
 
 -- ---- names
 
-pub name_at : (t i : ℕ) (names : List (Option ℕ)) → slice_index_or (with_name t i names) i None ≡ Some t
-name_at t zero names = refl
-name_at t (suc i) [] = name_at t i []
-name_at t (suc i) (name ∷ names) = name_at t i names
+pub name_at : {t : ℕ} (i : ℕ) (names : List (Option ℕ)) → slice_index_or (with_name t i names) i None ≡ Some t
+name_at zero names = refl
+name_at (suc i) [] = name_at i []
+name_at (suc i) (name ∷ names) = name_at i names
 
 pub names_before : (t i : ℕ) (names : List (Option ℕ)) → SameNames i names (with_name t i names)
 names_before t zero names j lt = absurd (omega arith)
@@ -50,8 +50,8 @@ plan_named names is = record {
 }
 
 -- where whole stripes came
-pub whole_rows : {n : ℕ} (l i : ℕ) → 1 ≤ l → n ≡ i * l → (n / l ≡ i) × (n % l ≡ 0)
-whole_rows {n} l i some is =
+pub whole_rows : {n i : ℕ} (l : ℕ) → 1 ≤ l → n ≡ i * l → (n / l ≡ i) × (n % l ≡ 0)
+whole_rows {n} {i} l some is =
     let sum : n ≡ i * l + 0 = omega arith in
     (ap (λ z. z / l) sum ∙ stripe_at l i 0 (omega arith), ap (λ z. z % l) is ∙ Rattle.std.proofs.Math.Nat.mul-mod_left i l)
 
@@ -61,7 +61,7 @@ pub offset_named : (t : ℕ) (image : Image) (rows : List (List Bool)) (v : RowV
 offset_named t image rows v window origin text none so =
     let w = stands_waiting image rows v window origin text none so in
     let names : List (Option ℕ) = with_name t w.i image.settings.named in
-    let at = whole_rows image.settings.stripe_rows w.i w.plan_is.some w.stripes.many in (
+    let at = whole_rows image.settings.stripe_rows w.plan_is.some w.stripes.many in (
       at.1,
       subst (λ i. Stands (naming image (with_name t i image.settings.named)) rows (record v { named = Some t }) window origin text) (sym at.0) (inl (record {
         plan_is = plan_named names w.plan_is;
@@ -78,20 +78,20 @@ offset_named t image rows v window origin text none so =
             record {
               is_held = on.is_held;
               is_tallied = record { two_line = on.is_tallied.two_line; most = on.is_tallied.most; lines = on.is_tallied.lines; counts = on.is_tallied.counts; lines_are = on.is_tallied.lines_are };
-              named_is = sym (ap (λ j. slice_index_or names j None) w.stripes.stripe_is ∙ name_at t w.i image.settings.named);
+              named_is = sym (ap (λ j. slice_index_or names j None) w.stripes.stripe_is ∙ name_at w.i image.settings.named);
             };
         sent = w.sent;
       })),
     )
 
 -- an offset is chosen only if no stripe is in progress
-pub name_waits : (closed offered : Bool) (n : ℕ) → (closed && ((n == 0) && offered)) ≡ true → n ≡ 0
-name_waits true true n e = by (n == 0) refl e where
+pub name_waits : {n : ℕ} (closed offered : Bool) → (closed && ((n == 0) && offered)) ≡ true → n ≡ 0
+name_waits {n} true true e = by (n == 0) refl e where
   by : (b : Bool) → (n == 0) ≡ b → (b && true) ≡ true → n ≡ 0
   by true is e = grind (arith, nat_tests)
   by false is e = absurd (let bot : ⊥ = cc in bot)
-name_waits true false n e = by (n == 0) e where
+name_waits {n} true false e = by (n == 0) e where
   by : (b : Bool) → (b && false) ≡ true → n ≡ 0
   by true e = absurd (let bot : ⊥ = cc in bot)
   by false e = absurd (let bot : ⊥ = cc in bot)
-name_waits false offered n e = absurd (let bot : ⊥ = cc in bot)
+name_waits false offered e = absurd (let bot : ⊥ = cc in bot)

@@ -48,9 +48,9 @@ pub held_by_carried : {b : RowStart} {kept : Kept} {learned : List Estimate} {wi
 held_by_carried h = record { at_top = tt; offset_is = h.offset_is; previous_is = h.previous_is; learned_is = h.learned_is; third = h.third; lines_are = h.lines_are }
 
 -- the move was made at the first row
-pub moved_before : (move : Option (ℕ × ℕ)) (r offset : ℕ) → IfSome move (λ m. m.0 ≡ 0) → offset ≡ offset_at move (suc r) offset
-moved_before None r offset h = refl
-moved_before (Some move) r offset h = ap (λ b. if b then move.1 else offset) (sym other) where
+pub moved_before : {offset : ℕ} (move : Option (ℕ × ℕ)) (r : ℕ) → IfSome move (λ m. m.0 ≡ 0) → offset ≡ offset_at move (suc r) offset
+moved_before None r h = refl
+moved_before {offset} (Some move) r h = ap (λ b. if b then move.1 else offset) (sym other) where
   other : (move.0 == suc r) ≡ false
   other = let test : nat_eq move.0 (suc r) ≡ false = grind (arith, nat_tests, h) in test
 
@@ -128,7 +128,7 @@ module _ {image : Image} {rows : List (List Bool)} {v : RowView} {before : Held}
           rest = p.rest ++ (stuffed (code_of (row_start_in image.settings image.width w.at later).state.place) ++ marker_bytes image.settings.reset);
           bytes_are = ap (λ z. z ++ (stuffed (code_of (row_start_in image.settings image.width w.at later).state.place) ++ marker_bytes image.settings.reset)) p.text_is ∙ append_assoc p.front p.rest (stuffed (code_of (row_start_in image.settings image.width w.at later).state.place) ++ marker_bytes image.settings.reset);
         })
-        (subst (λ z. MayCome image z raster) (sym (append-nil rows)) (come_first rows (row ∷ []) b))
+        (subst (λ z. MayCome image z raster) (sym (append-nil rows)) (come_first (row ∷ []) b))
         (let long = come_long b in omega (arith, length-append rows (row ∷ [])));
   } where
     on : IsStart image.settings image.width w.at v before
@@ -215,7 +215,7 @@ module _ {image : Image} {rows : List (List Bool)} {v : RowView} {before : Held}
       codes = subst (λ n. EncoderIsAt e n.state.place (r.pushed ++ put.more)) (sym next_is) (subst (λ n. EncoderIsAt e n.place (r.pushed ++ put.more)) state_is put.codes);
       is_held = subst (λ n. IsHeldBy move n (after_rows mode move 0 (first_row_start c) (r.part ++ row ∷ [])) kept learned window) (sym many) (subst (λ n. IsHeldBy move (suc (length r.part)) n kept learned window) (sym next_is) (record {
         at_top = r.running.is_held.at_top;
-        offset_is = put.offset_is ∙ r.running.is_held.offset_is ∙ moved_before move (length r.part) (offset_at move (length r.part) b.offset) r.running.is_held.at_top;
+        offset_is = put.offset_is ∙ r.running.is_held.offset_is ∙ moved_before move (length r.part) r.running.is_held.at_top;
         previous_is = put.flag_is ∙ ap (λ m. may_be_typical m (lines_with b row)) r.plan_is.shape_is.mode_is;
         learned_is = put.taught ∙ ap (λ n. n.learned) state_is;
         third = b.second;
@@ -317,13 +317,13 @@ module _ {image : Image} {rows : List (List Bool)} {v : RowView} {window : Held}
   } where
     moved : (n : ℕ) → length r.part ≡ n → offset_at (next_move image.settings image.width r.at) (length r.part) last.offset ≡ last.offset
     moved zero e = absurd (omega (arith, some_part))
-    moved (suc n) e = ap (λ k. offset_at (next_move image.settings image.width r.at) k last.offset) e ∙ sym (moved_before (next_move image.settings image.width r.at) n last.offset r.running.is_held.at_top)
+    moved (suc n) e = ap (λ k. offset_at (next_move image.settings image.width r.at) k last.offset) e ∙ sym (moved_before (next_move image.settings image.width r.at) n r.running.is_held.at_top)
 
   counted_none : (lines : List Lines) → counted_of v ≡ None → IsCountedTo image.width (counted_of v) v.tally lines → (current : ℕ) → CountsLines v.tally image.width current []
   counted_none lines none counts = subst (λ o. IsCountedTo image.width o v.tally lines) none counts
 
-  counted_some : {offset : ℕ} (lines : List Lines) → counted_of v ≡ Some offset → IsCountedTo image.width (counted_of v) v.tally lines → CountsLines v.tally image.width offset lines
-  counted_some lines is counts = subst (λ o. IsCountedTo image.width o v.tally lines) is counts
+  counted_some : {offset : ℕ} {lines : List Lines} → counted_of v ≡ Some offset → IsCountedTo image.width (counted_of v) v.tally lines → CountsLines v.tally image.width offset lines
+  counted_some {lines} is counts = subst (λ o. IsCountedTo image.width o v.tally lines) is counts
 
   -- what was counted chooses the next move
   tallied : (r.i + 1) * image.settings.stripe_rows < image.limit → IsTallied image.settings image.width (next_encoder_start image.settings image.width r.at r.part) v.tally
@@ -346,7 +346,7 @@ module _ {image : Image} {rows : List (List Bool)} {v : RowView} {window : Held}
       two_line = r.running.two_line;
       most = r.running.most;
       lines = lines;
-      counts = subst (λ o. CountsLines v.tally image.width o lines) same (counted_some lines (ap (λ z. if z then Some (if v.plan.reset then 0 else v.kept.offset) else None) is) r.running.tallied);
+      counts = subst (λ o. CountsLines v.tally image.width o lines) same (counted_some (ap (λ z. if z then Some (if v.plan.reset then 0 else v.kept.offset) else None) is) r.running.tallied);
       lines_are = λ _. refl;
     }
     by_count false is counts = record {
@@ -447,8 +447,8 @@ module _ (image : Image) (count : ℕ) (rows : List (List Bool)) (v : RowView) (
 
 -- ---- an image ends
 
-count_is : (n l c : ℕ) → 1 ≤ l → n ≤ c * l → c * l < n + l → stripe_count n l ≡ c
-count_is n l c some from to = went (less_or_not c (stripe_count n l)) (less_or_not (stripe_count n l) c) where
+count_is : {c : ℕ} (n l : ℕ) → 1 ≤ l → n ≤ c * l → c * l < n + l → stripe_count n l ≡ c
+count_is {c} n l some from to = went (less_or_not c (stripe_count n l)) (less_or_not (stripe_count n l) c) where
   times : (n ≤ stripe_count n l * l) × (stripe_count n l * l < n + l)
   times = div_ceil_times n l some
 
@@ -499,7 +499,7 @@ module _ {image : Image} {rows : List (List Bool)} (v : RowView) (plan : IsPlan 
     announced_is = announced_at;
     sent = subst (Sends origin text')
         ((stands_here w.stripes).front_is (raster_of image.width rows) itself
-        ∙ ap (jbg_up_to image.settings (raster_of image.width rows)) (sym (count_is (length rows) image.settings.stripe_rows w.i plan.some (omega arith) (omega arith)))) w.sent;
+        ∙ ap (jbg_up_to image.settings (raster_of image.width rows)) (sym (count_is (length rows) image.settings.stripe_rows plan.some (omega arith) (omega arith)))) w.sent;
   }
 
 module _ {image : Image} {rows whole : List (List Bool)} {i : ℕ} {at : EncoderStart} {front : List ℕ} (count : ℕ) (part : List (List Bool)) (some : 1 ≤ image.settings.stripe_rows) (all : rows ≡ whole ++ part) (stripes : StripesWhole image i whole at front) (some_part : 0 < length part) (few : length part ≤ image.settings.stripe_rows) (m : MayCome image rows (raster_of image.width rows)) where
@@ -510,15 +510,15 @@ module _ {image : Image} {rows whole : List (List Bool)} {i : ℕ} {at : Encoder
   pub last_stripe : front ++ stripe_bytes (next_stripe image.settings image.width at part) ≡ jbg_up_to image.settings (raster_of image.width rows) (stripe_count (length rows) image.settings.stripe_rows)
   last_stripe =
       stripe_more some stripes part (subst (λ z. MayCome image z (raster_of image.width rows)) all m) (omega (arith, sum, some_part)) (omega (arith, sum, few))
-      ∙ ap (jbg_up_to image.settings (raster_of image.width rows)) (sym (count_is (length rows) image.settings.stripe_rows (i + 1) some (omega (arith, sum, few, product)) (omega (arith, sum, some_part, product))))
+      ∙ ap (jbg_up_to image.settings (raster_of image.width rows)) (sym (count_is (length rows) image.settings.stripe_rows some (omega (arith, sum, few, product)) (omega (arith, sum, some_part, product))))
     where
       product : (i + 1) * image.settings.stripe_rows ≡ i * image.settings.stripe_rows + 1 * image.settings.stripe_rows
       product = Rattle.std.proofs.Math.Nat.add-mul i 1 image.settings.stripe_rows
 
-pub ended_stripes : {image : Image} {count : ℕ} {rows : List (List Bool)} {v : RowView} {window : Held} {origin : Origin} {mid : Option (List ℕ)} (v' : RowView) (window' : Held) (text' : Option (List ℕ)) →
-    0 < v.rows → (v.plan.may_end ≡ false → v.rows ≡ v.plan.limit) → Runs image rows v window origin mid → StripeEnded image count rows (encoder_at v' window' text') origin →
+pub ended_stripes : {image : Image} {count : ℕ} {rows : List (List Bool)} {v v' : RowView} {window : Held} {origin : Origin} {mid text' : Option (List ℕ)} (window' : Held) → 0 < v.rows →
+    (v.plan.may_end ≡ false → v.rows ≡ v.plan.limit) → Runs image rows v window origin mid → StripeEnded image count rows (encoder_at v' window' text') origin →
     StripesEnded image rows v' origin text'
-ended_stripes {image} {count} {rows} {v} {origin} v' window' text' some whole r e = record {
+ended_stripes {image} {count} {rows} {v} {origin} {text'} window' some whole r e = record {
   rows_are = e.come.many;
   reset_is = e.plan_is.reset_is;
   announced_is = e.plan_is.announced_is ∙ same_announced image.settings.announced image.limit (length rows) (λ none. sym (all_rows v r.plan_is r.come some whole none));
@@ -556,7 +556,7 @@ none_stand {image} v plan rows_is none nameless unnamed codes offset previous le
   i = 0;
   at = first_encoder_start image.width;
   front = head_of image.settings image.width image.limit;
-  stripes = none_whole image;
+  stripes = none_whole;
   in_stripe = none;
   codes = codes;
   names_to = (let none_are : length image.settings.named ≡ 0 = ap length unnamed in omega arith);

@@ -22,8 +22,8 @@ use Rattle.t85_core.proofs.Encodings.EncoderStarts.{CourseGoes, course_begins, c
 use Rattle.t85_core.proofs.Encodings.RowsOn.{RowsGoOn, front_splits, rows_continue, rows_go_on}
 
 -- a raster that begins with rows begins with the first of them
-pub come_first : {image : Image} {raster : Raster} (first rows : List (List Bool)) → MayCome image (first ++ rows) raster → MayCome image first raster
-come_first {raster} first rows b = record {
+pub come_first : {image : Image} {raster : Raster} {first : List (List Bool)} (rows : List (List Bool)) → MayCome image (first ++ rows) raster → MayCome image first raster
+come_first {raster} {first} rows b = record {
   proper = b.proper;
   width_is = b.width_is;
   height_to = b.height_to;
@@ -35,7 +35,7 @@ come_first {raster} first rows b = record {
 
 -- it has them all
 pub come_long : {image : Image} {rows : List (List Bool)} {raster : Raster} → MayCome image rows raster → length rows ≤ height raster
-come_long {rows} {raster} b = (front_splits raster.rows b.first).0
+come_long {rows} {raster} b = (front_splits b.first).0
 
 pub same_announced : (o : Option ℕ) (a b : ℕ) → (o ≡ None → a ≡ b) → unwrap_or o a ≡ unwrap_or o b
 same_announced None a b h = h refl
@@ -49,17 +49,17 @@ come_head {image} {raster} b =
     (same_announced image.settings.announced image.limit (height raster) (λ none. sym (b.height_is none)))
 
 -- nothing but the head
-none_stands : (image : Image) → FrontStands image 0 [] (first_encoder_start image.width) (head_of image.settings image.width image.limit)
-none_stands image = record {
+none_stands : {image : Image} → FrontStands image 0 [] (first_encoder_start image.width) (head_of image.settings image.width image.limit)
+none_stands {image} = record {
   front_is = λ raster b. come_head b ∙ sym (append-nil (head_of image.settings raster.width (height raster)));
-  course = λ raster b _. subst (λ w. CourseAt image.settings raster 0 (first_encoder_start w)) b.width_is (course_begins image.settings raster);
+  course = λ raster b _. subst (λ w. CourseAt image.settings raster 0 (first_encoder_start w)) b.width_is (course_begins);
 }
 
-pub none_whole : (image : Image) → StripesWhole image 0 [] (first_encoder_start image.width) (head_of image.settings image.width image.limit)
-none_whole image = record {
+pub none_whole : {image : Image} → StripesWhole image 0 [] (first_encoder_start image.width) (head_of image.settings image.width image.limit)
+none_whole = record {
   many = omega arith;
   stripe_is = refl;
-  stands = λ names _. none_stands (naming image names);
+  stands = λ names _. none_stands;
 }
 
 -- where the encoder stands with the names that were given
@@ -141,10 +141,10 @@ module _ {image : Image} {i : ℕ} {whole : List (List Bool)} {at : EncoderStart
   here = stands_here so
 
   -- the stripe of a raster that begins so
-  pub stripe_comes : {raster : Raster} (part : List (List Bool)) → MayCome image (whole ++ part) raster → i * l < height raster → length part ≡ min l (height raster - i * l) →
+  pub stripe_comes : {raster : Raster} {part : List (List Bool)} → MayCome image (whole ++ part) raster → i * l < height raster → length part ≡ min l (height raster - i * l) →
       CourseGoes image.settings raster i at part
-  stripe_comes {raster} part b within enough =
-      course_step part some (inside_of (height raster) l i some within) (here.course raster (come_first whole part b) within)
+  stripe_comes {raster} {part} b within enough =
+      course_step part some (inside_of (height raster) l i some within) (here.course raster (come_first part b) within)
       (rows_continue (white_row raster.width) raster.rows whole part b.first so.many) enough
 
   next_bytes : {part : List (List Bool)} {raster : Raster} → raster.width ≡ image.width → CourseGoes image.settings raster i at part →
@@ -155,8 +155,8 @@ module _ {image : Image} {i : ℕ} {whole : List (List Bool)} {at : EncoderStart
   pub stripe_more : {raster : Raster} (part : List (List Bool)) → MayCome image (whole ++ part) raster → i * l < height raster → length part ≡ min l (height raster - i * l) →
       front ++ stripe_bytes (next_stripe image.settings image.width at part) ≡ jbg_up_to image.settings raster (i + 1)
   stripe_more {raster} part b within enough =
-      ap (λ z. z ++ stripe_bytes (next_stripe image.settings image.width at part)) (here.front_is raster (come_first whole part b))
-      ∙ ap (λ z. jbg_up_to image.settings raster i ++ z) (next_bytes b.width_is (stripe_comes part b within enough))
+      ap (λ z. z ++ stripe_bytes (next_stripe image.settings image.width at part)) (here.front_is raster (come_first part b))
+      ∙ ap (λ z. jbg_up_to image.settings raster i ++ z) (next_bytes b.width_is (stripe_comes b within enough))
       ∙ sym (up_to_more image.settings raster i)
 
   -- a beginning of each stripe that begins with these rows, after those that are whole
@@ -174,13 +174,13 @@ module _ {image : Image} {i : ℕ} {whole : List (List Bool)} {at : EncoderStart
       })
     where
       first : MayCome image whole raster
-      first = come_first whole part b
+      first = come_first part b
 
       long : length part ≤ min l (height raster - i * l)
       long = (let all = come_long b in omega (arith, all, length-append whole part))
 
       go : RowsGoOn (white_row raster.width) raster.rows (i * l) l part
-      go = rows_go_on (white_row raster.width) raster.rows whole part l b.first so.many long
+      go = rows_go_on whole b.first so.many long
 
       goes : CourseGoes image.settings raster i at (part ++ go.later)
       goes = course_step (part ++ go.later) some (inside_of (height raster) l i some within) (here.course raster first within) go.continues (length-append part go.later ∙ go.many)
@@ -196,7 +196,7 @@ module _ {image : Image} {i : ℕ} {whole : List (List Bool)} {at : EncoderStart
   part_stands part enough = record {
     front_is = λ raster b. stripe_more part b (within raster b) (all raster b);
     course = λ raster b more. subst (λ w. CourseAt image.settings raster (i + 1) (next_encoder_start image.settings w at part)) b.width_is
-        ((stripe_comes part b (within raster b) (all raster b)).next (inside_of (height raster) l (i + 1) some more));
+        ((stripe_comes b (within raster b) (all raster b)).next (inside_of (height raster) l (i + 1) some more));
   } where
     long : (raster : Raster) → MayCome image (whole ++ part) raster → i * l + l ≤ height raster
     long raster b = (let has = come_long b in omega (arith, length-append whole part))

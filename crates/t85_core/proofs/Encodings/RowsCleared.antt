@@ -29,9 +29,9 @@ module _ {width : ℕ} {w1 w2 w3 : Held} (some : 1 ≤ width) (w0 : Held) (wide 
       row_is = is w0.current (sym (ap (λ w. length w.second) (e2 ∙ ap (next_cleared width) e1)) ∙ long3) (subst (λ w. AreSmall w.current) third small3);
       above_is = is w0.above (sym (ap (λ w. length w.second) e1) ∙ long2) (subst (λ w. AreSmall w.current) (e2 ∙ ap (next_cleared width) e1) small2);
       second_is = is w0.second long1 (subst (λ w. AreSmall w.current) e1 small1);
-      row_wide = pixels_many width (masked_row width w0.current) ∙ sym wide;
-      above_wide = pixels_many width (masked_row width w0.above) ∙ sym wide;
-      second_wide = pixels_many width (masked_row width w0.second) ∙ sym wide;
+      row_wide = pixels_many (masked_row width w0.current) ∙ sym wide;
+      above_wide = pixels_many (masked_row width w0.above) ∙ sym wide;
+      second_wide = pixels_many (masked_row width w0.second) ∙ sym wide;
     },
   ) where
     is : (row : List ℕ) → length row ≡ bytes_of_row width → AreSmall (masked_row width row) → masked_row width row ≡ packed_row (pixels_of width (masked_row width row))

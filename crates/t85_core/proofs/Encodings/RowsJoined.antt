@@ -11,8 +11,8 @@ rows_append form width xs ys [] more p q = subst (λ z. AreRows form width (z ++
 rows_append form width xs ys (row ∷ rows) more p q = (p.0, p.1 ++ ys, ap (λ z. z ++ ys) p.2 ∙ append_assoc p.0 p.1 ys, p.3, rows_append form width p.1 ys rows more p.4 q)
 
 -- nothing was read
-pub reads_none : (form : Form) (width : ℕ) (known : Option (List ℕ)) → ReadsRows form width known known []
-reads_none form width known = record { given = []; taken = nothing known; are_rows = refl } where
+pub reads_none : {form : Form} {width : ℕ} {known : Option (List ℕ)} → ReadsRows form width known known []
+reads_none {known} = record { given = []; taken = nothing known; are_rows = refl } where
   nothing : (known : Option (List ℕ)) → Consumes known known []
   nothing None = tt
   nothing (Some a) = refl

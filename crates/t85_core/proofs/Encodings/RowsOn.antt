@@ -11,15 +11,15 @@ part_continues {n} d first rows rest all_is many k lt =
     ∙ get_right first (rows ++ rest) k d
     ∙ get_left rows rest k d lt
 
-pub front_splits : {X : Type 0} {front : List X} (all : List X) → take (length front) all ≡ front → (length front ≤ length all) × (all ≡ front ++ drop (length front) all)
-front_splits {front} all is =
+pub front_splits : {X : Type 0} {front all : List X} → take (length front) all ≡ front → (length front ≤ length all) × (all ≡ front ++ drop (length front) all)
+front_splits {front} {all} is =
     let long : length front ≤ length all = (let e : length front ≡ min (length front) (length all) = ap length (sym is) ∙ length-take (length front) all in omega arith) in
     (long, sym (split_at (length front) all long).0 ∙ ap (λ z. z ++ drop (length front) all) is)
 
 -- Rows of an image after its first n rows.
 pub rows_continue : {X : Type 0} {n : ℕ} (d : X) (all first rows : List X) → take (length (first ++ rows)) all ≡ first ++ rows → length first ≡ n → Continues d all n rows
 rows_continue d all first rows is many =
-    part_continues d first rows (drop (length (first ++ rows)) all) ((front_splits all is).1 ∙ append_assoc first rows (drop (length (first ++ rows)) all)) many
+    part_continues d first rows (drop (length (first ++ rows)) all) ((front_splits is).1 ∙ append_assoc first rows (drop (length (first ++ rows)) all)) many
 
 -- a beginning of a stripe's rows, and those that come after it
 pub record RowsGoOn {X : Type 0} (d : X) (all : List X) (n l : ℕ) (part : List X) : Type 0 where
@@ -27,9 +27,9 @@ pub record RowsGoOn {X : Type 0} (d : X) (all : List X) (n l : ℕ) (part : List
   pub many : length part + length later ≡ min l (length all - n)
   pub continues : Continues d all n (part ++ later)
 
-pub rows_go_on : {X : Type 0} {n : ℕ} (d : X) (all first part : List X) (l : ℕ) → take (length (first ++ part)) all ≡ first ++ part → length first ≡ n → length part ≤ min l (length all - n) →
+pub rows_go_on : {X : Type 0} {n l : ℕ} {d : X} {all part : List X} (first : List X) → take (length (first ++ part)) all ≡ first ++ part → length first ≡ n → length part ≤ min l (length all - n) →
     RowsGoOn d all n l part
-rows_go_on {X} {n} d all first part l is many few = record {
+rows_go_on {X} {n} {l} {d} {all} {part} first is many few = record {
   later = later;
   many = omega (arith, later_many);
   continues = part_continues d first (part ++ later) rest all_is many;
@@ -54,7 +54,7 @@ rows_go_on {X} {n} d all first part l is many few = record {
 
   all_is : all ≡ first ++ ((part ++ later) ++ rest)
   all_is =
-      (front_splits all is).1
+      (front_splits is).1
       ∙ append_assoc first part behind
       ∙ ap (λ z. first ++ (part ++ z)) (sym (split_at (min l (length all - n) - length part) behind enough).0)
       ∙ ap (λ z. first ++ z) (sym (append_assoc part later rest))

@@ -26,27 +26,27 @@ put_current {told} {width} start end bytes row place_is width_is long wide put =
 pub same_row : (row : List Bool) → pbm.packed_row row ≡ packed_row row
 same_row row = refl
 
-numbers_many : (k n : ℕ) → length (pbm.numbers_from k n) ≡ n
-numbers_many k zero = refl
-numbers_many k (suc n) = ap suc (numbers_many (k + 1) n)
+numbers_many : {n : ℕ} (k : ℕ) → length (pbm.numbers_from k n) ≡ n
+numbers_many {n = zero} k = refl
+numbers_many {n = (suc n)} k = ap suc (numbers_many (k + 1))
 
-pub pixels_many : (width : ℕ) (bytes : List ℕ) → length (pixels_of width bytes) ≡ width
-pixels_many width bytes = length-map (pbm.numbers_from 0 width) (λ x. pixel bytes x == 1) ∙ numbers_many 0 width
+pub pixels_many : {width : ℕ} (bytes : List ℕ) → length (pixels_of width bytes) ≡ width
+pixels_many {width} bytes = length-map (pbm.numbers_from 0 width) (λ x. pixel bytes x == 1) ∙ numbers_many 0
 
-pub row_wide : (form : Form) (width : ℕ) (given : List ℕ) (row : List Bool) → IsRow form width given row → length row ≡ width
-row_wide Raw width given row p = ap length p.1 ∙ pixels_many width given
-row_wide Plain width given row p = p.0
+pub row_wide : {width : ℕ} (form : Form) (given : List ℕ) (row : List Bool) → IsRow form width given row → length row ≡ width
+row_wide Raw given row p = ap length p.1 ∙ pixels_many given
+row_wide Plain given row p = p.0
 
-pub row_taken : {form : Form} {width : ℕ} {mid : Held} {given row : List ℕ} (known known' : Option (List ℕ)) (old : Held) → mid ≡ turned old → old.width ≡ width → IsRowOf form width given row →
+pub row_taken : {form : Form} {width : ℕ} {mid old : Held} {given row : List ℕ} {known known' : Option (List ℕ)} → mid ≡ turned old → old.width ≡ width → IsRowOf form width given row →
     Consumes known known' given → RowTaken form width known known' old (record { width = mid.width; current = row; above = mid.above; second = mid.second })
-row_taken {form} {width} {given} {row} known known' old mid_is wide is taken = record {
+row_taken {form} {width} {given} {row} mid_is wide is taken = record {
   row = is.pixels;
   read = record { given = given; taken = taken; are_rows = (given, [], sym (append-nil given), is.is_row, refl) };
   below = λ lines has. record {
     row_is = is.packed ∙ same_row is.pixels;
     above_is = ap (λ h. h.above) mid_is ∙ has.row_is;
     second_is = ap (λ h. h.second) mid_is ∙ has.above_is;
-    row_wide = row_wide form width given is.pixels is.is_row ∙ sym wide ∙ sym (ap (λ h. h.width) mid_is);
+    row_wide = row_wide form given is.pixels is.is_row ∙ sym wide ∙ sym (ap (λ h. h.width) mid_is);
     above_wide = has.row_wide ∙ sym (ap (λ h. h.width) mid_is);
     second_wide = has.above_wide ∙ sym (ap (λ h. h.width) mid_is);
   };

@@ -140,7 +140,7 @@ module _ {part : List (List Bool)} {before : Held} {trial : Trial} (shape : Shap
     bytes = took_counted trial.sink trial'.sink coded.encodes.more coded.encodes.taken (length h.pushed) h.bytes ∙ ap (λ n. n % 2 ^ 64) (sym (length-append h.pushed coded.encodes.more));
     is_held = subst (λ n. IsHeldBy move n (after_rows mode move 0 (first_row_start carry) (part ++ row ∷ [])) trial'.kept trial'.learned window) (sym many) (subst (λ n. IsHeldBy move (suc (length part)) n trial'.kept trial'.learned window) (sym next_is) (record {
       at_top = h.is_held.at_top;
-      offset_is = coded.offset_is ∙ h.is_held.offset_is ∙ moved_before move (length part) (offset_at move (length part) b.offset) h.is_held.at_top;
+      offset_is = coded.offset_is ∙ h.is_held.offset_is ∙ moved_before move (length part) h.is_held.at_top;
       previous_is = coded.flag_is;
       learned_is = coded.encodes.taught ∙ ap (λ n. n.learned) state_is;
       third = b.second;

@@ -23,7 +23,7 @@ rows-init g c =
     let white = subst (λ w. HasLines (held c.clear.new.self) (white_lines w)) c.requires.width c.clear.ensures.white in
     let put = c.in_ok-write_head.ensures in
     record {
-      come = ([], refl, reads_none c.args.form c.args.size.width _, c.new-encoder.ensures.first _ c.first-learning.ensures (held c.clear.new.self) _ _ white put.ok);
+      come = ([], refl, reads_none, c.new-encoder.ensures.first _ c.first-learning.ensures (held c.clear.new.self) _ _ white put.ok);
       going = c.new-encoder.ensures.begins.1;
       ready = c.new-encoder.ensures.begins.0;
       many = c.new-encoder.ensures.begins.2;

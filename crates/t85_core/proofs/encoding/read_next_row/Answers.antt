@@ -10,7 +10,7 @@ returns-in-Ok-clause-ok g c =
     let wide : length c.read_row.new.row ≡ div_ceil c.turn.new.self.width 8 = search rules in
     subst (λ w. RowTaken c.args.form c.args.size.width (g.R.Input.view c.args.source.now).remaining (g.R.Input.view c.read_row.new.input).remaining (held c.args.window.now) w)
     (sym (put_current c.current_row-current.result.start c.current_row-current.result.end c.turn.new.self.rows.now c.read_row.new.row c.place.ensures.place c.width.ensures c.turn.new.self.long wide c.current_row-current.ensures.put))
-    (row_taken _ _ (held c.args.window.now) c.turn.ensures.turned c.requires.width c.in-Ok.ensures.value c.in-Ok.ensures.taken)
+    (row_taken c.turn.ensures.turned c.requires.width c.in-Ok.ensures.value c.in-Ok.ensures.taken)
 
 pub returns-in-Err-clause-short : goal.returns-in-Err-clause-short
 returns-in-Err-clause-short g c = (c.in-Err.fault, refl, record { given = c.in-Err.ensures.given; taken = c.in-Err.ensures.taken; has_fault = c.in-Err.ensures.fault; at_end = c.in-Err.ensures.at_end })

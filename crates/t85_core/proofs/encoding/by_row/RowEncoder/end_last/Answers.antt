@@ -15,7 +15,7 @@ returns-else-self-eq0-clause-ok g c =
     map_ok c.end_stripe.result (λ ended image rows origin so.
     let runs : 0 < c.args.self.now.in_stripe = omega arith in
     let r = stands_running image rows (view_of c.args.self.now c.args.learning.now) (held c.args.window.now) origin (g.P.ByteTarget.view c.args.target.now).text runs so in
-    ended_stripes (view_of c.end_stripe.new.self c.end_stripe.new.learning) (held c.end_stripe.new.window) (g.P.ByteTarget.view c.end_stripe.new.target).text c.requires.ready.0.0 c.requires.ready.0.1 r (ended image rows origin r)) c.end_stripe.ensures.ok
+    ended_stripes (held c.end_stripe.new.window) c.requires.ready.0.0 c.requires.ready.0.1 r (ended image rows origin r)) c.end_stripe.ensures.ok
 
 pub returns-else-self-eq0-clause-cut : goal.returns-else-self-eq0-clause-cut
 returns-else-self-eq0-clause-cut g c =

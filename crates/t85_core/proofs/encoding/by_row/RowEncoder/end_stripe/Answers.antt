@@ -47,6 +47,6 @@ returns-in_err-end_entity-clause-few g c =
 pub returns-clause-few : goal.returns-clause-few
 returns-clause-few g c =
     let somewhere = c.requires.able.somewhere in
-    kept_few _
+    kept_few
     (code_ended_few c.writing_laws.ensures c.args.self.now.encoder somewhere.0 [] somewhere.1 somewhere.2 _ _
     (c.in_ok-end_entity.ensures.ended somewhere.0 somewhere.1 (subst (λ e. EncoderIsAt e somewhere.0 somewhere.1) (sym c.replace-encoder.ensures.value) somewhere.2))) c.write_held.ensures.text

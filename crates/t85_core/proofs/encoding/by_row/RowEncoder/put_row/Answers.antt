@@ -33,7 +33,7 @@ returns-clause-cut g c _ =
     let grown = stands_grown image rows (view_of c.args.self.now c.args.learning.now) (held c.args.window.now) origin (g.W.Output.view c.args.output.now).contents so in
     let more : known_length (g.W.Output.view c.args.output.now).contents ≤ known_length (g.W.Output.view after.output.now).contents = subst (λ z. known_length z ≤ known_length (g.W.Output.view after.output.now).contents) lent c.put_held.ensures.writes.1 in
     moved (λ w. (g.W.Output.view w).contents) (StreamCut image (rows ++ pixels_of c.args.self.now.size.width c.args.row.now ∷ []) origin) (search rules)
-    (cut_written (g.W.Output.view after.output.now).contents (held_of after.bytes after.at after.end) (omega arith)
+    (cut_written (held_of after.bytes after.at after.end) (omega arith)
     (cut (pixels_of c.args.self.now.size.width c.args.row.now) (held c.clear_padding.new.window) c.take_row.ensures.below image rows origin
     (stands_cleared image rows (view_of c.args.self.now c.args.learning.now) (held c.args.window.now) (held c.clear_padding.new.window) origin _ c.clear_padding.ensures.stays (subst (λ z. Stands image rows (view_of c.args.self.now c.args.learning.now) (held c.args.window.now) origin z) (sym text_is) so))))) c.put_held.ensures.cut
 
