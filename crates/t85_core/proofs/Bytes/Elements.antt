@@ -36,7 +36,7 @@ length-push xs x = let e = length-append xs (x ∷ []) in omega arith
 
 pub map_push : {X Y : Type 0} (f : X → Y) (xs : List X) (x : X) (ys : List X) → map f (xs ++ x ∷ ys) ≡ map f xs ++ f x ∷ map f ys
 map_push f [] x ys = refl
-map_push f (z ∷ xs) x ys = ap (λ u. f z ∷ u) (map_push f xs x ys)
+map_push f (z ∷ xs) x ys = rw (map_push f xs x ys)
 
 -- lists with the same elements are the same
 pub same_list : {X : Type 0} (d : X) (a b : List X) → length a ≡ length b → ((i : ℕ) → i < length a → slice_index_or a i d ≡ slice_index_or b i d) → a ≡ b
@@ -45,8 +45,8 @@ same_list d [] (y ∷ b) l h = absurd (omega arith)
 same_list d (x ∷ a) [] l h = absurd (omega arith)
 same_list d (x ∷ a) (y ∷ b) l h =
     let l' : length a ≡ length b = omega arith in
-    let first : x ≡ y = h 0 (omega arith) in
-    let rest : a ≡ b = same_list d a b l' (λ i lt. h (suc i) (omega arith)) in
+    let first = h 0 (omega arith) in
+    let rest = same_list d a b l' (λ i lt. h (suc i) (omega arith)) in
     ap (λ u. u ∷ a) first ∙ ap (λ u. y ∷ u) rest
 
 -- a longer list with the same first elements
@@ -55,7 +55,7 @@ longer_is d [] [] l h = absurd (omega arith)
 longer_is d [] (y ∷ b) l h = (y, b, refl)
 longer_is d (x ∷ a) [] l h = absurd (omega arith)
 longer_is d (x ∷ a) (y ∷ b) l h =
-    let first : x ≡ y = h 0 (omega arith) in
+    let first = h 0 (omega arith) in
     let r = longer_is d a b (omega arith) (λ i lt. h (suc i) (omega arith)) in
     (r.0, r.1, ap (λ u. y ∷ u) r.2 ∙ ap (λ u. u ∷ (a ++ r.0 ∷ r.1)) (sym first))
 

@@ -21,19 +21,19 @@ pub Ends-at : {ending f : Fault} {a b : Option (List ℕ)} {Q : List ℕ → Fau
 Ends-at {ending} {a} {b} {Q} given taken same other q = record {
   given = given;
   taken = taken;
-  has_fault = subst (λ e. Q given e) (sym same) q;
+  has_fault = rw same q;
   at_end = λ h. absurd (other h);
 }
 
 -- the exit of a `?` that gives a fault back
 pub exit : {T : Type 0} (P : Fault → Type 0) (r : Result T Fault) {e : Fault} → IsErrAnd r (λ y. y ≡ e) → P e → IfErr r P
 exit P (Ok x) a p = tt
-exit P (Err y) a p = subst P (sym a) p
+exit P (Err y) a p = rw a p
 
 -- the next byte is missing
 pub Ends-missing : {a b c : Option (List ℕ)} {f : Fault} (Q : List ℕ → Fault → Type 0) (front : List ℕ) → Consumes a b front → Q front Truncated → Ends Truncated b c (λ given fault. (given ≡ []) × (fault ≡ Truncated)) f → Ends Truncated a c Q f
 Ends-missing Q front taken q e = Ends-after front taken (λ given f p.
-    subst (λ x. Q (front ++ given) x) (sym p.1) (subst (λ xs. Q xs Truncated) (sym (ap (λ z. front ++ z) p.0 ∙ append-nil front)) q)) e
+    rw (p.1, p.0, append-nil front) q) e
 
 -- what follows from the fault that a `?` passed on
 pub exit_of : {T : Type 0} {P : Type 0} (r : Result T Fault) {e f : Fault} → IsErrAnd r (λ y. y ≡ e) → (e ≡ f → P) → IsErrOf r f → P

@@ -46,8 +46,8 @@ pub next_taken : (bytes : List ℕ) (at end : ℕ) (a : Option (List ℕ)) → a
 next_taken bytes at end a some within =
     let n : end - at ≡ suc (end - (at + 1)) = omega arith in
     let front : held_of bytes at end ≡ get_or bytes at 0 ∷ held_of bytes (at + 1) end =
-    ap (λ k. take k (drop at bytes)) n ∙ ap (take (suc (end - (at + 1)))) (drop-cons bytes at 0 (omega arith)) ∙ ap (λ k. get_or bytes at 0 ∷ take (end - (at + 1)) (drop k bytes)) (sym (add-one at)) in
-    subst (λ z. Consumes (prepend_known z a) (prepend_known (held_of bytes (at + 1) end) a) (get_or bytes at 0 ∷ [])) (sym front) (taken a)
+    rw (n, drop-cons bytes at 0 (omega arith), ← add-one at) in
+    rw front (taken a)
   where
     taken : (a : Option (List ℕ)) → Consumes (prepend_known (get_or bytes at 0 ∷ held_of bytes (at + 1) end) a) (prepend_known (held_of bytes (at + 1) end) a) (get_or bytes at 0 ∷ [])
     taken None = tt
@@ -56,12 +56,12 @@ next_taken bytes at end a some within =
 -- so many bytes of those that are held
 pub some_taken : (bytes : List ℕ) (at count end : ℕ) (a : Option (List ℕ)) → at + count ≤ end → Consumes (prepend_known (held_of bytes at end) a) (prepend_known (held_of bytes (at + count) end) a) (take count (held_of bytes at end))
 some_taken bytes at count end a fits =
-    subst (λ z. Consumes (prepend_known (held_of bytes at end) a) (prepend_known z a) (take count (held_of bytes at end))) (sym (held_after bytes at count end fits)) (consumes_held count (held_of bytes at end) a)
+    rw (held_after bytes at count end fits) (consumes_held count (held_of bytes at end) a)
 
 -- where none is held, the known bytes are those that the input has still to give
 pub known_unheld : {at end : ℕ} (bytes : List ℕ) (a : Option (List ℕ)) → at ≡ end → prepend_known (held_of bytes at end) a ≡ a
 known_unheld bytes None e = refl
-known_unheld bytes (Some a) e = ap (λ z. Some (z ++ a)) (none_held bytes e)
+known_unheld bytes (Some a) e = rw (none_held bytes e)
 
 pub held_long : (bytes : List ℕ) (at end : ℕ) → at ≤ end → end ≤ length bytes → length (held_of bytes at end) ≡ end - at
 held_long bytes at end ordered within = omega (arith, length-take (end - at) (drop at bytes), length-drop at bytes)
@@ -76,11 +76,11 @@ kept_last {most} bytes at end a ordered within most_is front back is long =
     let sum = ap length is ∙ length-append front back in
     let few : length front ≡ (end - at) - most = omega arith in
     let fits : at + ((end - at) - most) ≤ end = omega arith in
-    let rest : held_of bytes (at + ((end - at) - most)) end ≡ drop ((end - at) - most) (held_of bytes at end) = held_after bytes at ((end - at) - most) end fits in
-    let back_is : held_of bytes (at + ((end - at) - most)) end ≡ back = rest ∙ ap (drop ((end - at) - most)) is ∙ drop_at front back ((end - at) - most) few in
+    let rest = held_after bytes at ((end - at) - most) end fits in
+    let back_is = rest ∙ ap (drop ((end - at) - most)) is ∙ drop_at front back ((end - at) - most) few in
     let front_is : take ((end - at) - most) (held_of bytes at end) ≡ front = ap (take ((end - at) - most)) is ∙ take_at front back ((end - at) - most) few in (
       back_is,
-      subst (λ z. Consumes (prepend_known (held_of bytes at end) a) (prepend_known (held_of bytes (at + ((end - at) - most)) end) a) z) front_is (some_taken bytes at ((end - at) - most) end a fits),
+      rw (← front_is) (some_taken bytes at ((end - at) - most) end a fits),
     )
 
 -- bytes were read behind the first ones

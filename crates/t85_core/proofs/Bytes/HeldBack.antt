@@ -13,19 +13,19 @@ pub keeps_written : {rest : List ℕ} (a b c : Option (List ℕ)) (whole front b
 keeps_written None b c whole front back k p e = tt
 keeps_written (Some a) None c whole front back k p e = absurd k
 keeps_written (Some a) (Some b) None whole front back k p e = absurd p
-keeps_written (Some a) (Some b) (Some c) whole front back k p e = ap (λ z. z ++ back) p ∙ append_assoc b front back ∙ ap (λ z. b ++ z) (sym e) ∙ k
+keeps_written (Some a) (Some b) (Some c) whole front back k p e = rw (p, append_assoc b front back, ← e) k
 
 pub keeps_failed : (a b c : Option (List ℕ)) (whole rest : List ℕ) → Keeps (append_known a whole) (append_known b rest) → Keeps b c → Keeps (append_known a whole) (append_known c rest)
 keeps_failed None b c whole rest k p = tt
 keeps_failed (Some a) None c whole rest k p = absurd k
 keeps_failed (Some a) (Some b) None whole rest k p = absurd p
-keeps_failed (Some a) (Some b) (Some c) whole rest k p = ap (λ z. z ++ rest) p ∙ k
+keeps_failed (Some a) (Some b) (Some c) whole rest k p = rw p k
 
 -- all that are held were written
 pub all_written : {rest : List ℕ} (a b : Option (List ℕ)) (whole : List ℕ) → Keeps (append_known a whole) (append_known b rest) → rest ≡ [] → Appends a b whole
 all_written None b whole k e = tt
 all_written (Some a) None whole k e = absurd k
-all_written (Some a) (Some b) whole k e = sym (append-nil b) ∙ ap (λ z. b ++ z) (sym e) ∙ k
+all_written (Some a) (Some b) whole k e = rw (← append-nil b, ← e) k
 
 pub keeps_handed : (a b : Option (List ℕ)) (held : List ℕ) → Appends a b held → Keeps (append_known a held) (append_known b [])
 keeps_handed None b held p = tt
@@ -72,7 +72,7 @@ held_is bytes at end h =
 -- bytes that were put after those that are held
 pub held_grows : {n : ℕ} (bytes more : List ℕ) (at end k : ℕ) → n ≡ end + length more → at ≤ end → end ≤ length bytes → held_of (put_mid end k bytes more) at n ≡ held_of bytes at end ++ more
 held_grows {n} bytes more at end k e h within =
-    let long : length (take end bytes) ≡ end = length-take-le end bytes within in
+    let long = length-take-le end bytes within in
     held_is (put_mid end k bytes more) at n (omega arith)
     ∙ ap (drop at) (take-put_mid end k bytes more n e within)
     ∙ drop-append-le at (take end bytes) more (omega arith)

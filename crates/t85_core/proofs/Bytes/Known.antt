@@ -19,13 +19,12 @@ byte-append given more i h = get_or_append_left given more 0 i h
 
 long-append : (given more : List ℕ) (i : ℕ) → i + 4 ≤ length given → long_at i (given ++ more) ≡ long_at i given
 long-append given more i h =
-    ap (big_number 4) (drop-append-le i given more (omega arith))
-    ∙ big_from-append 4 (drop i given) more (omega (arith, length-drop i given))
+    rw (drop-append-le i given more (omega arith)) (big_from-append 4 (drop i given) more (omega (arith, length-drop i given)))
 
 -- the header's bytes are the first twenty
 pub HeaderOf-append : {given : List ℕ} {h : Fields} (more : List ℕ) → HeaderOf given h → HeaderOf (given ++ more) h
 HeaderOf-append {given} more p =
-    let long : 20 ≤ length given = p.whole in
+    let long = p.whole in
     record {
       whole = omega (arith, length-append given more);
       dl = byte-append given more 0 (omega arith) ∙ p.dl;
@@ -72,7 +71,7 @@ stable_cond false F G p q = q
 
 legal-append : (h : Fields) (bytes more : List ℕ) → 6 ≤ length bytes → is_legal_move h (bytes ++ more) ≡ is_legal_move h bytes
 legal-append h bytes more long =
-    let row : big_number 4 (bytes ++ more) ≡ big_number 4 bytes = big_from-append 4 bytes more (omega arith) in
+    let row = big_from-append 4 bytes more (omega arith) in
     let offset = byte-append bytes more 4 (omega arith) in
     let last = byte-append bytes more 5 (omega arith) in
     rw (row, offset, last) refl
@@ -150,7 +149,7 @@ pub header_known : {old new : Option (List ℕ)} {f : Fault} → Ends ShortHeade
 header_known {old = None} e other = tt
 header_known {old = (Some bytes)} {new = None} e other = absurd e.taken
 header_known {old = (Some bytes)} {new = (Some left)} {f} e other =
-    let same : header_fault e.given ≡ Some f = subst (λ x. header_fault e.given ≡ Some x) (counted-other ShortHeader f other) e.has_fault.1 in
+    let same = subst (λ x. header_fault e.given ≡ Some x) (counted-other ShortHeader f other) e.has_fault.1 in
     ap header_fault e.taken ∙ went (cases_lt (length e.given) 20) same where
       went : (length e.given < 20) ⊎ (20 ≤ length e.given) → header_fault e.given ≡ Some f → header_fault (e.given ++ left) ≡ Some f
       went (inl short) same =

@@ -15,7 +15,7 @@ length-decimal_20 n small = length-decimal-le 20 n (omega arith) (omega arith) s
 -- the digits before the last stand, and then the last
 pub written : (n : ℕ) (old new : List ℕ) → n < 2 ^ 64 → ((10 ≤ n) × (new ≡ old ++ decimal (n / 10))) ⊎ ((n < 10) × (new ≡ old)) → new ++ (48 + n % 10) ∷ [] ≡ old ++ decimal n
 written n old new small (inl h) =
-    ap (λ z. z ++ (48 + n % 10) ∷ []) h.1 ∙ append_assoc old (decimal (n / 10)) ((48 + n % 10) ∷ []) ∙ ap (λ z. old ++ z) (sym (decimal_step n h.0 small))
+    rw (h.1, append_assoc old (decimal (n / 10)) ((48 + n % 10) ∷ []), ← decimal_step n h.0 small)
 written n old new small (inr h) =
     let digit : n % 10 ≡ n = omega arith in
     ap (λ z. z ++ (48 + n % 10) ∷ []) h.1 ∙ ap (λ d. old ++ (48 + d) ∷ []) digit ∙ ap (λ z. old ++ z) (sym (decimal_digit n h.0))
@@ -29,7 +29,7 @@ line_text_cons n (m ∷ more) last (inr h) = ap (λ t. decimal n ++ cond t 10 32
 
 pub line_text_step : (numbers : List ℕ) (i : ℕ) (last : Bool) → i < length numbers → ((i + 1 ≡ length numbers) × (last ≡ true)) ⊎ ((i + 1 ≢ length numbers) × (last ≡ false)) → line_text (drop i numbers) ≡ decimal (get_or numbers i 0) ++ cond last 10 32 ∷ line_text (drop (i + 1) numbers)
 line_text_step numbers i last h e =
-    let left : length (drop (i + 1) numbers) ≡ length numbers - (i + 1) = length-drop (i + 1) numbers in
+    let left = length-drop (i + 1) numbers in
     ap line_text (drop_more numbers i 0 h) ∙ line_text_cons (get_or numbers i 0) (drop (i + 1) numbers) last (at_end (length numbers) (length (drop (i + 1) numbers)) h left e) where
       at_end : (n m : ℕ) → i < n → m ≡ n - (i + 1) → ((i + 1 ≡ n) × (last ≡ true)) ⊎ ((i + 1 ≢ n) × (last ≡ false)) → ((m ≡ 0) × (last ≡ true)) ⊎ ((m ≢ 0) × (last ≡ false))
       at_end n m b e (inl h) = inl (omega arith, h.1)

@@ -11,7 +11,7 @@ pub Sends-more : {o : Origin} {b c : Option (List ℕ)} {xs : List ℕ} (ys : Li
 Sends-more {o} {b} {c} ys p q = record {
   more = p.more ++ ys;
   appended = Appends-more o.text b c p.more ys p.appended q;
-  all = ap (λ z. z ++ ys) p.all ∙ append_assoc o.gone p.more ys;
+  all = rw p.all (append_assoc o.gone p.more ys);
 }
 
 pub Sends-keeps : {o : Origin} {b c : Option (List ℕ)} {xs : List ℕ} → Sends o b xs → Keeps b c → Sends o c xs
@@ -22,13 +22,13 @@ pub sends_after : {o : Origin} {b c : Option (List ℕ)} {xs ys : List ℕ} → 
 sends_after {xs = xs} p q = record {
   front = xs ++ q.front;
   rest = q.rest;
-  text_is = ap (λ z. xs ++ z) q.text_is ∙ sym (append_assoc xs q.front q.rest);
+  text_is = rw (q.text_is, ← append_assoc xs q.front q.rest);
   sends = Sends-more q.front p q.appends;
 }
 
 -- of a longer text, too
 pub sends_longer : {o : Origin} {b : Option (List ℕ)} {xs : List ℕ} (ys : List ℕ) → SendsBeginning o b xs → SendsBeginning o b (xs ++ ys)
-sends_longer ys q = record { front = q.front; rest = q.rest ++ ys; text_is = ap (λ z. z ++ ys) q.text_is ∙ append_assoc q.front q.rest ys; sends = q.sends }
+sends_longer ys q = record { front = q.front; rest = q.rest ++ ys; text_is = rw q.text_is (append_assoc q.front q.rest ys); sends = q.sends }
 
 -- all of it
 pub sends_all : {o : Origin} {b : Option (List ℕ)} {xs : List ℕ} → Sends o b xs → SendsBeginning o b xs
@@ -59,7 +59,7 @@ pub sent_here : {a b : Option (List ℕ)} {xs : List ℕ} → Appends a b xs →
 sent_here {xs = xs} p = record { more = xs; appended = p; all = refl }
 
 pub here_sent : {a b : Option (List ℕ)} {xs : List ℕ} → Sends (here a) b xs → Appends a b xs
-here_sent {a} {b} p = subst (Appends a b) (sym p.all) p.appended
+here_sent {a} {b} p = rw p.all p.appended
 
 -- nothing more than what went elsewhere
 pub sent_behind : {a : Option (List ℕ)} (xs : List ℕ) → Appends a a [] → Sends (behind xs a) a xs

@@ -27,9 +27,7 @@ stuffed_cons b bs x = went (cases_eq b 255) where
 pub stuffed_append : (code more : List ℕ) → stuffed (code ++ more) ≡ stuffed code ++ stuffed more
 stuffed_append [] more = refl
 stuffed_append (b ∷ code) more =
-    sym (append-nil (stuffed (b ∷ (code ++ more)))) ∙ stuffed_cons b (code ++ more) []
-    ∙ ap (λ u. stuff b ++ u) (append-nil (stuffed (code ++ more)) ∙ stuffed_append code more)
-    ∙ sym (stuffed_cons b code (stuffed more))
+    rw (← append-nil (stuffed (b ∷ (code ++ more))), stuffed_cons b (code ++ more) [], append-nil (stuffed (code ++ more)), stuffed_append code more, ← stuffed_cons b code (stuffed more))
 
 -- bytes other than FF are unchanged
 pub stuffed_plain : (code : List ℕ) → ArePlain code → stuffed code ≡ code
@@ -73,7 +71,7 @@ stuffed_last [] e = absurd (omega arith)
 stuffed_last (b ∷ []) e = went (stuff_cases b) (sym (append-nil (stuffed (b ∷ []))) ∙ stuffed_cons b [] [])
   where
     went : ((b ≡ 255) × (stuff b ≡ 255 ∷ 0 ∷ [])) ⊎ ((b ≢ 255) × (stuff b ≡ b ∷ [])) → stuffed (b ∷ []) ≡ stuff b ++ [] → ⊥
-    went (inl p) is = let f : last_of (255 ∷ 0 ∷ []) ≡ 255 = subst (λ z. last_of z ≡ 255) (is ∙ append-nil (stuff b) ∙ p.1) e in omega arith
+    went (inl p) is = let f = subst (λ z. last_of z ≡ 255) (is ∙ append-nil (stuff b) ∙ p.1) e in omega arith
     went (inr p) is = p.0 (subst (λ z. last_of z ≡ 255) (is ∙ append-nil (stuff b) ∙ p.1) e)
 stuffed_last (b ∷ c ∷ code) e = stuffed_last (c ∷ code) (went (stuff_cases c) (sym (append-nil (stuffed (c ∷ code))) ∙ stuffed_cons c code []))
   where

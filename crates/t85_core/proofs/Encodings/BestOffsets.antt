@@ -51,7 +51,7 @@ moved_there {t} current = went (t == current) refl where
 -- a window over a copy of another one's bytes
 pub copied : {copy : Held} {place place' width width' : ℕ} {bytes bytes' : List ℕ} → bytes ≡ bytes' → place ≡ place' → width' ≡ width → copy ≡ rows_at place width bytes →
     copy ≡ rows_at place' width' bytes'
-copied {place'} {width} {width'} {bytes} same at wide is = is ∙ ap (λ p. rows_at p width bytes) at ∙ ap (λ n. rows_at place' n bytes) (sym wide) ∙ ap (rows_at place' width') same
+copied {place'} {width} {width'} {bytes} same at wide is = rw (is, at, ← wide, same)
 
 -- before the first row
 pub trial_begins : {learned : List Estimate} {t width : ℕ} {window' : Held} {trial : Trial} (e : RowEncoder) (window : Held) (carry : StripeStart) → IsCarriedTo e learned window carry → trial.kept.offset ≡ t →
@@ -67,7 +67,7 @@ trial_begins {t} e window carry carried offset previous taught codes none two_li
     previous_is = previous ∙ carried.previous_is;
     learned_is = taught ∙ carried.learned_is;
     third = carried.third;
-    lines_are = subst (λ z. HasLines z (record { row = carry.above; above = carry.second; second = carried.third })) (sym (stays (_, carried.lines_are))) carried.lines_are;
+    lines_are = rw (stays (_, carried.lines_are)) carried.lines_are;
   };
   two_line = two_line;
   most_is = most;
@@ -165,7 +165,7 @@ module _ {image : Image} {rows : List (List Bool)} {window : Held} {origin : Ori
   named t = record image.settings { named = names t }
 
   many : length part ≡ min l (height raster - w.i * l)
-  many = enough ∙ ap (λ n. min l (height raster - n)) w.stripes.many
+  many = rw (enough, w.stripes.many)
 
   within : w.i * l < height raster
   within = omega (arith, many)
@@ -186,10 +186,10 @@ module _ {image : Image} {rows : List (List Bool)} {window : Held} {origin : Ori
   goes t = stripe_comes w.plan_is.some (whole t) (come t) within many
 
   named_is : {t : ℕ} → named_for (named t) w.at.stripe ≡ Some t
-  named_is {t} = ap (λ j. slice_index_or (names t) j None) w.stripes.stripe_is ∙ name_at w.i image.settings.named
+  named_is {t} = rw w.stripes.stripe_is (name_at w.i image.settings.named)
 
   move_is : (t : ℕ) → next_move (named t) raster.width w.at ≡ named_move t c.offset
-  move_is t = ap (λ name. option_map (λ u. (0, u)) (moved_to name c.offset (chosen_offset (mode_of s.options).two_line s.most_offset raster.width w.at.counted c.offset))) (named_is)
+  move_is t = rw named_is
 
   -- the length of the stripe that is coded in this mode after this move
   length_with : Mode → Option (ℕ × ℕ) → ℕ
@@ -236,9 +236,7 @@ module _ {image : Image} {rows : List (List Bool)} {window : Held} {origin : Ori
   pub found : {lag : Option ℕ} {t : ℕ} → lag ≡ tried_lag (trial_from e c e.kept.offset) part → IsShortest (stripe_length s raster w.i) (e.kept.offset ∷ 0 ∷ option_to_list lag) t →
       IsBestFor s raster (length rows / l) t
   found {t} is best =
-      subst (λ i. IsBestFor s raster i t) (sym index_is)
-      (subst (λ o. IsShortest (stripe_length s raster w.i) (o ∷ 0 ∷ option_to_list (counted_lag s raster w.i)) t) offset_is
-      (subst (λ z. IsShortest (stripe_length s raster w.i) (e.kept.offset ∷ 0 ∷ option_to_list z) t) (is ∙ lag_is e.kept.offset) best))
+      rw (index_is, ← offset_is, ← lag_is e.kept.offset, ← is) best
 
   pub found_two : {lag : Option ℕ} {second : Choice} → lag ≡ None → lag ≡ tried_lag (trial_from e c e.kept.offset) part → Chooses (trial_length e c part) e.kept.offset 0 second →
       IsBestFor s raster (length rows / l) second.offset

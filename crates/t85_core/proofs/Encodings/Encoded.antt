@@ -45,7 +45,7 @@ pub are_settings : (o : Options) → AreSettings (settings_of o)
 are_settings o = record {
   options_to = o.no_reserved_bit;
   no_low_bit = o.no_low_bit;
-  no_layer_bit = ap (λ n. n == 1) o.no_layer_bit;
+  no_layer_bit = rw o.no_layer_bit;
   stripe_from = o.some_rows;
   stripe_to = o.not_too_many;
   offset_to = o.in_range;
@@ -101,7 +101,7 @@ module _ (s : Settings) (form : Form) (width height' : ℕ) (in_old in_new out_o
       holds = rows_hold i.read.given i.read.are_rows;
       many = i.many;
       appends = i.appended;
-      denotes = law s (raster_of width i.rows) are proper (subst (λ n. IsAnnounced s n) (sym i.many) (not_low (unwrap_or s.announced height') height' low));
+      denotes = law s (raster_of width i.rows) are proper (rw i.many (not_low (unwrap_or s.announced height') height' low));
     }
 
   module _ (fault : PbmFault) (i : ImageShort s (layout_of form width height') (λ raster n. jbg_up_to s raster n) (λ raster. jbg s raster) (passage in_old in_new out_old out_new) fault) where
@@ -117,7 +117,7 @@ module _ (s : Settings) (form : Form) (width height' : ℕ) (in_old in_new out_o
     begun left at_end = record {
       rows = i.rows;
       rest = i.part.given ++ left;
-      holds = subst (λ z. HoldsRows form z width i.rows (i.part.given ++ left)) (sym (append_assoc i.read.given i.part.given left)) (rows_hold i.read.given i.read.are_rows);
+      holds = rw (append_assoc i.read.given i.part.given left) (rows_hold i.read.given i.read.are_rows);
       few = i.few;
       part = record { front = i.part.given; rest = left; bytes_are = refl; shows = i.part.has_fault; at_end = at_end };
       text = i.bytes;
@@ -132,8 +132,7 @@ module _ (s : Settings) (form : Form) (width height' : ℕ) (in_old in_new out_o
       went None new took end = tt
       went (Some body) None took end = absurd took
       went (Some body) (Some left) took end =
-          subst (λ z. WritesCodeBegun s (layout_of form width height') z fault out_old out_new) (sym took)
-          (subst (λ f. WritesCodeBegun s (layout_of form width height') (given ++ left) f out_old out_new) (fault_stays fault other) (begun left (λ is. end (sym (fault_stays fault other) ∙ is))))
+          rw (took, ← fault_stays fault other) (begun left (λ is. end (sym (fault_stays fault other) ∙ is)))
 
   -- a read failed within the rows
   code_unread : ImageShort s (layout_of form width height') (λ raster n. jbg_up_to s raster n) (λ raster. jbg s raster) (passage in_old in_new out_old out_new) pbm.Read →
@@ -141,7 +140,7 @@ module _ (s : Settings) (form : Form) (width height' : ℕ) (in_old in_new out_o
   code_unread i = (
     given pbm.Read i,
     taken pbm.Read i,
-    subst (λ z. WritesCodeBegun s (layout_of form width height') z pbm.Truncated out_old out_new) (append-nil (given pbm.Read i)) (begun pbm.Read i [] (λ _. refl)),
+    rw (← append-nil (given pbm.Read i)) (begun pbm.Read i [] (λ _. refl)),
   )
 
   -- what is written is a beginning of what was written
@@ -190,9 +189,7 @@ pub encodes_at : {W : Type 0} {s : Settings} {before : Option (List ℕ)} {count
     Encode s (layout_of form width height') (between in_old in_new reads_old reads_new) (between before (contents output) count (failures output)) r →
     Encode s (layout_of form width height') (between in_old in_new reads_old reads_new) (between (contents start) (contents output') (failures start) (failures output')) r
 encodes_at {s} {before} {output} {r} contents failures form width height' in_old in_new reads_old reads_new start text n same e =
-    subst (λ x. Encode s (layout_of form width height') (between in_old in_new reads_old reads_new) (between (contents start) (contents x) (failures start) (failures x)) r) same
-    (subst (λ z. Encode s (layout_of form width height') (between in_old in_new reads_old reads_new) (between z (contents output) (failures start) (failures output)) r) text
-    (subst (λ z. Encode s (layout_of form width height') (between in_old in_new reads_old reads_new) (between before (contents output) z (failures output)) r) n e))
+    rw (← same, ← text, ← n) e
 
 -- an announced height that is too low is reported at once
 pub told_low : {s : Settings} (form : Form) (width height' : ℕ) (known text : Option (List ℕ)) (reads writes : ℕ) → 1 ≤ width → is_low s height' ≡ true →

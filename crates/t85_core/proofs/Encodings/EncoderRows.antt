@@ -67,10 +67,10 @@ module _ (s : Settings) (raster : Raster) where
   -- moves and flags change no lines
   same_stripe : (i : ℕ) → fresh_stripe c i ≡ fresh_stripe d i
   same_stripe zero = refl
-  same_stripe (suc i) = ap (λ t. if slice_index_or d.resets i false then suc i else t) (same_stripe i)
+  same_stripe (suc i) = rw (same_stripe i)
 
   pub same_lines : (y : ℕ) → lines_of c y ≡ lines_of d y
-  same_lines y = ap (λ t. lines_at raster (t * s.stripe_rows) y) (same_stripe (y / s.stripe_rows))
+  same_lines y = rw (same_stripe (y / s.stripe_rows))
 
   pub flag_is_typical : (y : ℕ) → y < height raster → slice_index_or c.flags y false ≡ may_be_typical d.mode (lines_of d y)
   flag_is_typical y lt =
@@ -88,23 +88,22 @@ module _ (s : Settings) (raster : Raster) where
       let r0 : r ≡ r + 0 = omega arith in
       let y0 : y ≡ y + 0 = omega arith in
       record {
-        carried = subst (λ u. CarriedAt c i (r + 0) u b) y0 (subst (λ u. CarriedAt c i u y b) r0 h);
+        carried = rw (← y0, ← r0) h;
         lines = refl;
       }
   rows_down {i} {y} {move} {b} move_is (row ∷ rows) r few within y_is h rows_at =
       let lt : r < s.stripe_rows = omega arith in
       let row_is = continues_first (white_row raster.width) raster.rows y row rows rows_at in
-      let here : lines_with b row ≡ lines_of d y = row_lines c i r y lt y_is b h row (slice_index_or c.flags y false) row_is refl move move_is ∙ same_lines y in
-      let flag_is : slice_index_or c.flags y false ≡ next_flag c.mode b row = flag_is_typical y (omega arith) ∙ ap (may_be_typical c.mode) (sym here) in
+      let here = row_lines c i r y lt y_is b h row (slice_index_or c.flags y false) row_is refl move move_is ∙ same_lines y in
+      let flag_is = flag_is_typical y (omega arith) ∙ ap (may_be_typical c.mode) (sym here) in
       let y_next : y + 1 ≡ i * s.stripe_rows + (r + 1) = omega arith in
-      let rest : RowsDown i (r + 1) (y + 1) move (after_row c.mode move r b row (next_flag c.mode b row)) rows =
+      let rest =
       rows_down {y = y + 1} move_is rows (r + 1) (omega arith) (omega arith) y_next
       (row_carried c i r y lt y_is b h row (next_flag c.mode b row) row_is flag_is move move_is)
       (continues_rest (white_row raster.width) raster.rows y row rows rows_at) in
       let rs : (r + 1) + length rows ≡ r + suc (length rows) = omega arith in
       let ys : (y + 1) + length rows ≡ y + suc (length rows) = omega arith in
       record {
-        carried = subst (λ u. CarriedAt c i (r + suc (length rows)) u (after_rows c.mode move r b (row ∷ rows))) ys
-            (subst (λ u. CarriedAt c i u ((y + 1) + length rows) (after_rows c.mode move r b (row ∷ rows))) rs rest.carried);
-        lines = ap (λ u. u ∷ lines_down row b.above rows) here ∙ ap (λ us. lines_of d y ∷ us) rest.lines;
+        carried = rw (← ys, ← rs) rest.carried;
+        lines = rw (here, rest.lines);
       }

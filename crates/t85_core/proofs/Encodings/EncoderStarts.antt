@@ -27,7 +27,7 @@ next_carry : {c : Coding} {i : ℕ} {reset : Bool} {last : RowStart} → slice_i
     CarriedAt c i c.stripe_rows (suc i * c.stripe_rows) last → CarryAt c (suc i) (suc i * c.stripe_rows) (next_stripe_start c.raster.width reset last)
 next_carry {c} {i} {reset = true} reset_is long k =
     let y : ℕ = suc i * c.stripe_rows in
-    let fresh_here : fresh_stripe c (suc i) ≡ suc i = ap (λ b. if b then suc i else fresh_stripe c i) reset_is in
+    let fresh_here : fresh_stripe c (suc i) ≡ suc i = rw reset_is in
     let none : suc i * c.stripe_rows - suc i * c.stripe_rows ≡ 0 = omega arith in
     let test : nat_eq (suc i * c.stripe_rows) (suc i * c.stripe_rows) ≡ true = grind (arith, nat_tests) in
     record {
@@ -169,7 +169,7 @@ module _ {s : Settings} {raster : Raster} {i : ℕ} {at : EncoderStart} (rows : 
     move = move_is_before s raster (next_encoder_start s raster.width at rows) (ap suc h.stripe) counted offset;
   } where
     counted : lines_down at.carry.above at.carry.second rows ≡ lines_before s raster (suc i)
-    counted = down.lines ∙ ap (λ n. map (lines_of (cut s raster)) (numbers_from (i * s.stripe_rows) n)) many
+    counted = rw (down.lines, many)
 
     offset : (next_stripe_start raster.width s.reset (row_start_in s raster.width at rows)).offset ≡ offset_to s raster (suc i)
     offset = offset_ends s raster i (row_start_in s raster.width at rows) offset_is
@@ -185,11 +185,11 @@ module _ {s : Settings} {raster : Raster} {i : ℕ} {at : EncoderStart} (rows : 
   pub course_step : CourseGoes s raster i at rows
   course_step = record {
     stripe = stripe_is;
-    lines = down.lines ∙ ap (λ n. map (lines_of (cut s raster)) (numbers_from (i * s.stripe_rows) n)) many;
+    lines = rw (down.lines, many);
     next = λ more.
         let on : suc i ≡ i + 1 = omega arith in
-        let long : (i + 1) * s.stripe_rows < height raster = stripe_within (height raster) s.stripe_rows (i + 1) some more in
-        subst (λ z. CourseAt s raster z (next_encoder_start s raster.width at rows)) on (next_is (omega arith));
+        let long = stripe_within (height raster) s.stripe_rows (i + 1) some more in
+        rw (← on) (next_is (omega arith));
   }
 
 -- a stripe more of the stream

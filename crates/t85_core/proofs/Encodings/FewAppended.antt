@@ -28,7 +28,7 @@ use Rattle.t85_core.proofs.Theorems.StreamLength.{many, row_short, ending_short}
 
 pub beginning_few : {old new : Option (List ℕ)} {text : List ℕ} (most : ℕ) → length text ≤ most → AppendsBeginning old new text → AppendsAtMost most old new
 beginning_few {text} most few begins =
-    let parts : length text ≡ length begins.front + length begins.rest = ap length begins.text_is ∙ length-append begins.front begins.rest in
+    let parts = ap length begins.text_is ∙ length-append begins.front begins.rest in
     record { bytes = begins.front; appended = begins.appends; few = omega arith }
 
 -- what was written, or a beginning of it
@@ -80,7 +80,7 @@ module _ (laws : WritingLaws) (e : Encoder) (p : Place) (learned : List Estimate
       AppendsAtMost (2 * waiting_bytes e + 4 * (n + 1)) old new
   row_cut_few shape kept lines wide cut =
       let all = events_few shape kept lines wide in
-      let parts : length (canonical_events shape kept lines) ≡ length cut.events + length cut.rest = ap length cut.all_are ∙ length-append cut.events cut.rest in
+      let parts = ap length cut.all_are ∙ length-append cut.events cut.rest in
       let few = laws.few_in_front e (record { place = p; learned = learned }) cut.events pushed ((pushed ++ cut.done) ++ cut.left) at cut.begins in
       record { bytes = cut.done; appended = cut.appended; few = omega (arith, length-append (pushed ++ cut.done) cut.left, length-append pushed cut.done) }
 

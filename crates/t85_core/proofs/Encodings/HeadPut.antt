@@ -18,7 +18,7 @@ use Rattle.t85_core.specs.Steps.Passage.{passage}
 
 -- no write failed before
 pub counts_on : {T : Type 0} {old mid : ℕ} (new : ℕ) (r : Result T Fault) → mid ≡ old → CountsWrite mid new r → CountsWrite old new r
-counts_on new r same counts = subst (λ n. CountsWrite n new r) same counts
+counts_on new r same counts = rw (← same) counts
 
 abbrev comment_of : Option (List ℕ) → List ℕ
 comment_of comment = flat_map segment_bytes (map Comment (option_to_list comment))
@@ -27,7 +27,7 @@ comment_of comment = flat_map segment_bytes (map Comment (option_to_list comment
 pub head_plain : {bytes : List ℕ} (s : Settings) (width height' : ℕ) (a b : Option (List ℕ)) → bytes ≡ header_bytes (header_of s width height') → s.comment ≡ None → Appends a b bytes →
     Appends a b (head_of s width height')
 head_plain s width height' a b is none put =
-    subst (λ z. Appends a b z) (is ∙ sym (append-nil (header_bytes (header_of s width height'))) ∙ ap (λ o. header_bytes (header_of s width height') ++ comment_of o) (sym none)) put
+    rw (none, append-nil (header_bytes (header_of s width height')), ← is) put
 
 -- the header was written, and the comment after it
 pub head_commented : {bytes text : List ℕ} (s : Settings) (width height' : ℕ) (a b c : Option (List ℕ)) → bytes ≡ header_bytes (header_of s width height') → s.comment ≡ Some text → Appends a b bytes →

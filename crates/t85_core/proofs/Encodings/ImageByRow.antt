@@ -42,7 +42,7 @@ module _ (image : Image) (rows : List (List Bool)) (v : RowView) (window : Held)
     bytes = w.front;
     sent = w.sent;
     begun = λ raster b. record {
-      holds = record { rest = []; bytes_are = (stands_here w.stripes).front_is raster b ∙ sym (ap (jbg_up_to image.settings raster) whole) ∙ sym (append-nil (jbg_up_to image.settings raster (length rows / image.settings.stripe_rows))) };
+      holds = record { rest = []; bytes_are = rw ((stands_here w.stripes).front_is raster b, ← whole, ← append-nil (jbg_up_to image.settings raster (length rows / image.settings.stripe_rows))) };
       begins = front_begins image.settings raster w.i (few_stripes (height raster) image.settings.stripe_rows w.i w.plan_is.some (let long = come_long b in omega arith))
           (record { rest = []; bytes_are = sym ((stands_here w.stripes).front_is raster b) ∙ sym (append-nil w.front) });
     };
@@ -60,21 +60,21 @@ module _ (image : Image) (rows : List (List Bool)) (v : RowView) (window : Held)
     begun = λ raster b. record {
       holds = record {
         rest = move_bytes image.settings image.width r.at ++ r.pushed;
-        bytes_are = ap (λ z. z ++ (move_bytes image.settings image.width r.at ++ r.pushed)) ((stands_here r.stripes).front_is raster (first raster b) ∙ sym (ap (jbg_up_to image.settings raster) whole));
+        bytes_are = rw ((stands_here r.stripes).front_is raster (first raster b), ← whole);
       };
       begins = part_begins r.plan_is.some r.stripes r.part (move_bytes image.settings image.width r.at ++ r.pushed) r.few begins (all raster b)
           (let long = come_long (all raster b) in omega (arith, length-append r.whole r.part));
     };
   } where
     all : (raster : Raster) → MayCome image rows raster → MayCome image (r.whole ++ r.part) raster
-    all raster b = subst (λ z. MayCome image z raster) r.all b
+    all raster b = rw (← r.all) b
 
     first : (raster : Raster) → MayCome image rows raster → MayCome image r.whole raster
     first raster b = come_first r.part (all raster b)
 
     whole : length rows / image.settings.stripe_rows ≡ r.i
     whole =
-        let sum : length rows ≡ r.i * image.settings.stripe_rows + length r.part = ap length r.all ∙ (omega (arith, length-append r.whole r.part)) in
+        let sum = ap length r.all ∙ (omega (arith, length-append r.whole r.part)) in
         ap (λ n. n / image.settings.stripe_rows) sum ∙ stripe_at image.settings.stripe_rows r.i (length r.part) (omega arith)
 
     begins : (later : List (List Bool)) → IsBeginning (move_bytes image.settings image.width r.at ++ r.pushed) (stripe_bytes (next_stripe image.settings image.width r.at (r.part ++ later)))
@@ -83,9 +83,7 @@ module _ (image : Image) (rows : List (List Bool)) (v : RowView) (window : Held)
         record {
           rest = p.rest ++ marker_bytes image.settings.reset;
           bytes_are =
-              ap (λ z. move_bytes image.settings image.width r.at ++ (z ++ marker_bytes image.settings.reset)) p.bytes_are
-              ∙ ap (λ z. move_bytes image.settings image.width r.at ++ z) (append_assoc r.pushed p.rest (marker_bytes image.settings.reset))
-              ∙ sym (append_assoc (move_bytes image.settings image.width r.at) r.pushed (p.rest ++ marker_bytes image.settings.reset));
+              rw (p.bytes_are, append_assoc r.pushed p.rest (marker_bytes image.settings.reset), ← append_assoc (move_bytes image.settings image.width r.at) r.pushed (p.rest ++ marker_bytes image.settings.reset));
         }
 
   -- what stands is a beginning of each stream that may come, with each stripe whose rows all came
@@ -124,14 +122,14 @@ module _ {form : Form} {width : ℕ} {rows : List (List Bool)} {known mid : Opti
     few = omega arith;
     read = read;
     bytes = cut.front;
-    begins = λ raster b. subst (λ z. IsBeginning cut.front (jbg s z)) (sym (same raster b)) (record { rest = cut.rest; bytes_are = cut.text_is });
+    begins = λ raster b. rw (same raster b) (record { rest = cut.rest; bytes_are = cut.text_is });
     appended = here_sent cut.sends;
   } where
     -- no other image has all these rows
     same : (raster : Raster) → BeginsWith width height' rows raster → raster ≡ raster_of width rows
     same raster b =
         let long : length raster.rows ≡ length rows = omega arith in
-        let rows_are : raster.rows ≡ rows = sym (take-length raster.rows) ∙ ap (λ n. take n raster.rows) long ∙ b.first in
+        let rows_are : raster.rows ≡ rows = rw (← take-length raster.rows, long) b.first in
         ap (λ w. raster_of w raster.rows) b.width_is ∙ ap (raster_of width) rows_are
 
 -- the rows that were read, and the encoder's position

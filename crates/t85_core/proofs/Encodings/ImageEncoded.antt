@@ -116,7 +116,7 @@ module _ (s : Settings) (in_old in_new : Option (List ℕ)) (reads_old reads_new
 
   module _ (form : Form) (width height' : ℕ) (t : TakesHeader in_old in_new form width height') where
     size_alone : (low : Bool) → is_low s height' ≡ low → (given : List ℕ) × Consumes in_old in_new given × HasSize s low given
-    size_alone low is = (t.front, t.taken, record { layout = layout_of form width height'; header = subst (λ z. HasHeader z form width height' []) (append-nil t.front) (t.header []); low_is = is })
+    size_alone low is = (t.front, t.taken, record { layout = layout_of form width height'; header = rw (← append-nil t.front) (t.header []); low_is = is })
 
     -- the announced height is too low
     pub too_low : is_low s height' ≡ true → reads_new ≡ reads_old → ToJbg s (between in_old in_new reads_old reads_new) (between out out writes writes) flushed (Err AnnouncedLow)

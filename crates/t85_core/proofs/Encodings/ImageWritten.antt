@@ -47,7 +47,7 @@ module _ {in_old mid : Option (List ℕ)} {reads_old reads_mid width height' : �
     cut = λ _. cut_at e.not_low keeps e.front.1 e.front.2;
     among = λ _ _ n. absurd (n refl);
     reads = inl (e.reads ∙ counted);
-    writes = more ∙ ap one_more e.writes;
+    writes = rw (more, e.writes);
   }
 
   -- rows are missing, or a device failed
@@ -65,11 +65,11 @@ module _ {in_old mid : Option (List ℕ)} {reads_old reads_mid width height' : �
     unread = λ is. (let u = e.unread is in (t.front ++ u.0, Consumes-more in_old mid in_new t.front u.0 t.taken u.1, inr (some pbm.Truncated u.0 u.2)));
     cut = λ _. cut_at fits (Keeps-same out_new) e.front.1 e.front.2;
     among = λ _. among_faults may;
-    reads = subst (λ n. CountsBoth n reads_new (Err f)) counted e.reads;
+    reads = rw (← counted) e.reads;
     writes = e.writes;
   } where
     not_low_told : is_low s height' ≡ true → ⊥
-    not_low_told is = let both : true ≡ false = sym is ∙ fits in let bot : ⊥ = cc in bot
+    not_low_told is = let both = sym is ∙ fits in let bot : ⊥ = cc in bot
 
     may : IsEncodeFault f
     may = e.among (λ is. not_low_told (e.low (ap Err is)).0)
@@ -101,7 +101,7 @@ module _ {in_old mid : Option (List ℕ)} {reads_old reads_mid width height' : �
       is = record {
         form = form;
         body = given;
-        header = subst (λ n. HasHeader (t.front ++ given) form width n given) (sym all.many) (t.header given);
+        header = rw all.many (t.header given);
         holds = record { front = given; bytes_are = sym (append-nil given); are_rows = all.are_rows };
       };
     }
@@ -113,7 +113,7 @@ module _ {in_old mid : Option (List ℕ)} {reads_old reads_mid width height' : �
       is = record {
         form = form;
         body = body;
-        header = subst (λ n. HasHeader (t.front ++ body) form width n body) (sym w.many) (t.header body);
+        header = rw w.many (t.header body);
         holds = w.holds;
       };
       proper = w.denotes.denotes.proper;

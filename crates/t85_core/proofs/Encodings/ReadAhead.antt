@@ -13,9 +13,7 @@ pub read_ahead : {R : Type 0} {s : Settings} {output : Change} {flushed : Bool} 
     ToJbgAhead s (between (remaining start) (remaining reader') (failures start) (failures reader')) output flushed r
 read_ahead {R} {s} {output} {flushed} {reader} {reader'} {known} {count} {r} remaining failures held start same_known same_count same drained leaves = record {
   ahead = held;
-  leaves = subst (λ x. ToJbg s (between (remaining start) (prepend_known held (remaining x)) (failures start) (failures x)) output flushed r) same
-      (subst (λ z. ToJbg s (between z (prepend_known held (remaining reader)) (failures start) (failures reader)) output flushed r) same_known
-      (subst (λ z. ToJbg s (between known (prepend_known held (remaining reader)) z (failures reader)) output flushed r) same_count leaves));
+  leaves = rw (← same, ← same_known, ← same_count) leaves;
   none_unread = went drained;
 } where
   went : (failures reader ≡ count) ⊎ (held ≡ []) → (failures reader' ≡ failures start) ⊎ (held ≡ [])

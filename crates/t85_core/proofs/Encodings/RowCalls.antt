@@ -84,8 +84,8 @@ module _ (image : Image) (rows : List (List Bool)) (origin : Origin) (mid text' 
 module _ (image : Image) (rows : List (List Bool)) (v : RowView) (old new : Held) (origin : Origin) (text : Option (List ℕ)) (stays : IsLined old → new ≡ old) where
   -- the padding of a window that has lines is 0
   pub stands_cleared : Stands image rows v old origin text → Stands image rows v new origin text
-  stands_cleared (inl w) = inl (waits_at w (λ within. (let on = w.on_course within in subst (IsStart image.settings image.width w.at v) (sym (stays (_, on.is_held.lines_are))) on)) w.sent)
-  stands_cleared (inr r) = subst (λ z. Stands image rows v z origin text) (sym (stays (_, r.0.running.is_held.lines_are))) (inr r)
+  stands_cleared (inl w) = inl (waits_at w (λ within. (let on = w.on_course within in rw (stays (_, on.is_held.lines_are)) on)) w.sent)
+  stands_cleared (inr r) = rw (stays (_, r.0.running.is_held.lines_are)) (inr r)
 
 -- what was written of a beginning is a beginning
 pub cut_written : {image : Image} {rows : List (List Bool)} {origin : Origin} {out : Option (List ℕ)} (held : List ℕ) → known_length origin.text ≤ known_length out →
@@ -100,4 +100,4 @@ cut_written held grows c =
 
 -- the same output
 pub moved : {W : Type 0} {o o' : W} (contents : W → Option (List ℕ)) (P : Option (List ℕ) → Type 0) → o ≡ o' → P (contents o) → P (contents o')
-moved contents P same p = subst (λ x. P (contents x)) same p
+moved contents P same p = rw (← same) p

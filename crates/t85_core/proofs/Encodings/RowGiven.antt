@@ -31,14 +31,14 @@ pub masked_same : {n : ℕ} (width : ℕ) (bytes : List ℕ) → n ≡ bytes_of_
 masked_same {n} width bytes counted =
     let bits : n * 8 - width ≡ padding_of width = omega arith in
     let small : padding_of width < 8 = grind arith in
-    let power : (1 * 2 ^ (n * 8 - width)) % 256 ≡ 2 ^ padding_of width = ap (λ k. (1 * 2 ^ k) % 256) bits ∙ one_shl (padding_of width) 8 small in
+    let power : (1 * 2 ^ (n * 8 - width)) % 256 ≡ 2 ^ padding_of width = rw bits (one_shl (padding_of width) 8 small) in
     let at : (m : ℕ) → ℕ → List ℕ = λ (m : ℕ) (p : ℕ). slice_set bytes (m - 1) (slice_index bytes (m - 1) - slice_index bytes (m - 1) % p) in
     ap (λ (p : ℕ). at n p) power ∙ ap (λ (m : ℕ). at m (2 ^ padding_of width)) counted
 
 -- two functions that agree on numbers
 same_map : {X : Type 0} (f h : ℕ → X) (k n : ℕ) → ((x : ℕ) → x < k + n → f x ≡ h x) → map f (pbm.numbers_from k n) ≡ map h (pbm.numbers_from k n)
 same_map f h k zero same = refl
-same_map f h k (suc n) same = ap (λ x. x ∷ map f (pbm.numbers_from (k + 1) n)) (same k (omega arith)) ∙ ap (λ xs. h k ∷ xs) (same_map f h (k + 1) n (λ x lt. same x (omega arith)))
+same_map f h k (suc n) same = rw (same k (omega arith), same_map f h (k + 1) n (λ x lt. same x (omega arith)))
 
 -- a row down in the window, with these pixels
 pub row_below : {width : ℕ} {mid : Held} {row : List ℕ} (bytes : List ℕ) (old : Held) → 1 ≤ width → length bytes ≡ bytes_of_row width → MaskKeepsPixels → MaskedIsPacked → row ≡ masked_row width bytes →

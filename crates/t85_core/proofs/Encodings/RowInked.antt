@@ -57,12 +57,12 @@ module _ {S : Type 0} (view : S → SinkView) (failed : S → ℕ) (from to : S)
 
   module _ (text text' : Option (List ℕ)) (text_is : (view from).text ≡ text) (text_is' : (view to).text ≡ text') where
     taken : (bytes : List ℕ) → Took takes from bytes to → Appends text text' bytes
-    taken bytes took = subst (λ z. Appends z text' bytes) text_is (subst (λ z. Appends (view from).text z bytes) text_is' (took_inked view from to bytes took).1)
+    taken bytes took = rw (← text_is, ← text_is') (took_inked view from to bytes took).1
 
     cut : (bytes : List ℕ) (r : Refused takes refuses from bytes to) → Appends text text' r.done
     cut bytes r =
         let kept = Appends-keeps (view from).text (view r.last).text (view to).text r.done (took_inked view from r.last r.done r.taken).1 r.then.1 in
-        subst (λ z. Appends z text' r.done) text_is (subst (λ z. Appends (view from).text z r.done) text_is' kept)
+        rw (← text_is, ← text_is') kept
 
     pub row_inked : (shape : Shape) (kept kept' : Kept) (s : State) (pushed : List ℕ) (lines : Lines) (e : Encoder) (learned : List Estimate) (answer : Result (Unit {0}) CoderFault)
         → RowEncoded (sink_at pushes from pushed) (row_task shape kept s lines) kept' (encoder_state to e learned) answer → RowOutcome (row_task shape kept s lines) pushed kept' text (encoder_state text' e learned) (sent_as answer)
@@ -86,7 +86,7 @@ module _ {S : Type 0} (view : S → SinkView) (failed : S → ℕ) (from to : S)
         done = c.done;
         left = c.left;
         appended = cut r.err.fails.more c;
-        begins = subst (λ z. IsStuffedFront z (after s r.err.events).place) (ap (λ z. pushed ++ z) c.all ∙ sym (append_assoc pushed c.done c.left)) r.err.fails.begins;
+        begins = rw (append_assoc pushed c.done c.left, ← c.all) r.err.fails.begins;
       });
     }
 

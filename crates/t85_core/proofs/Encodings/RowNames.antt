@@ -27,8 +27,8 @@ names_before t (suc i) (name ∷ names) (suc j) lt = names_before t i names j (o
 
 length-with_name : (t i : ℕ) (names : List (Option ℕ)) → length (with_name t i names) ≡ suc i
 length-with_name t zero names = refl
-length-with_name t (suc i) [] = ap suc (length-with_name t i [])
-length-with_name t (suc i) (name ∷ names) = ap suc (length-with_name t i names)
+length-with_name t (suc i) [] = rw (length-with_name t i [])
+length-with_name t (suc i) (name ∷ names) = rw (length-with_name t i names)
 
 -- ---- what does not hang on them
 
@@ -63,7 +63,7 @@ offset_named t image rows v window origin text none so =
     let names : List (Option ℕ) = with_name t w.i image.settings.named in
     let at = whole_rows image.settings.stripe_rows w.plan_is.some w.stripes.many in (
       at.1,
-      subst (λ i. Stands (naming image (with_name t i image.settings.named)) rows (record v { named = Some t }) window origin text) (sym at.0) (inl (record {
+      rw at.0 (inl (record {
         plan_is = plan_named names w.plan_is;
         come = w.come;
         i = w.i;

@@ -108,7 +108,7 @@ module _ {image : Image} {rows : List (List Bool)} {v : RowView} {before : Held}
     counts = λ more some. counted
         (let sum : (w.i + 1) * image.settings.stripe_rows ≡ w.i * image.settings.stripe_rows + 1 * image.settings.stripe_rows = Rattle.std.proofs.Math.Nat.add-mul w.i 1 image.settings.stripe_rows in omega (arith, sum))
         (w.plan_is.candidates_are ∙ (grind (arith, nat_tests, some)));
-    sent = Sends-more (move_bytes image.settings image.width w.at ++ []) w.sent (subst (Appends mid text') (sym (append-nil (move_bytes image.settings image.width w.at))) made.appended);
+    sent = Sends-more (move_bytes image.settings image.width w.at ++ []) w.sent (rw (append-nil (move_bytes image.settings image.width w.at)) made.appended);
   } where
     on : IsStart image.settings image.width w.at v before
     on = w.on_course (waits_within left)
@@ -126,9 +126,9 @@ module _ {image : Image} {rows : List (List Bool)} {v : RowView} {before : Held}
     begins = λ raster b. part_begins w.plan_is.some w.stripes [] p.front (omega arith)
         (λ later. record {
           rest = p.rest ++ (stuffed (code_of (row_start_in image.settings image.width w.at later).state.place) ++ marker_bytes image.settings.reset);
-          bytes_are = ap (λ z. z ++ (stuffed (code_of (row_start_in image.settings image.width w.at later).state.place) ++ marker_bytes image.settings.reset)) p.text_is ∙ append_assoc p.front p.rest (stuffed (code_of (row_start_in image.settings image.width w.at later).state.place) ++ marker_bytes image.settings.reset);
+          bytes_are = rw p.text_is (append_assoc p.front p.rest (stuffed (code_of (row_start_in image.settings image.width w.at later).state.place) ++ marker_bytes image.settings.reset));
         })
-        (subst (λ z. MayCome image z raster) (sym (append-nil rows)) (come_first (row ∷ []) b))
+        (rw (append-nil rows) (come_first (row ∷ []) b))
         (let long = come_long b in omega (arith, length-append rows (row ∷ [])));
   } where
     on : IsStart image.settings image.width w.at v before
@@ -141,7 +141,7 @@ module _ {image : Image} {rows : List (List Bool)} {v : RowView} {before : Held}
 
 pub length-lines_down : (above second : List Bool) (rows : List (List Bool)) → length (lines_down above second rows) ≡ length rows
 length-lines_down above second [] = refl
-length-lines_down above second (row ∷ rows) = ap suc (length-lines_down row above rows)
+length-lines_down above second (row ∷ rows) = rw (length-lines_down row above rows)
 
 all_more : {width : ℕ} (rows : List (List Bool)) (row : List Bool) → AllByRecursion (λ r. length r ≡ width) rows → length row ≡ width → AllByRecursion (λ r. length r ≡ width) (rows ++ row ∷ [])
 all_more [] row all is = (is, tt)
@@ -186,7 +186,7 @@ module _ {image : Image} {rows : List (List Bool)} {v : RowView} {before : Held}
   many = omega (arith, length-append r.part (row ∷ []))
 
   counted_same : (kept : Kept) → kept.offset ≡ v.kept.offset → counted_of (record v { kept = kept }) ≡ counted_of v
-  counted_same kept same = ap (λ o. if v.is_counted then Some (if v.plan.reset then 0 else o) else None) same
+  counted_same kept same = rw same
 
   pub row_coded : {kept : Kept} {rows' in_stripe' : ℕ} → v.rows < v.plan.limit → v.in_stripe < v.plan.stripe_rows → v.plan.stripe_rows < 2 ^ 32 → (learned : List Estimate) (tally : Tally) (e : Encoder) →
       rows' ≡ v.rows + 1 → in_stripe' ≡ v.in_stripe + 1 →
@@ -204,7 +204,7 @@ module _ {image : Image} {rows : List (List Bool)} {v : RowView} {before : Held}
     i = r.i;
     whole = r.whole;
     part = r.part ++ row ∷ [];
-    all = ap (λ z. z ++ row ∷ []) r.all ∙ append_assoc r.whole r.part (row ∷ []);
+    all = rw r.all (append_assoc r.whole r.part (row ∷ []));
     at = r.at;
     front = r.front;
     stripes = r.stripes;
@@ -212,15 +212,15 @@ module _ {image : Image} {rows : List (List Bool)} {v : RowView} {before : Held}
     few = (let sum = length-append r.part (row ∷ []) in omega (arith, sum));
     pushed = r.pushed ++ put.more;
     running = record {
-      codes = subst (λ n. EncoderIsAt e n.state.place (r.pushed ++ put.more)) (sym next_is) (subst (λ n. EncoderIsAt e n.place (r.pushed ++ put.more)) state_is put.codes);
-      is_held = subst (λ n. IsHeldBy move n (after_rows mode move 0 (first_row_start c) (r.part ++ row ∷ [])) kept learned window) (sym many) (subst (λ n. IsHeldBy move (suc (length r.part)) n kept learned window) (sym next_is) (record {
+      codes = rw (next_is, ← state_is) put.codes;
+      is_held = rw (many, next_is) (record {
         at_top = r.running.is_held.at_top;
         offset_is = put.offset_is ∙ r.running.is_held.offset_is ∙ moved_before move (length r.part) r.running.is_held.at_top;
         previous_is = put.flag_is ∙ ap (λ m. may_be_typical m (lines_with b row)) r.plan_is.shape_is.mode_is;
         learned_is = put.taught ∙ ap (λ n. n.learned) state_is;
         third = b.second;
         lines_are = lines_are;
-      }));
+      });
       two_line = two_line ∙ r.running.two_line;
       most = most ∙ r.running.most;
       tallied = subst (λ lines. IsCountedTo image.width (counted_of (record v { kept = kept })) tally lines) (sym (lines_more mode move 0 (first_row_start c) r.part row))
@@ -232,8 +232,7 @@ module _ {image : Image} {rows : List (List Bool)} {v : RowView} {before : Held}
     names_to = r.names_to;
     none_named = r.none_named;
     counts = r.counts;
-    sent = subst (Sends origin text') (append_assoc r.front (move_bytes image.settings image.width r.at ++ r.pushed) put.more ∙ ap (λ z. r.front ++ z) (append_assoc (move_bytes image.settings image.width r.at) r.pushed put.more))
-        (Sends-more put.more r.sent put.appended);
+    sent = rw (← append_assoc (move_bytes image.settings image.width r.at) r.pushed put.more, ← append_assoc r.front (move_bytes image.settings image.width r.at ++ r.pushed) put.more) (Sends-more put.more r.sent put.appended);
   }
 
   -- the target refused a byte of it
@@ -241,19 +240,18 @@ module _ {image : Image} {rows : List (List Bool)} {v : RowView} {before : Held}
   row_cut laws fewer cut = record {
     bytes = (r.front ++ (move_bytes image.settings image.width r.at ++ r.pushed)) ++ cut.done;
     sent = Sends-more cut.done r.sent cut.appended;
-    begins = λ raster m. subst (λ z. IsBeginning z (jbg image.settings raster)) (sym bytes_are)
-        (part_begins r.plan_is.some r.stripes (r.part ++ row ∷ []) (move_bytes image.settings image.width r.at ++ (r.pushed ++ cut.done)) few begins
+    begins = λ raster m. rw bytes_are (part_begins r.plan_is.some r.stripes (r.part ++ row ∷ []) (move_bytes image.settings image.width r.at ++ (r.pushed ++ cut.done)) few begins
         (subst (λ z. MayCome image z raster) all m)
         (let long = come_long (subst (λ z. MayCome image z raster) all m) in omega (arith, length-append r.whole (r.part ++ row ∷ []), length-append r.part (row ∷ []))));
   } where
     all : rows ++ row ∷ [] ≡ r.whole ++ (r.part ++ row ∷ [])
-    all = ap (λ z. z ++ row ∷ []) r.all ∙ append_assoc r.whole r.part (row ∷ [])
+    all = rw r.all (append_assoc r.whole r.part (row ∷ []))
 
     few : length (r.part ++ row ∷ []) ≤ image.settings.stripe_rows
     few = let sum = length-append r.part (row ∷ []) in omega (arith, sum)
 
     bytes_are : (r.front ++ (move_bytes image.settings image.width r.at ++ r.pushed)) ++ cut.done ≡ r.front ++ (move_bytes image.settings image.width r.at ++ (r.pushed ++ cut.done))
-    bytes_are = append_assoc r.front (move_bytes image.settings image.width r.at ++ r.pushed) cut.done ∙ ap (λ z. r.front ++ z) (append_assoc (move_bytes image.settings image.width r.at) r.pushed cut.done)
+    bytes_are = rw (append_assoc r.front (move_bytes image.settings image.width r.at ++ r.pushed) cut.done, append_assoc (move_bytes image.settings image.width r.at) r.pushed cut.done)
 
     front_is : IsStuffedFront ((r.pushed ++ cut.done) ++ cut.left) (after b.state cut.events).place
     front_is = subst (λ l. IsStuffedFront ((r.pushed ++ cut.done) ++ cut.left) (after (record { place = b.state.place; learned = l }) cut.events).place) r.running.is_held.learned_is cut.begins
@@ -383,7 +381,7 @@ module _ {image : Image} {rows : List (List Bool)} {v : RowView} {window : Held}
       is_held = subst (λ w. IsHeldBy None 0 (first_row_start (next_stripe_start w image.settings.reset last)) kept learned window') r.plan_is.width_is
           (subst (λ b. IsHeldBy None 0 (first_row_start (next_stripe_start v.plan.width b last)) kept learned window') r.plan_is.reset_is (goes last behind));
       is_tallied = tallied more';
-      named_is = r.none_named ∙ sym (get_or_past image.settings.named (suc r.at.stripe) None (let is : r.at.stripe ≡ r.i = r.stripes.stripe_is in omega arith));
+      named_is = r.none_named ∙ sym (get_or_past image.settings.named (suc r.at.stripe) None (let is = r.stripes.stripe_is in omega arith));
     };
     sent = Sends-keeps
         (subst (Sends origin text') (bytes_of laws more is all) (Sends-more more r.sent put)) keeps;
@@ -431,7 +429,7 @@ module _ (image : Image) (count : ℕ) (rows : List (List Bool)) (v : RowView) (
     bytes = e.sent.front;
     sent = e.sent.sends;
     begins = λ raster b.
-        let m : MayCome image (e.whole ++ e.part) raster = subst (λ z. MayCome image z raster) e.all b in
+        let m = subst (λ z. MayCome image z raster) e.all b in
         let long = come_long m in
         let sum = length-append e.whole e.part in
         let full_part : length e.part ≡ image.settings.stripe_rows = e.many ∙ full in

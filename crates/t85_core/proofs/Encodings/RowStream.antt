@@ -29,8 +29,7 @@ come_first {raster} {first} rows b = record {
   height_to = b.height_to;
   height_is = b.height_is;
   first =
-      sym (take-take (length first) (length (first ++ rows)) raster.rows (omega (arith, length-append first rows)))
-      ∙ ap (take (length first)) b.first ∙ take-append_seam first rows;
+      rw (← take-take (length first) (length (first ++ rows)) raster.rows (omega (arith, length-append first rows)), b.first) (take-append_seam first rows);
 }
 
 -- it has them all
@@ -44,15 +43,13 @@ same_announced (Some n) a b h = refl
 -- the head of each raster that may come
 pub come_head : {image : Image} {rows : List (List Bool)} {raster : Raster} → MayCome image rows raster → head_of image.settings image.width image.limit ≡ head_of image.settings raster.width (height raster)
 come_head {image} {raster} b =
-    ap (λ w. head_of image.settings w image.limit) (sym b.width_is)
-    ∙ ap (λ n. header_bytes (record { xd = raster.width; yd = n; l0 = image.settings.stripe_rows; mx = image.settings.most_offset; options = written_options image.settings }) ++ flat_map segment_bytes (map Comment (option_to_list image.settings.comment)))
-    (same_announced image.settings.announced image.limit (height raster) (λ none. sym (b.height_is none)))
+    rw (← b.width_is, same_announced image.settings.announced image.limit (height raster) (λ none. sym (b.height_is none)))
 
 -- nothing but the head
 none_stands : {image : Image} → FrontStands image 0 [] (first_encoder_start image.width) (head_of image.settings image.width image.limit)
 none_stands {image} = record {
   front_is = λ raster b. come_head b ∙ sym (append-nil (head_of image.settings raster.width (height raster)));
-  course = λ raster b _. subst (λ w. CourseAt image.settings raster 0 (first_encoder_start w)) b.width_is (course_begins);
+  course = λ raster b _. rw (← b.width_is) (course_begins);
 }
 
 pub none_whole : {image : Image} → StripesWhole image 0 [] (first_encoder_start image.width) (head_of image.settings image.width image.limit)
@@ -100,8 +97,7 @@ stripes_begin s raster n (suc m) =
     record {
       rest = b.rest ++ stripe_bytes (coded_stripe (coding_of s raster) (n + m));
       bytes_are =
-          ap (stripes_up_to s raster) same ∙ stripes_more s raster (n + m) ∙ ap (λ z. z ++ stripe_bytes (coded_stripe (coding_of s raster) (n + m))) b.bytes_are
-          ∙ append_assoc (stripes_up_to s raster n) b.rest (stripe_bytes (coded_stripe (coding_of s raster) (n + m)));
+          rw (same, stripes_more s raster (n + m), b.bytes_are) (append_assoc (stripes_up_to s raster n) b.rest (stripe_bytes (coded_stripe (coding_of s raster) (n + m))));
     }
 
 -- a beginning of the stream up to some stripe is one of the stream
@@ -130,8 +126,7 @@ front_begins {bytes} s raster n few b = record { rest = b.rest ++ (more.rest ++ 
 -- a stripe more
 pub up_to_more : (s : Settings) (raster : Raster) (i : ℕ) → jbg_up_to s raster (i + 1) ≡ jbg_up_to s raster i ++ stripe_bytes (coded_stripe (coding_of s raster) i)
 up_to_more s raster i =
-    ap (λ z. head_of s raster.width (height raster) ++ z) (stripes_more s raster i)
-    ∙ sym (append_assoc (head_of s raster.width (height raster)) (stripes_up_to s raster i) (stripe_bytes (coded_stripe (coding_of s raster) i)))
+    rw (stripes_more s raster i, ← append_assoc (head_of s raster.width (height raster)) (stripes_up_to s raster i) (stripe_bytes (coded_stripe (coding_of s raster) i)))
 
 module _ {image : Image} {i : ℕ} {whole : List (List Bool)} {at : EncoderStart} {front : List ℕ} (some : 1 ≤ image.settings.stripe_rows) (so : StripesWhole image i whole at front) where
   abbrev l : ℕ
@@ -195,8 +190,7 @@ module _ {image : Image} {i : ℕ} {whole : List (List Bool)} {at : EncoderStart
   part_stands : (part : List (List Bool)) → length part ≡ l → FrontStands image (i + 1) (whole ++ part) (next_encoder_start image.settings image.width at part) (front ++ stripe_bytes (next_stripe image.settings image.width at part))
   part_stands part enough = record {
     front_is = λ raster b. stripe_more part b (within raster b) (all raster b);
-    course = λ raster b more. subst (λ w. CourseAt image.settings raster (i + 1) (next_encoder_start image.settings w at part)) b.width_is
-        ((stripe_comes b (within raster b) (all raster b)).next (inside_of (height raster) l (i + 1) some more));
+    course = λ raster b more. rw (← b.width_is) ((stripe_comes b (within raster b) (all raster b)).next (inside_of (height raster) l (i + 1) some more));
   } where
     long : (raster : Raster) → MayCome image (whole ++ part) raster → i * l + l ≤ height raster
     long raster b = (let has = come_long b in omega (arith, length-append whole part))
@@ -231,10 +225,9 @@ module _ {image : Image} {i : ℕ} {whole : List (List Bool)} {at : EncoderStart
   unfolding start_with stripe_with move_named
   whole_more = record {
     many = rows_more some so part enough;
-    stripe_is = (let is : at.stripe ≡ i = so.stripe_is in omega arith);
+    stripe_is = (let is = so.stripe_is in omega arith);
     stands = λ names same.
         let anew = stands_anew so names (λ j lt. same j (omega arith)) in
-        let name : slice_index_or names at.stripe None ≡ slice_index_or image.settings.named at.stripe None = sym (same at.stripe (let is : at.stripe ≡ i = so.stripe_is in omega arith)) in
-        subst (λ move. FrontStands (naming image names) (i + 1) (whole ++ part) (start_with move) (front ++ stripe_bytes (stripe_with move))) (ap move_named name)
-        (part_stands some anew part enough);
+        let name = sym (same at.stripe (let is = so.stripe_is in omega arith)) in
+        rw (← name) (part_stands some anew part enough);
   }

@@ -20,10 +20,10 @@ AreSmall bytes = (k : ℕ) → slice_index bytes k < 256
 
 module _ {width : ℕ} {w1 w2 w3 : Held} (some : 1 ≤ width) (w0 : Held) (wide : w0.width ≡ width) (e1 : w1 ≡ next_cleared width w0) (e2 : w2 ≡ next_cleared width w1) (e3 : w3 ≡ next_cleared width w2) where
   third : w3 ≡ cleared width w0
-  third = e3 ∙ ap (next_cleared width) (e2 ∙ ap (next_cleared width) e1)
+  third = rw (e3, e2, e1)
 
   pub cleared_lined : MaskedIsPacked → length w0.second ≡ bytes_of_row width → length w1.second ≡ bytes_of_row width → length w2.second ≡ bytes_of_row width → AreSmall w1.current → AreSmall w2.current → AreSmall w3.current → IsLined w3
-  cleared_lined packed long1 long2 long3 small1 small2 small3 = subst IsLined (sym third) (
+  cleared_lined packed long1 long2 long3 small1 small2 small3 = rw third (
     record { row = pixels_of width (masked_row width w0.current); above = pixels_of width (masked_row width w0.above); second = pixels_of width (masked_row width w0.second) },
     record {
       row_is = is w0.current (sym (ap (λ w. length w.second) (e2 ∙ ap (next_cleared width) e1)) ∙ long3) (subst (λ w. AreSmall w.current) third small3);
@@ -40,10 +40,7 @@ module _ {width : ℕ} {w1 w2 w3 : Held} (some : 1 ≤ width) (w0 : Held) (wide 
 
   pub cleared_stays : PackedStays → IsLined w0 → w3 ≡ w0
   cleared_stays stays (lines, has) =
-      third
-      ∙ ap (λ r. record { width = w0.width; current = r; above = masked_row width w0.above; second = masked_row width w0.second }) (same w0.current lines.row has.row_is has.row_wide)
-      ∙ ap (λ r. record { width = w0.width; current = w0.current; above = r; second = masked_row width w0.second }) (same w0.above lines.above has.above_is has.above_wide)
-      ∙ ap (λ r. record { width = w0.width; current = w0.current; above = w0.above; second = r }) (same w0.second lines.second has.second_is has.second_wide)
+      rw (third, same w0.current lines.row has.row_is has.row_wide, same w0.above lines.above has.above_is has.above_wide, same w0.second lines.second has.second_is has.second_wide)
     where
       same : (bytes : List ℕ) (row : List Rattle.std.proofs.Common.Bool) → bytes ≡ packed_row row → length row ≡ w0.width → masked_row width bytes ≡ bytes
-      same bytes row is long = ap (masked_row width) (is ∙ sym (same_row row)) ∙ stays width row some (long ∙ wide) ∙ same_row row ∙ sym is
+      same bytes row is long = rw (is, ← same_row row, stays width row some (long ∙ wide), same_row row, ← is)

@@ -6,14 +6,11 @@ use Rattle.t85_core.proofs.Bytes.Elements.{Continues, get_left, get_right, split
 
 part_continues : {X : Type 0} {all : List X} {n : ℕ} (d : X) (first rows rest : List X) → all ≡ first ++ (rows ++ rest) → length first ≡ n → Continues d all n rows
 part_continues {n} d first rows rest all_is many k lt =
-    ap (λ z. slice_index_or z (n + k) d) all_is
-    ∙ ap (λ z. slice_index_or (first ++ (rows ++ rest)) (z + k) d) (sym many)
-    ∙ get_right first (rows ++ rest) k d
-    ∙ get_left rows rest k d lt
+    rw (all_is, ← many, get_right first (rows ++ rest) k d) (get_left rows rest k d lt)
 
 pub front_splits : {X : Type 0} {front all : List X} → take (length front) all ≡ front → (length front ≤ length all) × (all ≡ front ++ drop (length front) all)
 front_splits {front} {all} is =
-    let long : length front ≤ length all = (let e : length front ≡ min (length front) (length all) = ap length (sym is) ∙ length-take (length front) all in omega arith) in
+    let long : length front ≤ length all = (let e = ap length (sym is) ∙ length-take (length front) all in omega arith) in
     (long, sym (split_at (length front) all long).0 ∙ ap (λ z. z ++ drop (length front) all) is)
 
 -- Rows of an image after its first n rows.

@@ -18,9 +18,7 @@ pub put_current : {told place told_width width : ℕ} (start end : ℕ) (bytes r
     ((bytes row : List ℕ) → length bytes ≡ 3 * div_ceil told_width 8 → length row ≡ div_ceil told_width 8 → rows_at told told_width (with_part start end bytes row) ≡ with_current (rows_at told told_width bytes) row) →
     rows_at place width (with_part start end bytes row) ≡ with_current (rows_at place width bytes) row
 put_current {told} {width} start end bytes row place_is width_is long wide put =
-    subst (λ p. rows_at p width (with_part start end bytes row) ≡ with_current (rows_at p width bytes) row) place_is
-    (subst (λ w. rows_at told w (with_part start end bytes row) ≡ with_current (rows_at told w bytes) row) width_is
-    (put bytes row (long ∙ ap (λ w. 3 * div_ceil w 8) (sym width_is)) (wide ∙ ap (λ w. div_ceil w 8) (sym width_is))))
+    rw (← place_is, ← width_is) (put bytes row (long ∙ ap (λ w. 3 * div_ceil w 8) (sym width_is)) (wide ∙ ap (λ w. div_ceil w 8) (sym width_is)))
 
 -- a row in bytes is the same to both readers and writers
 pub same_row : (row : List Bool) → pbm.packed_row row ≡ packed_row row
@@ -34,7 +32,7 @@ pub pixels_many : {width : ℕ} (bytes : List ℕ) → length (pixels_of width b
 pixels_many {width} bytes = length-map (pbm.numbers_from 0 width) (λ x. pixel bytes x == 1) ∙ numbers_many 0
 
 pub row_wide : {width : ℕ} (form : Form) (given : List ℕ) (row : List Bool) → IsRow form width given row → length row ≡ width
-row_wide Raw given row p = ap length p.1 ∙ pixels_many given
+row_wide Raw given row p = rw p.1 (pixels_many given)
 row_wide Plain given row p = p.0
 
 pub row_taken : {form : Form} {width : ℕ} {mid old : Held} {given row : List ℕ} {known known' : Option (List ℕ)} → mid ≡ turned old → old.width ≡ width → IsRowOf form width given row →

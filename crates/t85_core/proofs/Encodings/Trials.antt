@@ -100,17 +100,14 @@ module _ {part : List (List Bool)} {before : Held} {trial : Trial} (shape : Shap
 
   state_is : after (record { place = b.state.place; learned = trial.learned }) (canonical_events shape trial.kept line) ≡ next.state
   state_is =
-      ap (λ l. after (record { place = b.state.place; learned = l }) (canonical_events shape trial.kept line)) h.is_held.learned_is
-      ∙ ap (λ o. after b.state (row_events mode line o trial.kept.previous_typical (next_flag mode b row))) h.is_held.offset_is
-      ∙ ap (λ f. after b.state (row_events mode line (offset_at move (length part) b.offset) f (next_flag mode b row))) h.is_held.previous_is
+      rw (h.is_held.learned_is, h.is_held.offset_is, h.is_held.previous_is)
 
   many : length (part ++ row ∷ []) ≡ suc (length part)
   many = omega (arith, length-append part (row ∷ []))
 
   plain_more : plain_down (trial_of mode most carry offset) (part ++ row ∷ []) ≡ plain_down (trial_of mode most carry offset) part ++ cond (not (may_be_typical mode line)) (line ∷ []) []
   plain_more =
-      ap (plain_lines mode) (lines_more mode move 0 (first_row_start carry) part row)
-      ∙ filter-append (λ l. not (may_be_typical mode l)) (lines_down carry.above carry.second part) (line ∷ [])
+      rw (lines_more mode move 0 (first_row_start carry) part row) (filter-append (λ l. not (may_be_typical mode l)) (lines_down carry.above carry.second part) (line ∷ []))
 
   few_plain : length part < 2 ^ 32 - 1 → length (plain_down (trial_of mode most carry offset) part) < 2 ^ 32 - 1
   few_plain few =
@@ -122,11 +119,9 @@ module _ {part : List (List Bool)} {before : Held} {trial : Trial} (shape : Shap
       CountsLines trial.tally shape.width 0 (plain_down (trial_of mode most carry offset) part) → may_be_typical mode line ≡ flag →
       CountsLines trial'.tally shape.width 0 (plain_down (trial_of mode most carry offset) (part ++ row ∷ []))
   counted_more {flag = true} few typical plain was is =
-      subst (CountsLines trial'.tally shape.width 0) (sym (plain_more ∙ ap (λ f. plain_down (trial_of mode most carry offset) part ++ cond (not f) (line ∷ []) []) is ∙ append-nil (plain_down (trial_of mode most carry offset) part)))
-      (subst (λ t. CountsLines t shape.width 0 (plain_down (trial_of mode most carry offset) part)) (sym (typical is)) was)
+      rw (plain_more, is, append-nil (plain_down (trial_of mode most carry offset) part), typical is) was
   counted_more {flag = false} few typical plain was is =
-      subst (CountsLines trial'.tally shape.width 0) (sym (plain_more ∙ ap (λ f. plain_down (trial_of mode most carry offset) part ++ cond (not f) (line ∷ []) []) is))
-      (plain is (plain_down (trial_of mode most carry offset) part) (few_plain few) was)
+      rw (plain_more, is) (plain is (plain_down (trial_of mode most carry offset) part) (few_plain few) was)
 
   pub row_tried : length part < 2 ^ 32 - 1 → trial'.is_counted ≡ trial.is_counted
       → RowCoded (sink_at counts trial.sink h.pushed) (row_task shape trial.kept (record { place = b.state.place; learned = trial.learned }) line) trial'.kept (encoder_state trial'.sink trial'.encoder trial'.learned)
@@ -136,16 +131,16 @@ module _ {part : List (List Bool)} {before : Held} {trial : Trial} (shape : Shap
       → IsTried (trial_of mode most carry offset) (part ++ row ∷ []) shape.width trial' window
   row_tried few same coded typical plain two_line most_is = record {
     pushed = h.pushed ++ coded.encodes.more;
-    codes = subst (λ n. EncoderIsAt trial'.encoder n.state.place (h.pushed ++ coded.encodes.more)) (sym next_is) (subst (λ n. EncoderIsAt trial'.encoder n.place (h.pushed ++ coded.encodes.more)) state_is coded.encodes.codes);
-    bytes = took_counted trial.sink trial'.sink coded.encodes.more coded.encodes.taken (length h.pushed) h.bytes ∙ ap (λ n. n % 2 ^ 64) (sym (length-append h.pushed coded.encodes.more));
-    is_held = subst (λ n. IsHeldBy move n (after_rows mode move 0 (first_row_start carry) (part ++ row ∷ [])) trial'.kept trial'.learned window) (sym many) (subst (λ n. IsHeldBy move (suc (length part)) n trial'.kept trial'.learned window) (sym next_is) (record {
+    codes = rw (next_is, ← state_is) coded.encodes.codes;
+    bytes = rw (took_counted trial.sink trial'.sink coded.encodes.more coded.encodes.taken (length h.pushed) h.bytes, ← length-append h.pushed coded.encodes.more);
+    is_held = rw (many, next_is) (record {
       at_top = h.is_held.at_top;
       offset_is = coded.offset_is ∙ h.is_held.offset_is ∙ moved_before move (length part) h.is_held.at_top;
       previous_is = coded.flag_is;
       learned_is = coded.encodes.taught ∙ ap (λ n. n.learned) state_is;
       third = b.second;
       lines_are = lines_are;
-    }));
+    });
     two_line = two_line ∙ h.two_line;
     most_is = most_is ∙ h.most_is;
     counts = λ is. counted_more few (λ flag. typical (coded.flag_is ∙ flag)) (λ flag. plain (sym same ∙ is) (coded.flag_is ∙ flag)) (h.counts (sym same ∙ is)) refl;
@@ -157,5 +152,4 @@ pub code_counted : {t : TrialOf} {part : List (List Bool)} {width : ℕ} {trial 
     (h : IsTried t part width trial window) → OnErr r (◌≡◌ {A = ℕ} 0 (one_more 0)) → Finish (sink_at counts trial.sink h.pushed) (tried_to t part).state.place to r →
     to.bytes ≡ length (tried_code t part) % 2 ^ 64
 code_counted {t} {part} {trial} {to} {r} laws h never f =
-    took_counted trial.sink to f.more (sure r never f.writes.ok) (length h.pushed) h.bytes
-    ∙ ap (λ n. n % 2 ^ 64) (sym (length-append h.pushed f.more) ∙ ap length f.all ∙ ap (λ c. length (stuffed c)) ((laws.one_code (tried_to t part).state.place (rows_place laws t.mode (named_move t.offset t.carry.offset) 0 (first_row_start t.carry) part laws.start_is_place)).only f.code f.is))
+    rw (took_counted trial.sink to f.more (sure r never f.writes.ok) (length h.pushed) h.bytes, ← length-append h.pushed f.more, f.all, (laws.one_code (tried_to t part).state.place (rows_place laws t.mode (named_move t.offset t.carry.offset) 0 (first_row_start t.carry) part laws.start_is_place)).only f.code f.is)

@@ -53,8 +53,7 @@ module _ {h : Fields} (ok : IsAccepted h) (body : List ℕ) where
   pub changed : {m : ℕ} (n k : ℕ) (rest : List ℕ) → is_variable h ≡ true → is_valid_length h k n ≡ true → m ≡ 0 → length_fault h (spot_of 0 k m) (big_bytes 4 n ++ rest) ≡ Some Changed
   changed n k rest variable valid none =
       let w = valid_parts h k n valid in
-      subst (λ u. length_fault h (spot_of 0 k u) (big_bytes 4 n ++ rest) ≡ Some Changed) (sym none)
-      (length_changed h 0 k variable n rest (omega arith) valid (let other : n ≢ 0 = omega arith in other))
+      rw none (length_changed h 0 k variable n rest (omega arith) valid (let other : n ≢ 0 = omega arith in other))
 
   -- after what comes before it, a valid height is a fault where 0 is in use
   abbrev pub given_breaks : (n : ℕ) (g : GivesHeight h body n) → StripeFault h (spot_after 0 g.stripes) (flat_map segment_bytes g.segments ++ (segment_bytes (NewLength n) ++ g.rest)) Changed
@@ -64,10 +63,10 @@ module _ {h : Fields} (ok : IsAccepted h) (body : List ℕ) where
     rest = segment_bytes (NewLength n) ++ g.rest;
     bytes_are = refl;
     begun = g.begun;
-    gives = gives_none 0 (length (lengths (all_segments g.stripes))) g.segments (let a : length (lengths (all_segments g.stripes)) ≡ 0 = ap length (none_left (all_segments g.stripes) g.segments g.first) in omega arith) (none_right (all_segments g.stripes) g.segments g.first);
+    gives = gives_none 0 (length (lengths (all_segments g.stripes))) g.segments (let a = ap length (none_left (all_segments g.stripes) g.segments g.first) in omega arith) (none_right (all_segments g.stripes) g.segments g.first);
     rest_has = changed n (length g.stripes) g.rest g.variable g.valid (
-        let a : length (lengths (all_segments g.stripes)) ≡ 0 = ap length (none_left (all_segments g.stripes) g.segments g.first) in
-        let b : length (lengths g.segments) ≡ 0 = ap length (none_right (all_segments g.stripes) g.segments g.first) in
+        let a = ap length (none_left (all_segments g.stripes) g.segments g.first) in
+        let b : length (lengths g.segments) ≡ 0 = rw (none_right (all_segments g.stripes) g.segments g.first) in
         omega arith);
   }
 

@@ -28,7 +28,7 @@ module _ {h : Fields} (ok : IsAccepted h) where
     nowhere : ((n : ℕ) (more : List ℕ) → is_valid_length h k n ≡ true → rest ≡ segment_bytes (NewLength n) ++ more → ⊥) → HeightAt k rest
 
   short : (k : ℕ) (rest : List ℕ) → length rest < 6 → HeightAt k rest
-  short k rest less = nowhere (λ n more valid e. let l : length rest ≡ length (segment_bytes (NewLength n) ++ more) = ap length e in omega arith)
+  short k rest less = nowhere (λ n more valid e. let l = ap length e in omega arith)
 
   height_at : (k : ℕ) (rest : List ℕ) → AreBytes rest → HeightAt k rest
   height_at k (a ∷ b ∷ x ∷ y ∷ z ∷ w ∷ more) all = went (cases_eq a 255) (cases_eq b 5) where
@@ -45,7 +45,7 @@ module _ {h : Fields} (ok : IsAccepted h) where
         true≢false (sym valid ∙ ap (is_valid_length h k) (sym same) ∙ v))
 
     went : (a ≡ 255) ⊎ (a ≢ 255) → (b ≡ 5) ⊎ (b ≢ 5) → HeightAt k (a ∷ b ∷ x ∷ y ∷ z ∷ w ∷ more)
-    went (inl p) (inl q) = subst (λ u. HeightAt k (u ∷ b ∷ x ∷ y ∷ z ∷ w ∷ more)) (sym p) (subst (λ u. HeightAt k (255 ∷ u ∷ x ∷ y ∷ z ∷ w ∷ more)) (sym q) (judged (is_valid_length h k (big_number 4 (x ∷ y ∷ z ∷ w ∷ more))) refl))
+    went (inl p) (inl q) = rw (p, q) (judged (is_valid_length h k (big_number 4 (x ∷ y ∷ z ∷ w ∷ more))) refl)
     went (inr p) q = nowhere (λ n tail valid e. p (first_two n (big_bytes 4 n ++ tail) e).0)
     went (inl p) (inr q) = nowhere (λ n tail valid e. q (first_two n (big_bytes 4 n ++ tail) e).1)
   height_at k rest all = short k rest (omega arith)
@@ -69,7 +69,7 @@ module _ {h : Fields} (ok : IsAccepted h) where
   look_fault k rest = rest_fault h (spot_of 0 k 0) 1 false rest
 
   look_at : (fuel k : ℕ) (rest : List ℕ) → length rest ≤ fuel → AreBytes rest → Look k rest
-  look_at zero k [] le all = ended [] [] tt tt (λ n more v e. let l : 0 ≡ length (segment_bytes (NewLength n) ++ more) = ap length e in omega arith) (λ text more s e. let l : 0 ≡ length (segment_bytes (Comment text) ++ more) = ap length e in omega arith) refl
+  look_at zero k [] le all = ended [] [] tt tt (λ n more v e. let l = ap length e in omega arith) (λ text more s e. let l : 0 ≡ length (segment_bytes (Comment text) ++ more) = ap length e in omega arith) refl
   look_at zero k (b ∷ rest) le all = absurd (omega arith)
   look_at (suc fuel) k rest le all = went (height_at k rest all) (λ r less a. look_at fuel k r less a) where
     went : HeightAt k rest → ((r : List ℕ) → length r ≤ fuel → AreBytes r → Look k r) → Look k rest
@@ -96,10 +96,10 @@ module _ {h : Fields} (ok : IsAccepted h) where
               legal = subst (IsLegal h) e at.legal
 
               is : rest ≡ segment_bytes (Comment text) ++ at.more
-              is = at.tail_is ∙ ap (λ u. segment_bytes u ++ at.more) e
+              is = rw (at.tail_is, e)
 
               joined : (cs : List Segment) (z : List ℕ) → at.more ≡ flat_map segment_bytes cs ++ z → rest ≡ flat_map segment_bytes (Comment text ∷ cs) ++ z
-              joined cs z q = is ∙ ap (λ u. segment_bytes (Comment text) ++ u) q ∙ sym (append_assoc (segment_bytes (Comment text)) (flat_map segment_bytes cs) z)
+              joined cs z q = rw (is, q, ← append_assoc (segment_bytes (Comment text)) (flat_map segment_bytes cs) z)
 
               next : Look k at.more → Look k rest
               next (found cs n more c l v q) = found (Comment text ∷ cs) n more (refl, c) (legal, l) v (joined cs (segment_bytes (NewLength n) ++ more) q)
@@ -133,7 +133,7 @@ module _ {h : Fields} (ok : IsAccepted h) where
   no_look k n [] (Comment text ∷ ds) last more c l d m valid no_height no_comment e =
       no_comment text (flat_map segment_bytes ds ++ (segment_bytes (NewLength n) ++ more)) m.0 (e ∙ append_assoc (segment_bytes (Comment text)) (flat_map segment_bytes ds) (segment_bytes (NewLength n) ++ more))
   no_look k n [] (s ∷ ds) last more c l d m valid no_height no_comment e = true≢false (sym d.0)
-  no_look k n (Comment text ∷ cs) [] last more c l d m valid no_height no_comment e = let s : 7 ≡ 5 = second e in omega (arith, s)
+  no_look k n (Comment text ∷ cs) [] last more c l d m valid no_height no_comment e = let s = second e in omega (arith, s)
   no_look k n (Comment text ∷ cs) (Comment text' ∷ ds) last more c l d m valid no_height no_comment e =
       let first = one_segment ok (Comment text) (Comment text') (flat_map segment_bytes cs ++ last) (flat_map segment_bytes ds ++ (segment_bytes (NewLength n) ++ more)) l.0 m.0
       (sym (append_assoc (segment_bytes (Comment text)) (flat_map segment_bytes cs) last) ∙ e ∙ append_assoc (segment_bytes (Comment text')) (flat_map segment_bytes ds) (segment_bytes (NewLength n) ++ more)) in
@@ -170,7 +170,7 @@ module _ {h : Fields} (ok : IsAccepted h) where
     by (inr more) =
         let same : length ss ≡ length g.stripes = omega arith in
         let front = one_front ok ss g.stripes rest (flat_map segment_bytes g.segments ++ (segment_bytes (NewLength n) ++ g.rest)) each g.each same (sym is ∙ g.body_is) in
-        no_look (length ss) n cs g.segments last g.rest c l (g.behind (sym same ∙ many)) g.begun.legal (subst (λ k. is_valid_length h k n ≡ true) (sym same) g.valid) no_height no_comment (sym e ∙ front.1)
+        no_look (length ss) n cs g.segments last g.rest c l (g.behind (sym same ∙ many)) g.begun.legal (rw same g.valid) no_height no_comment (sym e ∙ front.1)
 
   -- and the header's is that of the image
   pub height_of_ended : {body rest : List ℕ} (ss : List Stripe) (cs : List Segment) (last : List ℕ) → length ss ≡ stripe_count h.yd h.l0 → AreStripes h ss → GiveOnly 0 0 (all_segments ss) →
@@ -190,7 +190,7 @@ module _ {h : Fields} (ok : IsAccepted h) where
 
   module _ (body : List ℕ) (all : AreBytes body) (variable : is_variable h ≡ true) where
     enough_there : (ss : List Stripe) (rest : List ℕ) → length ss ≡ stripe_count h.yd h.l0 → AreStripes h ss → GiveOnly 0 0 (all_segments ss) → body ≡ flat_map stripe_bytes ss ++ rest → (n : ℕ) × IsHeight h body n
-    enough_there ss rest many each gives is = went (look_at (length rest) (length ss) rest (omega arith) (all_right (λ x. x < 256) (flat_map stripe_bytes ss) rest (subst AreBytes is all))) where
+    enough_there ss rest many each gives is = went (look_at (length rest) (length ss) rest (omega arith) (all_right (λ x. x < 256) (flat_map stripe_bytes ss) rest (rw (← is) all))) where
       went : Look (length ss) rest → (n : ℕ) × IsHeight h body n
       went (found cs n more c l v e) = (
         n,
@@ -199,10 +199,10 @@ module _ {h : Fields} (ok : IsAccepted h) where
           stripes = ss;
           segments = cs;
           rest = more;
-          body_is = is ∙ ap (λ u. flat_map stripe_bytes ss ++ u) e;
+          body_is = rw (is, e);
           each = each;
           begun = record { legal = l; one_move = comments_make_none cs c; bytes = tt };
-          first = both_none ss cs each l gives (subst (AllByRecursion (λ n. n ≡ 0)) (sym (comments_give_none cs c)) tt);
+          first = both_none ss cs each l gives (rw (comments_give_none cs c) tt);
           within = omega arith;
           behind = λ _. c;
           valid = v;
@@ -215,7 +215,7 @@ module _ {h : Fields} (ok : IsAccepted h) where
       rest_bytes : AreBytes b.tail_has.rest
       rest_bytes =
           all_right (λ x. x < 256) (stuffed b.tail_has.code) b.tail_has.rest (all_right (λ x. x < 256) (flat_map segment_bytes b.tail_has.segments) (stuffed b.tail_has.code ++ b.tail_has.rest)
-          (subst AreBytes b.tail_has.bytes_are (all_right (λ x. x < 256) (flat_map stripe_bytes b.stripes) b.tail (subst AreBytes b.bytes_are all))))
+          (rw (← b.tail_has.bytes_are) (all_right (λ x. x < 256) (flat_map stripe_bytes b.stripes) b.tail (subst AreBytes b.bytes_are all))))
 
       is_nil_or : (code : List ℕ) → (code ≡ []) ⊎ (code ≡ [] → ⊥)
       is_nil_or [] = inl refl
@@ -230,7 +230,7 @@ module _ {h : Fields} (ok : IsAccepted h) where
 
       went : HeightAt (length b.stripes) b.tail_has.rest → (b.tail_has.code ≡ []) ⊎ (b.tail_has.code ≡ [] → ⊥) → (n : ℕ) × IsHeight h body n
       went at (inr not_nil) = header_height body (λ n g. not_nil (same n g).0)
-      went (nowhere never) (inl nil) = header_height body (λ n g. let e = same n g in never n g.rest (subst (λ k. is_valid_length h k n ≡ true) (sym e.1) g.valid) e.2)
+      went (nowhere never) (inl nil) = header_height body (λ n g. let e = same n g in never n g.rest (rw e.1 g.valid) e.2)
       went (there n more v e) (inl nil) = (
         n,
         inl (record {
@@ -238,7 +238,7 @@ module _ {h : Fields} (ok : IsAccepted h) where
           stripes = b.stripes;
           segments = b.tail_has.segments;
           rest = more;
-          body_is = b.bytes_are ∙ ap (λ u. flat_map stripe_bytes b.stripes ++ u) (b.tail_has.bytes_are ∙ ap (λ u. flat_map segment_bytes b.tail_has.segments ++ (stuffed u ++ b.tail_has.rest)) nil ∙ ap (λ u. flat_map segment_bytes b.tail_has.segments ++ u) e);
+          body_is = rw (b.bytes_are, b.tail_has.bytes_are, nil, e);
           each = b.each;
           begun = record { legal = b.tail_has.begun.legal; one_move = b.tail_has.begun.one_move; bytes = tt };
           first = both_none b.stripes b.tail_has.segments b.each b.tail_has.begun.legal b.gives b.tail_has.gives.this;

@@ -26,7 +26,7 @@ returns-in-None-clause-outcome g c =
           header = fields_of c.in_ok-header.header;
           taken = record { given = taken.0; long = taken.1; taken = taken.2; header_of = taken.3 };
           variable = sym c.is_variable.ensures ∙ c.if-not-is_variable.false;
-          once = ap is_some c.in-None.is;
+          once = rw c.in-None.is;
           answer_is = refl;
           unfailed = c.in_ok-header.ensures.counts;
           nothing = record { kept = Keeps-same _; unfailed = refl };

@@ -38,7 +38,7 @@ returns-in-Err-write_held g c =
       ok = tt;
       short = λ fault is. absurd (let both : Write ≡ Pbm fault = sym last ∙ (cc) in let bot : ⊥ = cc in bot);
       begun = front_handed _ _ _ _ _ _ _ _ (told_front _ _ _ _ _ _ _ _ _ c.in-Err.fault c.in-Err.ensures.among c.in_default.not-Write c.in-Err.ensures.short) c.write_held-in_default.ensures.text;
-      among = subst IsEncodeFault (sym last) tt;
+      among = rw last tt;
       reads = counts_written _ _ c.in-Err.fault _ c.in-Err.ensures.reads last;
       same_input = c.in-Err.ensures.same_input;
       writes = (c.in-Err-write_held.ensures.writes.0 ∙ ap (writes_after _) (c.in-Err.ensures.writes.counts ∙ none _), (let more = c.write_held-in_default.ensures.writes.1 in let before = c.in-Err.ensures.writes.grows in omega arith), c.write_held-in_default.ensures.writes.2 ∙ c.in-Err.ensures.writes.same_writer);

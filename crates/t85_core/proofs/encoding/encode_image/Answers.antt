@@ -47,7 +47,7 @@ returns-in_err-read_next_row-clause-short g c fault is =
     let short = c.in_err-read_next_row.ensures.short in
     exit_of c.from_residual-in_err-read_next_row.result c.from_residual-in_err-read_next_row.ensures.1 (λ told.
     front_short s c.args.size.height _ _ _ so.2 (omega arith)
-    (subst (λ f. EndsInRow c.args.form c.args.size.width (g.R.Input.view c.rows.source).remaining (g.R.Input.view c.read_next_row.new.source).remaining f) (same_fault short.0 fault _ short.1 told) short.2)
+    (rw (← same_fault short.0 fault _ short.1 told) short.2)
     (c.fronts.ensures (image_of s c.args.size.width c.args.size.height) so.0 (view_of c.rows.encoder c.rows.learning) (held c.rows.window) _ _ so.3)) is
 
 pub put_taken-requires-clause-lined : goal.put_taken-requires-clause-lined

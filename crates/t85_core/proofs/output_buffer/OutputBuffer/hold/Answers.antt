@@ -24,7 +24,7 @@ returns-in_err-write_held g c =
         appends = Appends-keeps _ _ _ _ v.text c.in_err-write_held.ensures.text;
       };
       grows = le_trans v.grows c.in_err-write_held.ensures.writes.1;
-      counts = c.in_err-write_held.ensures.writes.0 ∙ ap (writes_after _) v.unfailed;
+      counts = rw (c.in_err-write_held.ensures.writes.0, v.unfailed);
       same_writer = c.in_err-write_held.ensures.writes.2 ∙ v.same_writer;
     })
 

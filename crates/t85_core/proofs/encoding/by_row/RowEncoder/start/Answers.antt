@@ -26,7 +26,7 @@ pub returns-clause-cut : goal.returns-clause-cut
 returns-clause-cut g c is =
     let buffer = c.new-buffer.result in
     let after = c.start_held.new.buffer in
-    let text_is : text_taken buffer ≡ (g.W.Output.view c.args.output.now).contents = text_unheld buffer.bytes buffer.at buffer.end (g.W.Output.view buffer.output.now).contents c.new-buffer.ensures.empty ∙ ap (λ m. (g.W.Output.view m.now).contents) c.new-buffer.ensures.lent in
+    let text_is : text_taken buffer ≡ (g.W.Output.view c.args.output.now).contents = rw (text_unheld buffer.bytes buffer.at buffer.end (g.W.Output.view buffer.output.now).contents c.new-buffer.ensures.empty, c.new-buffer.ensures.lent) in
     let lent : (g.W.Output.view buffer.output.now).contents ≡ (g.W.Output.view c.args.output.now).contents = ap (λ m. (g.W.Output.view m.now).contents) c.new-buffer.ensures.lent in
     let head = head_of (settings_of c.args.options.now) c.args.size.width c.args.size.height in
     let more : known_length (g.W.Output.view c.args.output.now).contents ≤ known_length (g.W.Output.view after.output.now).contents = subst (λ z. known_length z ≤ known_length (g.W.Output.view after.output.now).contents) lent c.start_held.ensures.writes.1 in

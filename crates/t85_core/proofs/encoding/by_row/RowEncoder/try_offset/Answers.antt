@@ -14,10 +14,10 @@ returns-clause-bytes c carry carried =
     let w = c.args.window.now in
     let t = trial_from e carry c.args.offset in
     let code = length (tried_code t (all_rows_in e.size.width c.args.rows.now)) in
-    let same : held c.resume-copy.result ≡ held w = copied c.copy_from_slice.ensures.after c.place.ensures.place c.requires.width c.resume-copy.ensures.held in
+    let same = copied c.copy_from_slice.ensures.after c.place.ensures.place c.requires.width c.resume-copy.ensures.held in
     let tried = c.code_rows.ensures.rows e.most_offset carry c.args.offset
     (trial_begins e (held w) carry carried refl refl c.copy.ensures c.start.ensures.codes refl c.new.ensures.two_line c.new.ensures.most (c.new.ensures.counts e.shape.width 0)
-    (λ lined. c.clear_padding.ensures.stays (subst IsLined (sym same) lined) ∙ same)) in
+    (λ lined. c.clear_padding.ensures.stays (rw same lined) ∙ same)) in
     ap (λ n. (n + c.other_bytes.result) % 2 ^ 64) (c.finish-tried.ensures.bytes t _ _ _ tried)
     ∙ ap (λ n. (code % 2 ^ 64 + n) % 2 ^ 64) (c.other_bytes.ensures ∙ others_are c.args.offset e.kept.offset ∙ ap (λ o. length (flat_map segment_bytes (move_segments (named_move c.args.offset o))) + 2) carried.offset_is)
     ∙ summed code _
@@ -26,8 +26,8 @@ pub returns-clause-lag : goal.returns-clause-lag
 returns-clause-lag c carry carried counted =
     let e = c.args.self.now in
     let w = c.args.window.now in
-    let same : held c.resume-copy.result ≡ held w = copied c.copy_from_slice.ensures.after c.place.ensures.place c.requires.width c.resume-copy.ensures.held in
+    let same = copied c.copy_from_slice.ensures.after c.place.ensures.place c.requires.width c.resume-copy.ensures.held in
     let tried = c.code_rows.ensures.rows e.most_offset carry c.args.offset
     (trial_begins e (held w) carry carried refl refl c.copy.ensures c.start.ensures.codes refl c.new.ensures.two_line c.new.ensures.most (c.new.ensures.counts e.shape.width 0)
-    (λ lined. c.clear_padding.ensures.stays (subst IsLined (sym same) lined) ∙ same)) in
+    (λ lined. c.clear_padding.ensures.stays (rw same lined) ∙ same)) in
     c.finish-tried.ensures.lag (trial_from e carry c.args.offset) _ _ _ tried (c.code_rows.ensures.is_counted ∙ counted)

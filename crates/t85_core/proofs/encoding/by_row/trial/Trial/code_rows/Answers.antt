@@ -15,7 +15,7 @@ code-requires-clause-ready c =
     let w = c.args.shape.width in
     let k = c.loop-k.k in
     let few : k ≤ 2 ^ 32 = omega arith in
-    let up : k * (w + 1) ≤ 2 ^ 32 * (w + 1) = mul-le-mul_right (w + 1) few in
+    let up = mul-le-mul_right (w + 1) few in
     let narrow : w ≤ 1048576 = omega arith in
     let events = ready.few in
     record {
@@ -35,7 +35,7 @@ loop-k-preserved c =
     let below = c.take_row.ensures.below in
     let few : length (packed_rows w rows k) < 2 ^ 32 - 1 = omega (arith, length-packed_rows w rows k) in
     let pixels = ap (λ b. pixels_of w (slice_range rows (k * b) (k * b + b))) c.row_bytes-long.ensures in
-    let sum : (k + 1) * (c.args.shape.width + 1) ≡ k * (c.args.shape.width + 1) + 1 * (c.args.shape.width + 1) = add-mul k 1 (c.args.shape.width + 1) in
+    let sum = add-mul k 1 (c.args.shape.width + 1) in
     let after = c.code.ensures.going (k * (c.args.shape.width + 1)) (record {
       row = (ready.row.0, c.take_row.ensures.window.0.0 ∙ ready.row.1, ready.row.2);
       going = ready.going;
@@ -44,9 +44,7 @@ loop-k-preserved c =
     let events = after.few in
     record {
       tries = λ most carry offset start.
-          subst (λ z. IsTried (trial_of (shape_mode c.args.shape) most carry offset) z c.args.shape.width c.code.new.self (held c.take_row.new.window))
-          (ap (λ p. packed_rows w rows k ++ p ∷ []) pixels ∙ sym (packed_rows_more w rows k))
-          (c.code.ensures.row most carry offset (packed_rows w rows k) _ (held c.loop-k.window) few below (c.loop-k.invariant.tries most carry offset start));
+          rw (packed_rows_more w rows k, ← pixels) (c.code.ensures.row most carry offset (packed_rows w rows k) _ (held c.loop-k.window) few below (c.loop-k.invariant.tries most carry offset start));
       ready = record { row = after.row; going = after.going; few = omega arith };
       lined = ((_, below lined.0.0 lined.0.1), c.take_row.ensures.window.0.0 ∙ lined.1);
       tally = (c.code.ensures.tally.0 ∙ c.loop-k.invariant.tally.0, c.code.ensures.tally.1 ∙ c.loop-k.invariant.tally.1);
@@ -58,5 +56,4 @@ pub returns-clause-rows : goal.returns-clause-rows
 returns-clause-rows c most carry offset start =
     let count = ap (λ b. length c.args.rows.now / b) c.row_bytes-long.ensures in
     let all : c.loop-k.k ≡ length c.args.rows.now / bytes_of_row c.args.size.width = omega arith in
-    subst (λ n. IsTried (trial_of (shape_mode c.args.shape) most carry offset) (packed_rows c.args.size.width c.args.rows.now n) c.args.shape.width c.loop-k.self (held c.loop-k.window)) all
-    (c.loop-k.invariant.tries most carry offset start)
+    rw (← all) (c.loop-k.invariant.tries most carry offset start)
