@@ -33,7 +33,7 @@ exit P (Err y) a p = rw a p
 -- the next byte is missing
 pub Ends-missing : {a b c : Option (List ℕ)} {f : Fault} (Q : List ℕ → Fault → Type 0) (front : List ℕ) → Consumes a b front → Q front Truncated → Ends Truncated b c (λ given fault. (given ≡ []) × (fault ≡ Truncated)) f → Ends Truncated a c Q f
 Ends-missing Q front taken q e = Ends-after front taken (λ given f p.
-    rw (p.1, p.0, append-nil front) q) e
+    rw (p.1, p.0, append-nil) q) e
 
 -- what follows from the fault that a `?` passed on
 pub exit_of : {T : Type 0} {P : Type 0} (r : Result T Fault) {e f : Fault} → IsErrAnd r (λ y. y ≡ e) → (e ≡ f → P) → IsErrOf r f → P

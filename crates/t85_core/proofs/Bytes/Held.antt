@@ -56,12 +56,12 @@ next_taken bytes at end a some within =
 -- so many bytes of those that are held
 pub some_taken : (bytes : List ℕ) (at count end : ℕ) (a : Option (List ℕ)) → at + count ≤ end → Consumes (prepend_known (held_of bytes at end) a) (prepend_known (held_of bytes (at + count) end) a) (take count (held_of bytes at end))
 some_taken bytes at count end a fits =
-    rw (held_after bytes at count end fits) (consumes_held count (held_of bytes at end) a)
+    rw held_after (consumes_held count (held_of bytes at end) a)
 
 -- where none is held, the known bytes are those that the input has still to give
 pub known_unheld : {at end : ℕ} (bytes : List ℕ) (a : Option (List ℕ)) → at ≡ end → prepend_known (held_of bytes at end) a ≡ a
 known_unheld bytes None e = refl
-known_unheld bytes (Some a) e = rw (none_held bytes e)
+known_unheld bytes (Some a) e = rw none_held
 
 pub held_long : (bytes : List ℕ) (at end : ℕ) → at ≤ end → end ≤ length bytes → length (held_of bytes at end) ≡ end - at
 held_long bytes at end ordered within = omega (arith, length-take (end - at) (drop at bytes), length-drop at bytes)

@@ -13,7 +13,7 @@ pub keeps_written : {rest : List ℕ} (a b c : Option (List ℕ)) (whole front b
 keeps_written None b c whole front back k p e = tt
 keeps_written (Some a) None c whole front back k p e = absurd k
 keeps_written (Some a) (Some b) None whole front back k p e = absurd p
-keeps_written (Some a) (Some b) (Some c) whole front back k p e = rw (p, append_assoc b front back, ← e) k
+keeps_written (Some a) (Some b) (Some c) whole front back k p e = rw (p, append_assoc, ← e) k
 
 pub keeps_failed : (a b c : Option (List ℕ)) (whole rest : List ℕ) → Keeps (append_known a whole) (append_known b rest) → Keeps b c → Keeps (append_known a whole) (append_known c rest)
 keeps_failed None b c whole rest k p = tt

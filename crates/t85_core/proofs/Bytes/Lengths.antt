@@ -17,7 +17,7 @@ lengths_append (Comment text ∷ ss) ts = lengths_append ss ts
 
 -- how many there are
 pub many_lengths : (ss ts : List Segment) → length (lengths (ss ++ ts)) ≡ length (lengths ss) + length (lengths ts)
-many_lengths ss ts = rw (lengths_append ss ts) (length-append (lengths ss) (lengths ts))
+many_lengths ss ts = rw lengths_append (length-append (lengths ss) (lengths ts))
 
 left_of : (P : ℕ → Type 0) (xs ys : List ℕ) → AllByRecursion P (xs ++ ys) → AllByRecursion P xs
 left_of P [] ys h = tt
@@ -29,7 +29,7 @@ right_of P (x ∷ xs) ys h = right_of P xs ys h.1
 
 module _ (height heights : ℕ) where
   all_in : (ss ts : List Segment) → GiveOnly height heights (ss ++ ts) → AllByRecursion (λ n. n ≡ height) (lengths ss ++ lengths ts)
-  all_in ss ts g = rw (← lengths_append ss ts) g.this
+  all_in ss ts g = rw (← lengths_append) g.this
 
   pub gives_left : (ss ts : List Segment) → GiveOnly height heights (ss ++ ts) → GiveOnly height heights ss
   gives_left ss ts g = record { one = (let e = many_lengths ss ts in omega arith); this = left_of (λ n. n ≡ height) (lengths ss) (lengths ts) (all_in ss ts g) }
@@ -40,7 +40,7 @@ module _ (height heights : ℕ) where
   pub gives_both : {ss : List Segment} (ts : List Segment) → GiveOnly height heights ss → GiveOnly height (heights + length (lengths ss)) ts → GiveOnly height heights (ss ++ ts)
   gives_both {ss} ts g k = record {
     one = (let e = many_lengths ss ts in omega arith);
-    this = rw (lengths_append ss ts) (All-append (λ n. n ≡ height) (lengths ss) (lengths ts) g.this k.this);
+    this = rw lengths_append (All-append (λ n. n ≡ height) (lengths ss) (lengths ts) g.this k.this);
   }
 
   pub gives_none : (ss : List Segment) → heights ≤ 1 → lengths ss ≡ [] → GiveOnly height heights ss

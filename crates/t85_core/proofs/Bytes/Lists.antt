@@ -16,4 +16,4 @@ pub count_push : {X : Type 0} (p : X → Bool) (xs : List X) (x : X) → count_b
 count_push p xs x = let e = sum_by-append (λ y. cond (p y) 1 0) xs (x ∷ []) in omega arith
 
 pub flat_map_push : {X : Type 0} (f : X → List ℕ) (xs : List X) (x : X) → flat_map f (xs ++ x ∷ []) ≡ flat_map f xs ++ f x
-flat_map_push f xs x = rw (flat_map-append f xs (x ∷ []), append-nil (f x))
+flat_map_push f xs x = rw (flat_map-append, append-nil)

@@ -22,7 +22,7 @@ pub sends_after : {o : Origin} {b c : Option (List ℕ)} {xs ys : List ℕ} → 
 sends_after {xs = xs} p q = record {
   front = xs ++ q.front;
   rest = q.rest;
-  text_is = rw (q.text_is, ← append_assoc xs q.front q.rest);
+  text_is = rw (q.text_is, ← append_assoc);
   sends = Sends-more q.front p q.appends;
 }
 

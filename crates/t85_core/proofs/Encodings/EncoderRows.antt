@@ -70,7 +70,7 @@ module _ (s : Settings) (raster : Raster) where
   same_stripe (suc i) = rw (same_stripe i)
 
   pub same_lines : (y : ℕ) → lines_of c y ≡ lines_of d y
-  same_lines y = rw (same_stripe (y / s.stripe_rows))
+  same_lines y = rw same_stripe
 
   pub flag_is_typical : (y : ℕ) → y < height raster → slice_index_or c.flags y false ≡ may_be_typical d.mode (lines_of d y)
   flag_is_typical y lt =

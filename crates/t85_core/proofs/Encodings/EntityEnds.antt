@@ -16,7 +16,7 @@ module _ (p : Place) (reset : Bool) (pushed : List ℕ) (text mid text' : Option
     code = c.code;
     is = c.is;
     more = c.more ++ marker_bytes reset;
-    all = rw (← append_assoc pushed c.more (marker_bytes reset), c.all);
+    all = rw (← append_assoc, c.all);
     ok = tt;
     cut = beginning_longer (marker_bytes reset) c.cut;
   }
@@ -28,7 +28,7 @@ module _ (p : Place) (reset : Bool) (pushed : List ℕ) (text mid text' : Option
     code = c.code;
     is = c.is;
     more = c.more ++ marker_bytes reset;
-    all = rw (← append_assoc pushed c.more (marker_bytes reset), c.all);
+    all = rw (← append_assoc, c.all);
     ok = Appends-more text mid text' c.more (marker_bytes reset) c.ok ok;
     cut = tt;
   }
@@ -36,7 +36,7 @@ module _ (p : Place) (reset : Bool) (pushed : List ℕ) (text mid text' : Option
     code = c.code;
     is = c.is;
     more = c.more ++ marker_bytes reset;
-    all = rw (← append_assoc pushed c.more (marker_bytes reset), c.all);
+    all = rw (← append_assoc, c.all);
     ok = tt;
     cut = beginning_after c.more c.ok cut;
   }

@@ -83,7 +83,7 @@ module _ (image : Image) (rows : List (List Bool)) (v : RowView) (window : Held)
         record {
           rest = p.rest ++ marker_bytes image.settings.reset;
           bytes_are =
-              rw (p.bytes_are, append_assoc r.pushed p.rest (marker_bytes image.settings.reset), ← append_assoc (move_bytes image.settings image.width r.at) r.pushed (p.rest ++ marker_bytes image.settings.reset));
+              rw (p.bytes_are, append_assoc, ← append_assoc);
         }
 
   -- what stands is a beginning of each stream that may come, with each stripe whose rows all came

@@ -86,7 +86,7 @@ module _ {S : Type 0} (view : S → SinkView) (failed : S → ℕ) (from to : S)
         done = c.done;
         left = c.left;
         appended = cut r.err.fails.more c;
-        begins = rw (append_assoc pushed c.done c.left, ← c.all) r.err.fails.begins;
+        begins = rw (append_assoc, ← c.all) r.err.fails.begins;
       });
     }
 

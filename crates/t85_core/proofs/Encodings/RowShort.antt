@@ -29,7 +29,7 @@ state_down mode move r b (row ∷ rows) =
 
 module _ (laws : WritingLaws) (mode : Mode) (move : Option (ℕ × ℕ)) where
   pub rows_place : (r : ℕ) (b : RowStart) (rows : List (List Bool)) → IsPlace b.state.place → IsPlace (after_rows mode move r b rows).state.place
-  rows_place r b rows is = rw (state_down mode move r b rows) (laws.events_keep_place (events_down mode move r b rows) b.state is)
+  rows_place r b rows is = rw state_down (laws.events_keep_place (events_down mode move r b rows) b.state is)
 
   -- what was pushed begins each code of rows that go on so
   pub pushed_begins : (c : StripeStart) (rows : List (List Bool)) (count : ℕ) (e : Encoder) (pushed : List ℕ) → EncoderIsAt e (after_rows mode move 0 (first_row_start c) rows).state.place pushed → BeginsCode mode move c count rows pushed
@@ -58,7 +58,7 @@ module _ (laws : WritingLaws) (mode : Mode) (move : Option (ℕ × ℕ)) where
       let there = rows_place 0 (first_row_start c) (rows ++ row ∷ later) laws.start_is_place in
       let all : after b.state (events_down mode move (0 + length rows) b (row ∷ later)) ≡ last = sym (ap (λ n. n.state) (after_more mode move 0 (first_row_start c) rows (row ∷ later)) ∙ state_down mode move (0 + length rows) b (row ∷ later)) in
       let parts : events_down mode move (0 + length rows) b (row ∷ later) ≡ events ++ (rest ++ tail) = ap (λ z. z ++ tail) row_is ∙ append_assoc events rest tail in
-      let goes : after (after b.state events) (rest ++ tail) ≡ last = rw (← after_append b.state events (rest ++ tail), ← parts) all in
+      let goes : after (after b.state events) (rest ++ tail) ≡ last = rw (← after_append, ← parts) all in
       let begins = (laws.code_lies_in_all b.state events (rest ++ tail) (code_of last.place) here (rw goes (laws.one_code last.place there).is)).1 front.front front.begins in
       record {
         rest = left ++ stuffed begins.0;

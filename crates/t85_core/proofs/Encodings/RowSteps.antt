@@ -108,7 +108,7 @@ module _ {image : Image} {rows : List (List Bool)} {v : RowView} {before : Held}
     counts = λ more some. counted
         (let sum : (w.i + 1) * image.settings.stripe_rows ≡ w.i * image.settings.stripe_rows + 1 * image.settings.stripe_rows = Rattle.std.proofs.Math.Nat.add-mul w.i 1 image.settings.stripe_rows in omega (arith, sum))
         (w.plan_is.candidates_are ∙ (grind (arith, nat_tests, some)));
-    sent = Sends-more (move_bytes image.settings image.width w.at ++ []) w.sent (rw (append-nil (move_bytes image.settings image.width w.at)) made.appended);
+    sent = Sends-more (move_bytes image.settings image.width w.at ++ []) w.sent (rw append-nil made.appended);
   } where
     on : IsStart image.settings image.width w.at v before
     on = w.on_course (waits_within left)
@@ -128,7 +128,7 @@ module _ {image : Image} {rows : List (List Bool)} {v : RowView} {before : Held}
           rest = p.rest ++ (stuffed (code_of (row_start_in image.settings image.width w.at later).state.place) ++ marker_bytes image.settings.reset);
           bytes_are = rw p.text_is (append_assoc p.front p.rest (stuffed (code_of (row_start_in image.settings image.width w.at later).state.place) ++ marker_bytes image.settings.reset));
         })
-        (rw (append-nil rows) (come_first (row ∷ []) b))
+        (rw append-nil (come_first (row ∷ []) b))
         (let long = come_long b in omega (arith, length-append rows (row ∷ [])));
   } where
     on : IsStart image.settings image.width w.at v before
@@ -251,7 +251,7 @@ module _ {image : Image} {rows : List (List Bool)} {v : RowView} {before : Held}
     few = let sum = length-append r.part (row ∷ []) in omega (arith, sum)
 
     bytes_are : (r.front ++ (move_bytes image.settings image.width r.at ++ r.pushed)) ++ cut.done ≡ r.front ++ (move_bytes image.settings image.width r.at ++ (r.pushed ++ cut.done))
-    bytes_are = rw (append_assoc r.front (move_bytes image.settings image.width r.at ++ r.pushed) cut.done, append_assoc (move_bytes image.settings image.width r.at) r.pushed cut.done)
+    bytes_are = rw (append_assoc, append_assoc)
 
     front_is : IsStuffedFront ((r.pushed ++ cut.done) ++ cut.left) (after b.state cut.events).place
     front_is = subst (λ l. IsStuffedFront ((r.pushed ++ cut.done) ++ cut.left) (after (record { place = b.state.place; learned = l }) cut.events).place) r.running.is_held.learned_is cut.begins

@@ -43,4 +43,4 @@ module _ {width : ℕ} {w1 w2 w3 : Held} (some : 1 ≤ width) (w0 : Held) (wide 
       rw (third, same w0.current lines.row has.row_is has.row_wide, same w0.above lines.above has.above_is has.above_wide, same w0.second lines.second has.second_is has.second_wide)
     where
       same : (bytes : List ℕ) (row : List Rattle.std.proofs.Common.Bool) → bytes ≡ packed_row row → length row ≡ w0.width → masked_row width bytes ≡ bytes
-      same bytes row is long = rw (is, ← same_row row, stays width row some (long ∙ wide), same_row row, ← is)
+      same bytes row is long = rw (is, ← same_row, stays width row some (long ∙ wide), same_row, ← is)

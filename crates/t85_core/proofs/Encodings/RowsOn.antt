@@ -6,7 +6,7 @@ use Rattle.t85_core.proofs.Bytes.Elements.{Continues, get_left, get_right, split
 
 part_continues : {X : Type 0} {all : List X} {n : ℕ} (d : X) (first rows rest : List X) → all ≡ first ++ (rows ++ rest) → length first ≡ n → Continues d all n rows
 part_continues {n} d first rows rest all_is many k lt =
-    rw (all_is, ← many, get_right first (rows ++ rest) k d) (get_left rows rest k d lt)
+    rw (all_is, ← many, get_right) (get_left rows rest k d lt)
 
 pub front_splits : {X : Type 0} {front all : List X} → take (length front) all ≡ front → (length front ≤ length all) × (all ≡ front ++ drop (length front) all)
 front_splits {front} {all} is =

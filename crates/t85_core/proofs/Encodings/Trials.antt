@@ -119,7 +119,7 @@ module _ {part : List (List Bool)} {before : Held} {trial : Trial} (shape : Shap
       CountsLines trial.tally shape.width 0 (plain_down (trial_of mode most carry offset) part) → may_be_typical mode line ≡ flag →
       CountsLines trial'.tally shape.width 0 (plain_down (trial_of mode most carry offset) (part ++ row ∷ []))
   counted_more {flag = true} few typical plain was is =
-      rw (plain_more, is, append-nil (plain_down (trial_of mode most carry offset) part), typical is) was
+      rw (plain_more, is, append-nil, typical) was
   counted_more {flag = false} few typical plain was is =
       rw (plain_more, is) (plain is (plain_down (trial_of mode most carry offset) part) (few_plain few) was)
 

@@ -202,7 +202,7 @@ module _ {h : Fields} (ok : IsAccepted h) where
           body_is = rw (is, e);
           each = each;
           begun = record { legal = l; one_move = comments_make_none cs c; bytes = tt };
-          first = both_none ss cs each l gives (rw (comments_give_none cs c) tt);
+          first = both_none ss cs each l gives (rw comments_give_none tt);
           within = omega arith;
           behind = λ _. c;
           valid = v;

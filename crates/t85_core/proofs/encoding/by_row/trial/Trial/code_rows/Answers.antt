@@ -44,7 +44,7 @@ loop-k-preserved c =
     let events = after.few in
     record {
       tries = λ most carry offset start.
-          rw (packed_rows_more w rows k, ← pixels) (c.code.ensures.row most carry offset (packed_rows w rows k) _ (held c.loop-k.window) few below (c.loop-k.invariant.tries most carry offset start));
+          rw (packed_rows_more, ← pixels) (c.code.ensures.row most carry offset (packed_rows w rows k) _ (held c.loop-k.window) few below (c.loop-k.invariant.tries most carry offset start));
       ready = record { row = after.row; going = after.going; few = omega arith };
       lined = ((_, below lined.0.0 lined.0.1), c.take_row.ensures.window.0.0 ∙ lined.1);
       tally = (c.code.ensures.tally.0 ∙ c.loop-k.invariant.tally.0, c.code.ensures.tally.1 ∙ c.loop-k.invariant.tally.1);
