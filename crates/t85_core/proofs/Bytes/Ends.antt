@@ -8,7 +8,8 @@ use Rattle.t85_core.specs.Failures.{Ends, counted_as}
 use Rattle.t85_core.proofs.Bytes.Streams.{Consumes-more}
 
 -- bytes that were skipped before precede the others
-pub Ends-after : {ending : Fault} {a b c : Option (List ℕ)} {P Q : List ℕ → Fault → Type 0} {f : Fault} (front : List ℕ) → Consumes a b front → ((given : List ℕ) (e : Fault) → P given e → Q (front ++ given) e) → Ends ending b c P f → Ends ending a c Q f
+pub Ends-after : {ending : Fault} {a b c : Option (List ℕ)} {P Q : List ℕ → Fault → Type 0} {f : Fault} (front : List ℕ) → Consumes a b front →
+    ((given : List ℕ) (e : Fault) → P given e → Q (front ++ given) e) → Ends ending b c P f → Ends ending a c Q f
 Ends-after {ending} {a} {b} {c} {P} {Q} {f} front taken widen e = record {
   given = front ++ e.given;
   taken = Consumes-more a b c front e.given taken e.taken;
@@ -31,7 +32,8 @@ exit P (Ok x) a p = tt
 exit P (Err y) a p = rw a p
 
 -- the next byte is missing
-pub Ends-missing : {a b c : Option (List ℕ)} {f : Fault} (Q : List ℕ → Fault → Type 0) (front : List ℕ) → Consumes a b front → Q front Truncated → Ends Truncated b c (λ given fault. (given ≡ []) × (fault ≡ Truncated)) f → Ends Truncated a c Q f
+pub Ends-missing : {a b c : Option (List ℕ)} {f : Fault} (Q : List ℕ → Fault → Type 0) (front : List ℕ) → Consumes a b front → Q front Truncated →
+    Ends Truncated b c (λ given fault. (given ≡ []) × (fault ≡ Truncated)) f → Ends Truncated a c Q f
 Ends-missing Q front taken q e = Ends-after front taken (λ given f p.
     rw (p.1, p.0, append-nil) q) e
 

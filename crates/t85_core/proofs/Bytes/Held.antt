@@ -42,7 +42,8 @@ keeps_refilled {held} a b buf n e p =
     subst (λ k. Keeps (prepend_known held a) (prepend_known (take k buf) b)) same (keeps_refill a b (take n buf) e p)
 
 -- the next byte of those that are held
-pub next_taken : (bytes : List ℕ) (at end : ℕ) (a : Option (List ℕ)) → at < end → end ≤ length bytes → Consumes (prepend_known (held_of bytes at end) a) (prepend_known (held_of bytes (at + 1) end) a) (get_or bytes at 0 ∷ [])
+pub next_taken : (bytes : List ℕ) (at end : ℕ) (a : Option (List ℕ)) → at < end → end ≤ length bytes →
+    Consumes (prepend_known (held_of bytes at end) a) (prepend_known (held_of bytes (at + 1) end) a) (get_or bytes at 0 ∷ [])
 next_taken bytes at end a some within =
     let n : end - at ≡ suc (end - (at + 1)) = omega arith in
     let front : held_of bytes at end ≡ get_or bytes at 0 ∷ held_of bytes (at + 1) end =
@@ -54,7 +55,8 @@ next_taken bytes at end a some within =
     taken (Some a) = refl
 
 -- so many bytes of those that are held
-pub some_taken : (bytes : List ℕ) (at count end : ℕ) (a : Option (List ℕ)) → at + count ≤ end → Consumes (prepend_known (held_of bytes at end) a) (prepend_known (held_of bytes (at + count) end) a) (take count (held_of bytes at end))
+pub some_taken : (bytes : List ℕ) (at count end : ℕ) (a : Option (List ℕ)) → at + count ≤ end →
+    Consumes (prepend_known (held_of bytes at end) a) (prepend_known (held_of bytes (at + count) end) a) (take count (held_of bytes at end))
 some_taken bytes at count end a fits =
     rw held_after (consumes_held count (held_of bytes at end) a)
 

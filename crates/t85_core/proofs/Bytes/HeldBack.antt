@@ -57,7 +57,8 @@ cut_front (x ∷ a) (y ∷ c) held front le e =
     (k.0, ap (λ z. z ∷ c) same ∙ ap (λ z. x ∷ z) k.1, k.2)
 
 -- what was written of a beginning is a beginning
-pub beginning_handed : {a : Option (List ℕ)} {text : List ℕ} (c : Option (List ℕ)) (held : List ℕ) → known_length a ≤ known_length c → AppendsBeginning a (append_known c held) text → AppendsBeginning a c text
+pub beginning_handed : {a : Option (List ℕ)} {text : List ℕ} (c : Option (List ℕ)) (held : List ℕ) → known_length a ≤ known_length c → AppendsBeginning a (append_known c held) text →
+    AppendsBeginning a c text
 beginning_handed {a = None} c held le p = record { front = p.front; rest = p.rest; text_is = p.text_is; appends = tt }
 beginning_handed {a = (Some a)} None held le p = absurd p.appends
 beginning_handed {a = (Some a)} (Some c) held le p =

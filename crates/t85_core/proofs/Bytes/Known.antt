@@ -90,7 +90,8 @@ stable_first h bytes more (inr long) e =
     ∙ ap (λ b. cond b (Some Truncated) (cond (is_legal_move h bytes) None (Some MoveRefused))) (sym t) ∙ e)
 
 stable_move : (h : Fields) (moves : ℕ) → IsStable (move_fault h moves)
-stable_move h moves = stable_cond (not (moves == 0)) (λ _. Some SecondMove) (move_fault h 0) (stable_constant (Some SecondMove)) (λ bytes more f e. stable_first h bytes more (cases_lt (length bytes) 6) e)
+stable_move h moves = stable_cond (not (moves == 0)) (λ _. Some SecondMove) (move_fault h 0) (stable_constant (Some SecondMove))
+    (λ bytes more f e. stable_first h bytes more (cases_lt (length bytes) 6) e)
 
 two_tests : {f : Fault} (t u : Bool) → cond t (Some Truncated) (cond u (Some Truncated) None) ≡ Some f → f ≡ Truncated
 two_tests t u e = grind (arith, nat_tests)
@@ -100,7 +101,8 @@ stable_comment bytes more f e = inl (two_tests (nat_lt (length bytes) 4) (nat_lt
 
 number_fault : Fields → Spot → List ℕ → Option Fault
 number_fault h spot bytes =
-    cond (nat_lt (length bytes) 4) (Some Truncated) (cond (not (is_valid_length h spot.entities (big_number 4 bytes))) (Some LengthRefused) (cond (big_number 4 bytes == spot.height) None (Some Changed)))
+    cond (nat_lt (length bytes) 4) (Some Truncated) (cond (not (is_valid_length h spot.entities (big_number 4 bytes))) (Some LengthRefused)
+    (cond (big_number 4 bytes == spot.height) None (Some Changed)))
 
 stable_number : (h : Fields) (spot : Spot) → IsStable (number_fault h spot)
 unfolding number_fault
@@ -108,16 +110,20 @@ stable_number h spot bytes more f e = went (cases_lt (length bytes) 4) where
   went : (length bytes < 4) ⊎ (4 ≤ length bytes) → (f ≡ Truncated) ⊎ (number_fault h spot (bytes ++ more) ≡ Some f)
   went (inl short) =
       let t : nat_lt (length bytes) 4 ≡ true = grind (arith, nat_tests) in
-      let cut : Some Truncated ≡ Some f = ap (λ b. cond b (Some Truncated) (cond (not (is_valid_length h spot.entities (big_number 4 bytes))) (Some LengthRefused) (cond (big_number 4 bytes == spot.height) None (Some Changed)))) (sym t) ∙ e in
+      let cut : Some Truncated ≡ Some f =
+      ap (λ b. cond b (Some Truncated) (cond (not (is_valid_length h spot.entities (big_number 4 bytes))) (Some LengthRefused) (cond (big_number 4 bytes == spot.height) None (Some Changed))))
+      (sym t) ∙ e in
       inl cc
   went (inr long) =
       let t : nat_lt (length bytes) 4 ≡ false = grind (arith, nat_tests) in
       let longer : 4 ≤ length (bytes ++ more) = omega (arith, length-append bytes more) in
       let t' : nat_lt (length (bytes ++ more)) 4 ≡ false = grind (arith, nat_tests) in
       let same : big_number 4 (bytes ++ more) ≡ big_number 4 bytes = big_from-append 4 bytes more long in
-      inr (ap (λ b. cond b (Some Truncated) (cond (not (is_valid_length h spot.entities (big_number 4 (bytes ++ more)))) (Some LengthRefused) (cond (big_number 4 (bytes ++ more) == spot.height) None (Some Changed)))) t'
+      inr (ap (λ b. cond b (Some Truncated) (cond (not (is_valid_length h spot.entities (big_number 4 (bytes ++ more)))) (Some LengthRefused)
+      (cond (big_number 4 (bytes ++ more) == spot.height) None (Some Changed)))) t'
       ∙ ap (λ n. cond (not (is_valid_length h spot.entities n)) (Some LengthRefused) (cond (n == spot.height) None (Some Changed))) same
-      ∙ ap (λ b. cond b (Some Truncated) (cond (not (is_valid_length h spot.entities (big_number 4 bytes))) (Some LengthRefused) (cond (big_number 4 bytes == spot.height) None (Some Changed)))) (sym t) ∙ e)
+      ∙ ap (λ b. cond b (Some Truncated) (cond (not (is_valid_length h spot.entities (big_number 4 bytes))) (Some LengthRefused) (cond (big_number 4 bytes == spot.height) None (Some Changed))))
+      (sym t) ∙ e)
 
 stable_length : (h : Fields) (spot : Spot) → IsStable (length_fault h spot)
 unfolding number_fault

@@ -54,7 +54,8 @@ pub copied : {copy : Held} {place place' width width' : ℕ} {bytes bytes' : Lis
 copied {place'} {width} {width'} {bytes} same at wide is = rw (is, at, ← wide, same)
 
 -- before the first row
-pub trial_begins : {learned : List Estimate} {t width : ℕ} {window' : Held} {trial : Trial} (e : RowEncoder) (window : Held) (carry : StripeStart) → IsCarriedTo e learned window carry → trial.kept.offset ≡ t →
+pub trial_begins : {learned : List Estimate} {t width : ℕ} {window' : Held} {trial : Trial} (e : RowEncoder) (window : Held) (carry : StripeStart) → IsCarriedTo e learned window carry →
+    trial.kept.offset ≡ t →
     trial.kept.previous_typical ≡ e.kept.previous_typical → trial.learned ≡ learned → EncoderIsAt trial.encoder start [] → trial.sink.bytes ≡ 0 → is_two_line trial.tally ≡ e.shape.two_line →
     most_of trial.tally ≡ e.most_offset → CountsLines trial.tally width 0 [] → (IsLined window → window' ≡ window) → IsTried (trial_from e carry t) [] width trial window'
 trial_begins {t} e window carry carried offset previous taught codes none two_line most counts stays = record {
@@ -148,7 +149,9 @@ rows_held e n is =
     let h = holds (not e.is_closed) (n % bytes_of_row e.size.width == 0) ((count == most) || (e.may_end && nat_le count most)) is in
     (is_zero h.0, is_some_row count h.1)
 
-module _ {image : Image} {rows : List (List Bool)} {window : Held} {origin : Origin} {text : Option (List ℕ)} {raster : Raster} (double : EventsDouble) (short : CodeIsShort) (part : List (List Bool)) (e : RowEncoder) (learning : Learning) (w : Waits image rows (view_of e learning) window origin text) (m : MayCome image (rows ++ part) raster) (enough : length part ≡ min image.settings.stripe_rows (height raster - length rows)) (some_part : 1 ≤ length part) where
+module _ {image : Image} {rows : List (List Bool)} {window : Held} {origin : Origin} {text : Option (List ℕ)} {raster : Raster} (double : EventsDouble) (short : CodeIsShort)
+    (part : List (List Bool)) (e : RowEncoder) (learning : Learning) (w : Waits image rows (view_of e learning) window origin text) (m : MayCome image (rows ++ part) raster)
+    (enough : length part ≡ min image.settings.stripe_rows (height raster - length rows)) (some_part : 1 ≤ length part) where
   abbrev s : Settings
   s = image.settings
 

@@ -27,7 +27,17 @@ module _ {form : Form} (width height' : ℕ) (whole : Raster → List ℕ) (know
 
   pub short_handed : {s : Settings} {up_to : Raster → ℕ → List ℕ} {fault : PbmFault} → ImageShort s (layout_of form width height') up_to whole (passage known known' text old) fault → Keeps old new →
       ImageShort s (layout_of form width height') up_to whole (passage known known' text new) fault
-  short_handed i k = record { rows = i.rows; few = i.few; mid = i.mid; read = i.read; part = i.part; bytes = i.bytes; holds = i.holds; begins = i.begins; appended = Appends-keeps text old new _ i.appended k }
+  short_handed i k = record {
+    rows = i.rows;
+    few = i.few;
+    mid = i.mid;
+    read = i.read;
+    part = i.part;
+    bytes = i.bytes;
+    holds = i.holds;
+    begins = i.begins;
+    appended = Appends-keeps text old new _ i.appended k;
+  }
 
   pub front_handed : ImageFront (layout_of form width height') whole (passage known known' text old) → Keeps old new → ImageFront (layout_of form width height') whole (passage known known' text new)
   front_handed i k = record {
@@ -51,7 +61,8 @@ nothing_short Plain width some = record { pixels = []; digits = []; space = []; 
 
 module _ {form : Form} (width height' : ℕ) (whole : Raster → List ℕ) (known known' text text' : Option (List ℕ)) where
   -- some were, and nothing more
-  pub refused_front : 1 ≤ width → ImageRefused (layout_of form width height') whole (passage known known' text text') → ImageFront (layout_of form width height') whole (passage known known' text text')
+  pub refused_front : 1 ≤ width → ImageRefused (layout_of form width height') whole (passage known known' text text') →
+      ImageFront (layout_of form width height') whole (passage known known' text text')
   refused_front some i = record {
     rows = i.rows;
     few = i.few;
@@ -102,7 +113,8 @@ module _ {form : Form} (width height' : ℕ) (whole : Raster → List ℕ) (know
 
   -- whatever was reported
   pub told_front : (s : Settings) (up_to : Raster → ℕ → List ℕ) (fault : Fault) → IsEncodeFault fault → fault ≢ Write →
-      ((why : PbmFault) → IsErrOf {T = Unit {0}} {E = Fault} (Err fault) (Pbm why) → ImageShort s (layout_of form width height') up_to whole (passage known known' text text') why) → ImageFront (layout_of form width height') whole (passage known known' text text')
+      ((why : PbmFault) → IsErrOf {T = Unit {0}} {E = Fault} (Err fault) (Pbm why) → ImageShort s (layout_of form width height') up_to whole (passage known known' text text') why) →
+      ImageFront (layout_of form width height') whole (passage known known' text text')
   told_front s up_to fault among other short = went (which fault among) where
     went : (fault ≡ Write) ⊎ ((why : PbmFault) × (fault ≡ Pbm why)) → ImageFront (layout_of form width height') whole (passage known known' text text')
     went (inl is) = absurd (other is)

@@ -83,7 +83,9 @@ fault_stays fault other = refl
 
 module _ (s : Settings) (form : Form) (width height' : ℕ) (in_old in_new out_old out_new : Option (List ℕ)) where
   -- all rows were read and written
-  code_whole : CodeDenotes → AreSettings s → is_low s height' ≡ false → IsSize width height' → ImageCoded (layout_of form width height') (λ raster. jbg s raster) (passage in_old in_new out_old out_new) → IfSome in_old (λ body. WritesCode s (layout_of form width height') body out_old out_new)
+  code_whole : CodeDenotes → AreSettings s → is_low s height' ≡ false → IsSize width height' →
+      ImageCoded (layout_of form width height') (λ raster. jbg s raster) (passage in_old in_new out_old out_new) →
+      IfSome in_old (λ body. WritesCode s (layout_of form width height') body out_old out_new)
   code_whole law are low size i = known_all (λ body. WritesCode s (layout_of form width height') body out_old out_new) in_old in_new i.read.given i.read.taken whole where
     proper : IsRaster (raster_of width i.rows)
     proper = record {
@@ -128,7 +130,8 @@ module _ (s : Settings) (form : Form) (width height' : ℕ) (in_old in_new out_o
     -- the rows have a fault
     code_short : fault ≢ pbm.Read → IfSome in_old (λ body. WritesCodeBegun s (layout_of form width height') body fault out_old out_new)
     code_short other = went in_old in_new taken i.part.at_end where
-      went : (old new : Option (List ℕ)) → Consumes old new given → (fault ≡ pbm.Truncated → IsAtEnd new) → IfSome old (λ body. WritesCodeBegun s (layout_of form width height') body fault out_old out_new)
+      went : (old new : Option (List ℕ)) → Consumes old new given → (fault ≡ pbm.Truncated → IsAtEnd new) →
+          IfSome old (λ body. WritesCodeBegun s (layout_of form width height') body fault out_old out_new)
       went None new took end = tt
       went (Some body) None took end = absurd took
       went (Some body) (Some left) took end =
@@ -144,7 +147,8 @@ module _ (s : Settings) (form : Form) (width height' : ℕ) (in_old in_new out_o
   )
 
   -- what is written is a beginning of what was written
-  front_written : (held : List ℕ) → known_length out_old ≤ known_length out_new → ImageFront (layout_of form width height') (λ raster. jbg s raster) (passage in_old in_new out_old (append_known out_new held)) →
+  front_written : (held : List ℕ) → known_length out_old ≤ known_length out_new →
+      ImageFront (layout_of form width height') (λ raster. jbg s raster) (passage in_old in_new out_old (append_known out_new held)) →
       (given : List ℕ) × Consumes in_old in_new given × WritesCodeFront s (layout_of form width height') given out_old out_new
   front_written held grows i =
       let p = beginning_handed out_new held grows (beginning_all i.appended) in (
@@ -165,7 +169,8 @@ module _ (s : Settings) (form : Form) (width height' : ℕ) (in_old in_new out_o
 
   pub encoded : {r : Result (Unit {0}) Fault} (held : List ℕ) → CodeDenotes → AreSettings s → is_low s height' ≡ false → IsSize width height' → (reads_old reads_new writes_old writes_new : ℕ) →
       OnOk r (ImageCoded (layout_of form width height') (λ raster. jbg s raster) (passage in_old in_new out_old out_new)) →
-      ((fault : PbmFault) → IsErrOf r (Pbm fault) → ImageShort s (layout_of form width height') (λ raster n. jbg_up_to s raster n) (λ raster. jbg s raster) (passage in_old in_new out_old out_new) fault) →
+      ((fault : PbmFault) → IsErrOf r (Pbm fault) → ImageShort s (layout_of form width height') (λ raster n. jbg_up_to s raster n) (λ raster. jbg s raster)
+      (passage in_old in_new out_old out_new) fault) →
       IfErr r IsEncodeFault → CountsBoth reads_old reads_new r → CountsWrite writes_old writes_new r → known_length out_old ≤ known_length out_new →
       ImageFront (layout_of form width height') (λ raster. jbg s raster) (passage in_old in_new out_old (append_known out_new held)) →
       Encode s (layout_of form width height') (between in_old in_new reads_old reads_new) (between out_old out_new writes_old writes_new) r

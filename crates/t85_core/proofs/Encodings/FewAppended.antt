@@ -87,7 +87,8 @@ module _ (laws : WritingLaws) (e : Encoder) (p : Place) (learned : List Estimate
   pub code_ended_few : {reset : Bool} {answer : Result (Unit {0}) Fault} → CodeEnded p reset pushed old new answer → AppendsAtMost (2 * waiting_bytes e + 2) old new
   code_ended_few {reset} {answer} ended =
       let few = laws.few_to_end e (record { place = p; learned = learned }) [] pushed ended.code at ended.is in
-      let parts : length pushed + length ended.more ≡ length (stuffed ended.code) + length (marker_bytes reset) = sym (length-append pushed ended.more) ∙ ap length ended.all ∙ length-append (stuffed ended.code) (marker_bytes reset) in
+      let parts : length pushed + length ended.more ≡ length (stuffed ended.code) + length (marker_bytes reset) =
+      sym (length-append pushed ended.more) ∙ ap length ended.all ∙ length-append (stuffed ended.code) (marker_bytes reset) in
       written_few (2 * waiting_bytes e + 2) old new ended.more answer (omega arith) ended.ok ended.cut
 
 -- a move, a row and the end of its stripe
@@ -100,7 +101,8 @@ row_few {waits} {was} {n} {n'} waits' a d same width first row last =
     joined_few front last
 
 -- a move and a beginning of a row
-pub row_begun_few : {waits was n n' : ℕ} (a b c : Option (List ℕ)) → was ≡ waits → n' ≡ n → AppendsAtMost 8 a b → AppendsAtMost (2 * was + 4 * (n' + 1)) b c → AppendsAtMost (2 * waits + 4 * (n + 1) + 10) a c
+pub row_begun_few : {waits was n n' : ℕ} (a b c : Option (List ℕ)) → was ≡ waits → n' ≡ n → AppendsAtMost 8 a b → AppendsAtMost (2 * was + 4 * (n' + 1)) b c →
+    AppendsAtMost (2 * waits + 4 * (n + 1) + 10) a c
 row_begun_few {waits} {was} {n} {n'} a b c same width first row =
     joined_few
     (eased_few (2 * was + 4 * (n' + 1) + 2) (2 * waits + 4 * (n + 1) + 10) (omega arith) first)
@@ -111,6 +113,7 @@ row_begun_few {waits} {was} {n} {n'} a b c same width first row =
 pub end_few : (waits : ℕ) (a b c : Option (List ℕ)) → AppendsAtMost (2 * waits + 2) a b → AppendsAtMost 8 b c → AppendsAtMost (2 * waits + 10) a c
 end_few waits a b c first last = joined_few (eased_few 8 (2 * waits + 10) (omega arith) first) last
 
-pub ending_few : (announced : ℕ) (reset : Bool) (height' : ℕ) (old new : Option (List ℕ)) (answer : Result (Unit {0}) Fault) → OnOk answer (Appends old new (ending_of announced reset height')) → OnErr answer (AppendsBeginning old new (ending_of announced reset height')) →
+pub ending_few : (announced : ℕ) (reset : Bool) (height' : ℕ) (old new : Option (List ℕ)) (answer : Result (Unit {0}) Fault) → OnOk answer (Appends old new (ending_of announced reset height')) →
+    OnErr answer (AppendsBeginning old new (ending_of announced reset height')) →
     AppendsAtMost 8 old new
 ending_few announced reset height' old new answer whole cut = written_few 8 old new (ending_of announced reset height') answer (ending_short announced reset height') whole cut

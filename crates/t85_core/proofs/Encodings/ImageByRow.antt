@@ -79,7 +79,8 @@ module _ (image : Image) (rows : List (List Bool)) (v : RowView) (window : Held)
 
     begins : (later : List (List Bool)) → IsBeginning (move_bytes image.settings image.width r.at ++ r.pushed) (stripe_bytes (next_stripe image.settings image.width r.at (r.part ++ later)))
     begins later =
-        let p = pushed_begins laws (mode_of image.settings.options) (next_move image.settings image.width r.at) r.at.carry r.part (length r.part + length later) v.encoder r.pushed r.running.codes later refl in
+        let p = pushed_begins laws (mode_of image.settings.options) (next_move image.settings image.width r.at) r.at.carry r.part
+        (length r.part + length later) v.encoder r.pushed r.running.codes later refl in
         record {
           rest = p.rest ++ marker_bytes image.settings.reset;
           bytes_are =
@@ -96,7 +97,8 @@ module _ (image : Image) (rows : List (List Bool)) (v : RowView) (window : Held)
 pub may_come : {width height' : ℕ} {rows : List (List Bool)} {raster : Raster} (s : Settings) → BeginsWith width height' rows raster → MayCome (image_of s width height') rows raster
 may_come s b = record { proper = b.proper; width_is = b.width_is; height_to = omega arith; height_is = λ _. b.height_is; first = b.first }
 
-module _ {form : Form} {width : ℕ} {rows : List (List Bool)} {known mid : Option (List ℕ)} (s : Settings) (height' : ℕ) (known' text text' : Option (List ℕ)) (read : ReadsRows form width known mid rows) where
+module _ {form : Form} {width : ℕ} {rows : List (List Bool)} {known mid : Option (List ℕ)} (s : Settings) (height' : ℕ) (known' text text' : Option (List ℕ))
+    (read : ReadsRows form width known mid rows) where
   -- no whole row more came
   pub front_short : {fault : PbmFault} → length rows < height' → EndsInRow form width mid known' fault → StreamFront (image_of s width height') rows (here text) text' →
       ImageShort s (layout_of form width height') (λ raster n. jbg_up_to s raster n) (λ raster. jbg s raster) (passage known known' text text') fault
@@ -113,10 +115,12 @@ module _ {form : Form} {width : ℕ} {rows : List (List Bool)} {known mid : Opti
   }
 
   -- the target took no more
-  pub cut_refused : length rows ≤ height' → StreamCut (image_of s width height') rows (here text) text' → ImageRefused (layout_of form width height') (λ raster. jbg s raster) (passage known mid text text')
+  pub cut_refused : length rows ≤ height' → StreamCut (image_of s width height') rows (here text) text' →
+      ImageRefused (layout_of form width height') (λ raster. jbg s raster) (passage known mid text text')
   cut_refused few cut = record { rows = rows; few = few; read = read; bytes = cut.bytes; begins = λ raster b. cut.begins raster (may_come s b); appended = here_sent cut.sent }
 
-  pub end_refused : length rows ≡ height' → SendsBeginning (here text) text' (jbg s (raster_of width rows)) → ImageRefused (layout_of form width height') (λ raster. jbg s raster) (passage known mid text text')
+  pub end_refused : length rows ≡ height' → SendsBeginning (here text) text' (jbg s (raster_of width rows)) →
+      ImageRefused (layout_of form width height') (λ raster. jbg s raster) (passage known mid text text')
   end_refused many cut = record {
     rows = rows;
     few = omega arith;

@@ -74,7 +74,8 @@ header_as {form} taken h = record {
   behind = h.header.gap ++ (h.header.first ++ (h.header.between ++ (h.header.second ++ h.header.space)))
 
 -- where the bytes aren't known they may have been the header that would be written
-pub takes_header : {old new : Option (List ℕ)} {form : Form} (size : Size) → WrittenIsRead → size.height ≤ 4294967295 → LeavesRest old new (λ bytes rest. HasHeader bytes form size.width size.height rest) →
+pub takes_header : {old new : Option (List ℕ)} {form : Form} (size : Size) → WrittenIsRead → size.height ≤ 4294967295 →
+    LeavesRest old new (λ bytes rest. HasHeader bytes form size.width size.height rest) →
     TakesHeader old new form size.width size.height
 takes_header {old = None} size law fits leaves =
     header_as (λ front. tt) (law size.width size.height [] size.some_width size.not_too_wide size.some_height fits)
@@ -95,7 +96,8 @@ takes_header {old = (Some bytes)} {new = (Some rest)} size law fits leaves = rec
 
 module _ (s : Settings) (in_old in_new : Option (List ℕ)) (reads_old reads_new : ℕ) (out : Option (List ℕ)) (writes : ℕ) (flushed : Bool) where
   -- the header was refused
-  pub refused_header : (fault : PbmFault) → (fault ≢ pbm.Read → IfSome in_old (λ bytes. HasFault bytes fault)) → (given : List ℕ) → Consumes in_old in_new given → HeaderFault given (fault_of_given fault) → CountsPbm {T = Size × Form} reads_old reads_new (Err fault) →
+  pub refused_header : (fault : PbmFault) → (fault ≢ pbm.Read → IfSome in_old (λ bytes. HasFault bytes fault)) → (given : List ℕ) → Consumes in_old in_new given →
+      HeaderFault given (fault_of_given fault) → CountsPbm {T = Size × Form} reads_old reads_new (Err fault) →
       ToJbg s (between in_old in_new reads_old reads_new) (between out out writes writes) flushed (Err (Pbm fault))
   refused_header fault has given taken shows counted = record {
     whole = tt;

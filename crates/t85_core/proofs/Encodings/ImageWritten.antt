@@ -17,7 +17,8 @@ use Rattle.t85_core.proofs.Encodings.ImageEncoded.{TakesHeader, among_faults, no
 use Rattle.t85_core.proofs.Bytes.Held.{Keeps-same}
 use Rattle.t85_core.proofs.Bytes.Streams.{Appends-keeps, Consumes-more, known_behind}
 
-module _ {in_old mid : Option (List ℕ)} {reads_old reads_mid width height' : ℕ} {form : Form} (s : Settings) (in_new : Option (List ℕ)) (reads_new : ℕ) (out_old out_new : Option (List ℕ)) (writes_old writes_new : ℕ) (t : TakesHeader in_old mid form width height') (counted : reads_mid ≡ reads_old) where
+module _ {in_old mid : Option (List ℕ)} {reads_old reads_mid width height' : ℕ} {form : Form} (s : Settings) (in_new : Option (List ℕ)) (reads_new : ℕ) (out_old out_new : Option (List ℕ))
+    (writes_old writes_new : ℕ) (t : TakesHeader in_old mid form width height') (counted : reads_mid ≡ reads_old) where
   -- a write failed, or the flush after all that was written
   cut_at : {given : List ℕ} {out_last : Option (List ℕ)} → is_low s height' ≡ false → Keeps out_new out_last → Consumes mid in_new given →
       WritesCodeFront s (layout_of form width height') given out_old out_new → (all : List ℕ) × Consumes in_old in_new all × WritesStreamFront s all out_old out_last
@@ -29,7 +30,17 @@ module _ {in_old mid : Option (List ℕ)} {reads_old reads_mid width height' : �
       body = given;
       header = t.header given;
       fits = fits;
-      writes = record { rows = w.rows; rest = w.rest; holds = w.holds; few = w.few; fault = w.fault; part = w.part; text = w.text; begins = w.begins; appends = Appends-keeps out_old out_new out_last w.text w.appends keeps };
+      writes = record {
+        rows = w.rows;
+        rest = w.rest;
+        holds = w.holds;
+        few = w.few;
+        fault = w.fault;
+        part = w.part;
+        text = w.text;
+        begins = w.begins;
+        appends = Appends-keeps out_old out_new out_last w.text w.appends keeps;
+      };
     },
   )
 
@@ -59,7 +70,8 @@ module _ {in_old mid : Option (List ℕ)} {reads_old reads_mid width height' : �
     taken = tt;
     flushed_last = tt;
     refused = λ fault read is.
-        known_behind (λ bytes. RefusesPbm s bytes fault out_old out_new) (λ body. WritesCodeBegun s (layout_of form width height') body fault out_old out_new) in_old mid t.front t.taken (e.short fault read is) (λ body w. inr (some fault body w));
+        known_behind (λ bytes. RefusesPbm s bytes fault out_old out_new) (λ body. WritesCodeBegun s (layout_of form width height') body fault out_old out_new) in_old mid t.front t.taken
+        (e.short fault read is) (λ body w. inr (some fault body w));
     low = λ is. absurd (not_low_told (e.low is).0);
     no_memory = λ is. absurd (not_no_memory (subst IsEncodeFault (let same : f ≡ OutOfMemory = cc in same) may));
     unread = λ is. (let u = e.unread is in (t.front ++ u.0, Consumes-more in_old mid in_new t.front u.0 t.taken u.1, inr (some pbm.Truncated u.0 u.2)));

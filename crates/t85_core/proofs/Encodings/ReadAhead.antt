@@ -7,7 +7,8 @@ use Rattle.t85_core.specs.Jbg.{Settings}
 use Rattle.t85_core.specs.ToJbg.{ToJbg, ToJbgAhead}
 
 -- the reader before its loan, and at the loan's end
-pub read_ahead : {R : Type 0} {s : Settings} {output : Change} {flushed : Bool} {reader reader' : R} {known : Option (List ℕ)} {count : ℕ} {r : Result (Unit {0}) Fault} (remaining : R → Option (List ℕ))
+pub read_ahead : {R : Type 0} {s : Settings} {output : Change} {flushed : Bool} {reader reader' : R} {known : Option (List ℕ)} {count : ℕ} {r : Result (Unit {0}) Fault} (remaining : R →
+    Option (List ℕ))
     (failures : R → ℕ) (held : List ℕ) (start : R) → known ≡ remaining start → count ≡ failures start → reader ≡ reader' → (failures reader ≡ count) ⊎ (held ≡ []) →
     ToJbg s (between known (prepend_known held (remaining reader)) count (failures reader)) output flushed r →
     ToJbgAhead s (between (remaining start) (remaining reader') (failures start) (failures reader')) output flushed r

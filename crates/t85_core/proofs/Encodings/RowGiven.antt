@@ -41,7 +41,8 @@ same_map f h k zero same = refl
 same_map f h k (suc n) same = rw (same k (omega arith), same_map f h (k + 1) n (λ x lt. same x (omega arith)))
 
 -- a row down in the window, with these pixels
-pub row_below : {width : ℕ} {mid : Held} {row : List ℕ} (bytes : List ℕ) (old : Held) → 1 ≤ width → length bytes ≡ bytes_of_row width → MaskKeepsPixels → MaskedIsPacked → row ≡ masked_row width bytes →
+pub row_below : {width : ℕ} {mid : Held} {row : List ℕ} (bytes : List ℕ) (old : Held) → 1 ≤ width → length bytes ≡ bytes_of_row width → MaskKeepsPixels → MaskedIsPacked →
+    row ≡ masked_row width bytes →
     ((k : ℕ) → slice_index row k < 256) → mid ≡ turned old → old.width ≡ width →
     IsBelow (pixels_of width bytes) old (record { width = mid.width; current = row; above = mid.above; second = mid.second })
 row_below {width} {row} bytes old some whole keeps packed row_is small mid_is wide = λ lines has. record {

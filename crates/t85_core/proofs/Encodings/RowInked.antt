@@ -65,7 +65,8 @@ module _ {S : Type 0} (view : S → SinkView) (failed : S → ℕ) (from to : S)
         rw (← text_is, ← text_is') kept
 
     pub row_inked : (shape : Shape) (kept kept' : Kept) (s : State) (pushed : List ℕ) (lines : Lines) (e : Encoder) (learned : List Estimate) (answer : Result (Unit {0}) CoderFault)
-        → RowEncoded (sink_at pushes from pushed) (row_task shape kept s lines) kept' (encoder_state to e learned) answer → RowOutcome (row_task shape kept s lines) pushed kept' text (encoder_state text' e learned) (sent_as answer)
+        → RowEncoded (sink_at pushes from pushed) (row_task shape kept s lines) kept' (encoder_state to e learned) answer →
+        RowOutcome (row_task shape kept s lines) pushed kept' text (encoder_state text' e learned) (sent_as answer)
     row_inked shape kept kept' s pushed lines e learned (Ok u) r = record {
       ok = record {
         more = r.ok.encodes.more;

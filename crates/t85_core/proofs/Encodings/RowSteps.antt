@@ -41,10 +41,12 @@ use Rattle.t85_core.proofs.Encodings.RowShort.{rows_place, fails_begins}
 use Rattle.t85_core.proofs.Encodings.RowStream.{none_whole, stands_here, same_announced, come_first, come_long, stripe_more, part_begins, whole_more, inside_of, front_begins, less_or_not}
 
 -- before the first row of a stripe without a move, what is held is what is carried
-pub carried_by_held : {b : RowStart} {kept : Kept} {learned : List Estimate} {window : Held} → IsHeldBy None 0 b kept learned window → IsCarried b (record { held = window; kept = kept; learned = learned })
+pub carried_by_held : {b : RowStart} {kept : Kept} {learned : List Estimate} {window : Held} → IsHeldBy None 0 b kept learned window →
+    IsCarried b (record { held = window; kept = kept; learned = learned })
 carried_by_held h = record { offset_is = h.offset_is; previous_is = h.previous_is; learned_is = h.learned_is; third = h.third; lines_are = h.lines_are }
 
-pub held_by_carried : {b : RowStart} {kept : Kept} {learned : List Estimate} {window : Held} → IsCarried b (record { held = window; kept = kept; learned = learned }) → IsHeldBy None 0 b kept learned window
+pub held_by_carried : {b : RowStart} {kept : Kept} {learned : List Estimate} {window : Held} → IsCarried b (record { held = window; kept = kept; learned = learned }) →
+    IsHeldBy None 0 b kept learned window
 held_by_carried h = record { at_top = tt; offset_is = h.offset_is; previous_is = h.previous_is; learned_is = h.learned_is; third = h.third; lines_are = h.lines_are }
 
 -- the move was made at the first row
@@ -72,7 +74,8 @@ module _ {image : Image} {rows : List (List Bool)} {v : RowView} {before : Held}
   waits_within left = omega arith
 
   pub stripe_begun : v.rows < v.plan.limit → (kept : Kept) (tally : Tally) (is_counted : Bool)
-      → ((s' : Settings) (width' : ℕ) (at : EncoderStart) → v.kept.offset ≡ at.carry.offset → v.named ≡ named_for s' at.stripe → IsTallied s' width' at v.tally → MoveMade (next_move s' width' at) at.carry.offset mid text' v.kept kept)
+      → ((s' : Settings) (width' : ℕ) (at : EncoderStart) → v.kept.offset ≡ at.carry.offset → v.named ≡ named_for s' at.stripe → IsTallied s' width' at v.tally →
+      MoveMade (next_move s' width' at) at.carry.offset mid text' v.kept kept)
       → ((width' current : ℕ) → CountsLines tally width' current []) → is_two_line tally ≡ is_two_line v.tally → most_of tally ≡ most_of v.tally
       → (v.plan.stripe_rows < v.plan.limit - v.rows → v.plan.has_candidates ≡ true → is_counted ≡ true)
       → Runs image rows (record v { kept = kept; tally = tally; is_counted = is_counted; named = None }) before origin text'
@@ -106,7 +109,8 @@ module _ {image : Image} {rows : List (List Bool)} {v : RowView} {before : Held}
     names_to = w.names_to;
     none_named = refl;
     counts = λ more some. counted
-        (let sum : (w.i + 1) * image.settings.stripe_rows ≡ w.i * image.settings.stripe_rows + 1 * image.settings.stripe_rows = Rattle.std.proofs.Math.Nat.add-mul w.i 1 image.settings.stripe_rows in omega (arith, sum))
+        (let sum : (w.i + 1) * image.settings.stripe_rows
+        ≡ w.i * image.settings.stripe_rows + 1 * image.settings.stripe_rows = Rattle.std.proofs.Math.Nat.add-mul w.i 1 image.settings.stripe_rows in omega (arith, sum))
         (w.plan_is.candidates_are ∙ (grind (arith, nat_tests, some)));
     sent = Sends-more (move_bytes image.settings image.width w.at ++ []) w.sent (rw append-nil made.appended);
   } where
@@ -147,7 +151,8 @@ all_more : {width : ℕ} (rows : List (List Bool)) (row : List Bool) → AllByRe
 all_more [] row all is = (is, tt)
 all_more (first ∷ rows) row all is = (all.0, all_more rows row all.1 is)
 
-module _ {image : Image} {rows : List (List Bool)} {v : RowView} {before : Held} {origin : Origin} {mid : Option (List ℕ)} (row : List Bool) (window : Held) (text' : Option (List ℕ)) (below : IsBelow row before window) (wide : window.width ≡ v.plan.width) (r : Runs image rows v before origin mid) where
+module _ {image : Image} {rows : List (List Bool)} {v : RowView} {before : Held} {origin : Origin} {mid : Option (List ℕ)} (row : List Bool) (window : Held) (text' : Option (List ℕ))
+    (below : IsBelow row before window) (wide : window.width ≡ v.plan.width) (r : Runs image rows v before origin mid) where
   abbrev mode : Mode
   mode = mode_of image.settings.options
 
@@ -188,10 +193,12 @@ module _ {image : Image} {rows : List (List Bool)} {v : RowView} {before : Held}
   counted_same : (kept : Kept) → kept.offset ≡ v.kept.offset → counted_of (record v { kept = kept }) ≡ counted_of v
   counted_same kept same = rw same
 
-  pub row_coded : {kept : Kept} {rows' in_stripe' : ℕ} → v.rows < v.plan.limit → v.in_stripe < v.plan.stripe_rows → v.plan.stripe_rows < 2 ^ 32 → (learned : List Estimate) (tally : Tally) (e : Encoder) →
+  pub row_coded : {kept : Kept} {rows' in_stripe' : ℕ} → v.rows < v.plan.limit → v.in_stripe < v.plan.stripe_rows → v.plan.stripe_rows < 2 ^ 32 →
+      (learned : List Estimate) (tally : Tally) (e : Encoder) →
       rows' ≡ v.rows + 1 → in_stripe' ≡ v.in_stripe + 1 →
       RowPut (row_task v.plan.shape v.kept (record { place = b.state.place; learned = v.learned }) (lines_with b row)) r.pushed kept mid (encoder_state text' e learned) →
-      ((lines : List Lines) (l : Lines) → length lines < 2 ^ 32 - 1 → HasLines window l → IsCountedTo v.plan.width (counted_of (record v { kept = kept })) v.tally lines → IsCountedTo v.plan.width (counted_of (record v { kept = kept })) tally (lines ++ l ∷ [])) →
+      ((lines : List Lines) (l : Lines) → length lines < 2 ^ 32 - 1 → HasLines window l → IsCountedTo v.plan.width (counted_of (record v { kept = kept })) v.tally lines →
+      IsCountedTo v.plan.width (counted_of (record v { kept = kept })) tally (lines ++ l ∷ [])) →
       is_two_line tally ≡ is_two_line v.tally → most_of tally ≡ most_of v.tally →
       Runs image (rows ++ row ∷ []) (record v { kept = kept; learned = learned; tally = tally; encoder = e; rows = rows'; in_stripe = in_stripe' }) window origin text'
   row_coded {kept} left fewer few_rows learned tally e rows_is in_stripe_is put counts two_line most = record {
@@ -232,11 +239,13 @@ module _ {image : Image} {rows : List (List Bool)} {v : RowView} {before : Held}
     names_to = r.names_to;
     none_named = r.none_named;
     counts = r.counts;
-    sent = rw (← append_assoc (move_bytes image.settings image.width r.at) r.pushed put.more, ← append_assoc r.front (move_bytes image.settings image.width r.at ++ r.pushed) put.more) (Sends-more put.more r.sent put.appended);
+    sent = rw (← append_assoc (move_bytes image.settings image.width r.at) r.pushed put.more, ← append_assoc r.front (move_bytes image.settings image.width r.at ++ r.pushed) put.more)
+        (Sends-more put.more r.sent put.appended);
   }
 
   -- the target refused a byte of it
-  pub row_cut : WritingLaws → v.in_stripe < v.plan.stripe_rows → RowCut (record { place = b.state.place; learned = v.learned }) r.pushed (canonical_events v.plan.shape v.kept (lines_with b row)) mid text' → StreamCut image (rows ++ row ∷ []) origin text'
+  pub row_cut : WritingLaws → v.in_stripe < v.plan.stripe_rows →
+      RowCut (record { place = b.state.place; learned = v.learned }) r.pushed (canonical_events v.plan.shape v.kept (lines_with b row)) mid text' → StreamCut image (rows ++ row ∷ []) origin text'
   row_cut laws fewer cut = record {
     bytes = (r.front ++ (move_bytes image.settings image.width r.at ++ r.pushed)) ++ cut.done;
     sent = Sends-more cut.done r.sent cut.appended;
@@ -259,7 +268,8 @@ module _ {image : Image} {rows : List (List Bool)} {v : RowView} {before : Held}
     at : length r.part ≡ 0 + length r.part
     at = omega arith
 
-    begins : (later : List (List Bool)) → IsBeginning (move_bytes image.settings image.width r.at ++ (r.pushed ++ cut.done)) (stripe_bytes (next_stripe image.settings image.width r.at ((r.part ++ row ∷ []) ++ later)))
+    begins : (later : List (List Bool)) → IsBeginning (move_bytes image.settings image.width r.at ++ (r.pushed ++ cut.done))
+        (stripe_bytes (next_stripe image.settings image.width r.at ((r.part ++ row ∷ []) ++ later)))
     begins later =
         let p = fails_begins laws mode move c r.part row (length (r.part ++ row ∷ []) + length later) cut.events cut.rest (r.pushed ++ cut.done) cut.left
         (ap (λ n. row_events mode (lines_with b row) (offset_at move n b.offset) b.previous (next_flag mode b row)) (sym at) ∙ sym events_are ∙ cut.all_are)
@@ -287,7 +297,8 @@ module _ (image : Image) (rows : List (List Bool)) (v : RowView) (window : Held)
 
 -- ---- a stripe ends
 
-module _ {image : Image} {rows : List (List Bool)} {v : RowView} {window : Held} {origin : Origin} {mid : Option (List ℕ)} (text' : Option (List ℕ)) (some : 0 < v.in_stripe) (r : Runs image rows v window origin mid) where
+module _ {image : Image} {rows : List (List Bool)} {v : RowView} {window : Held} {origin : Origin} {mid : Option (List ℕ)} (text' : Option (List ℕ)) (some : 0 < v.in_stripe)
+    (r : Runs image rows v window origin mid) where
   abbrev last : RowStart
   last = row_start_in image.settings image.width r.at r.part
 
@@ -300,7 +311,9 @@ module _ {image : Image} {rows : List (List Bool)} {v : RowView} {window : Held}
       append_assoc r.front (move_bytes image.settings image.width r.at ++ r.pushed) more
       ∙ ap (λ z. r.front ++ z) (append_assoc (move_bytes image.settings image.width r.at) r.pushed more)
       ∙ ap (λ z. r.front ++ (move_bytes image.settings image.width r.at ++ z)) all
-      ∙ ap (λ z. r.front ++ (move_bytes image.settings image.width r.at ++ (stuffed z ++ marker_bytes v.plan.reset))) ((laws.one_code last.state.place (rows_place laws (mode_of image.settings.options) (next_move image.settings image.width r.at) 0 (first_row_start r.at.carry) r.part laws.start_is_place)).only code is)
+      ∙ ap (λ z. r.front ++ (move_bytes image.settings image.width r.at ++ (stuffed z ++ marker_bytes v.plan.reset)))
+      ((laws.one_code last.state.place (rows_place laws (mode_of image.settings.options) (next_move image.settings image.width r.at) 0
+      (first_row_start r.at.carry) r.part laws.start_is_place)).only code is)
       ∙ ap (λ b. r.front ++ (move_bytes image.settings image.width r.at ++ (stuffed (code_of last.state.place) ++ marker_bytes b))) r.plan_is.reset_is
 
   -- what is held after its rows, and its move
@@ -339,7 +352,8 @@ module _ {image : Image} {rows : List (List Bool)} {v : RowView} {window : Held}
     same : (if v.plan.reset then 0 else v.kept.offset) ≡ next.carry.offset
     same = current image.settings.reset r.plan_is.reset_is
 
-    by_count : (b : Bool) → v.is_counted ≡ b → (0 < length (candidates (mode_of image.settings.options).two_line image.settings.most_offset) → b ≡ true) → IsTallied image.settings image.width next v.tally
+    by_count : (b : Bool) → v.is_counted ≡ b → (0 < length (candidates (mode_of image.settings.options).two_line image.settings.most_offset) → b ≡ true) →
+        IsTallied image.settings image.width next v.tally
     by_count true is counts = record {
       two_line = r.running.two_line;
       most = r.running.most;
@@ -414,7 +428,8 @@ module _ (image : Image) (count : ℕ) (rows : List (List Bool)) (v : RowView) (
     i = e.i + 1;
     at = next_encoder_start image.settings image.width e.at e.part;
     front = e.front ++ stripe_bytes (next_stripe image.settings image.width e.at e.part);
-    stripes = subst (λ z. StripesWhole image (e.i + 1) z (next_encoder_start image.settings image.width e.at e.part) (e.front ++ stripe_bytes (next_stripe image.settings image.width e.at e.part))) (sym e.all)
+    stripes = subst (λ z. StripesWhole image (e.i + 1) z (next_encoder_start image.settings image.width e.at e.part)
+        (e.front ++ stripe_bytes (next_stripe image.settings image.width e.at e.part))) (sym e.all)
         (whole_more e.plan_is.some e.stripes e.part (e.many ∙ full ∙ e.plan_is.stripe_rows_is));
     in_stripe = e.in_stripe;
     codes = e.codes;
@@ -466,7 +481,8 @@ count_is {c} n l some from to = went (less_or_not c (stripe_count n l)) (less_or
 not_some : {o : Option ℕ} → o ≡ None → is_some o ≡ false
 not_some none = ap is_some none
 
-module _ {image : Image} {rows : List (List Bool)} (v : RowView) (plan : IsPlan image v.plan) (come : HaveCome image.width image.limit rows v.rows) (some : 0 < v.rows) (whole : v.plan.may_end ≡ false → v.rows ≡ v.plan.limit) where
+module _ {image : Image} {rows : List (List Bool)} (v : RowView) (plan : IsPlan image v.plan) (come : HaveCome image.width image.limit rows v.rows) (some : 0 < v.rows)
+    (whole : v.plan.may_end ≡ false → v.rows ≡ v.plan.limit) where
   all_rows : image.settings.announced ≡ None → length rows ≡ image.limit
   all_rows none = (let full = whole (plan.may_end_is ∙ not_some none) in omega arith)
 
@@ -500,15 +516,19 @@ module _ {image : Image} {rows : List (List Bool)} (v : RowView) (plan : IsPlan 
         ∙ ap (jbg_up_to image.settings (raster_of image.width rows)) (sym (count_is (length rows) image.settings.stripe_rows plan.some (omega arith) (omega arith)))) w.sent;
   }
 
-module _ {image : Image} {rows whole : List (List Bool)} {i : ℕ} {at : EncoderStart} {front : List ℕ} (count : ℕ) (part : List (List Bool)) (some : 1 ≤ image.settings.stripe_rows) (all : rows ≡ whole ++ part) (stripes : StripesWhole image i whole at front) (some_part : 0 < length part) (few : length part ≤ image.settings.stripe_rows) (m : MayCome image rows (raster_of image.width rows)) where
+module _ {image : Image} {rows whole : List (List Bool)} {i : ℕ} {at : EncoderStart} {front : List ℕ} (count : ℕ) (part : List (List Bool)) (some : 1 ≤ image.settings.stripe_rows)
+    (all : rows ≡ whole ++ part) (stripes : StripesWhole image i whole at front) (some_part : 0 < length part) (few : length part ≤ image.settings.stripe_rows)
+    (m : MayCome image rows (raster_of image.width rows)) where
   sum : length rows ≡ i * image.settings.stripe_rows + length part
   sum = (let lengths : length rows ≡ length (whole ++ part) = ap length all in omega (arith, length-append whole part))
 
   -- the stripes with this one are all
-  pub last_stripe : front ++ stripe_bytes (next_stripe image.settings image.width at part) ≡ jbg_up_to image.settings (raster_of image.width rows) (stripe_count (length rows) image.settings.stripe_rows)
+  pub last_stripe : front ++ stripe_bytes (next_stripe image.settings image.width at part) ≡ jbg_up_to image.settings (raster_of image.width rows)
+      (stripe_count (length rows) image.settings.stripe_rows)
   last_stripe =
       stripe_more some stripes part (subst (λ z. MayCome image z (raster_of image.width rows)) all m) (omega (arith, sum, some_part)) (omega (arith, sum, few))
-      ∙ ap (jbg_up_to image.settings (raster_of image.width rows)) (sym (count_is (length rows) image.settings.stripe_rows some (omega (arith, sum, few, product)) (omega (arith, sum, some_part, product))))
+      ∙ ap (jbg_up_to image.settings (raster_of image.width rows))
+      (sym (count_is (length rows) image.settings.stripe_rows some (omega (arith, sum, few, product)) (omega (arith, sum, some_part, product))))
     where
       product : (i + 1) * image.settings.stripe_rows ≡ i * image.settings.stripe_rows + 1 * image.settings.stripe_rows
       product = Rattle.std.proofs.Math.Nat.add-mul i 1 image.settings.stripe_rows
@@ -534,7 +554,8 @@ cut_stripes {image} {count} {rows} {v} {origin} {text'} some whole r e =
 module _ {image : Image} {rows : List (List Bool)} {v : RowView} {origin : Origin} {mid : Option (List ℕ)} (text' : Option (List ℕ)) (e : StripesEnded image rows v origin mid) where
   ending_is : ending_of v.plan.announced v.plan.reset v.rows ≡ ending image.settings (length rows)
   ending_is =
-      ap (λ n. ending_of n v.plan.reset v.rows) e.announced_is ∙ ap (λ b. ending_of (unwrap_or image.settings.announced (length rows)) b v.rows) e.reset_is ∙ ap (ending_of (unwrap_or image.settings.announced (length rows)) image.settings.reset) e.rows_are
+      ap (λ n. ending_of n v.plan.reset v.rows) e.announced_is ∙ ap (λ b. ending_of (unwrap_or image.settings.announced (length rows)) b v.rows) e.reset_is
+      ∙ ap (ending_of (unwrap_or image.settings.announced (length rows)) image.settings.reset) e.rows_are
 
   pub stream_ended : Appends mid text' (ending_of v.plan.announced v.plan.reset v.rows) → Sends origin text' (jbg image.settings (raster_of image.width rows))
   stream_ended last = Sends-more (ending image.settings (length rows)) e.sent (subst (Appends mid text') ending_is last)

@@ -41,7 +41,8 @@ same_announced None a b h = h refl
 same_announced (Some n) a b h = refl
 
 -- the head of each raster that may come
-pub come_head : {image : Image} {rows : List (List Bool)} {raster : Raster} → MayCome image rows raster → head_of image.settings image.width image.limit ≡ head_of image.settings raster.width (height raster)
+pub come_head : {image : Image} {rows : List (List Bool)} {raster : Raster} → MayCome image rows raster →
+    head_of image.settings image.width image.limit ≡ head_of image.settings raster.width (height raster)
 come_head {image} {raster} b =
     rw (← b.width_is, same_announced image.settings.announced image.limit (height raster) (λ none. sym (b.height_is none)))
 
@@ -101,7 +102,8 @@ stripes_begin s raster n (suc m) =
     }
 
 -- a beginning of the stream up to some stripe is one of the stream
-pub front_begins : {bytes : List ℕ} (s : Settings) (raster : Raster) (n : ℕ) → n ≤ stripe_count (height raster) s.stripe_rows → IsBeginning bytes (jbg_up_to s raster n) → IsBeginning bytes (jbg s raster)
+pub front_begins : {bytes : List ℕ} (s : Settings) (raster : Raster) (n : ℕ) → n ≤ stripe_count (height raster) s.stripe_rows → IsBeginning bytes (jbg_up_to s raster n) →
+    IsBeginning bytes (jbg s raster)
 front_begins {bytes} s raster n few b = record { rest = b.rest ++ (more.rest ++ ending s (height raster)); bytes_are = all_are } where
   count : ℕ
   count = stripe_count (height raster) s.stripe_rows
@@ -187,7 +189,8 @@ module _ {image : Image} {i : ℕ} {whole : List (List Bool)} {at : EncoderStart
   rows_more part enough = let product : (i + 1) * l ≡ i * l + 1 * l = Rattle.std.proofs.Math.Nat.add-mul i 1 l in omega (arith, length-append whole part)
 
   -- a stripe with all its rows
-  part_stands : (part : List (List Bool)) → length part ≡ l → FrontStands image (i + 1) (whole ++ part) (next_encoder_start image.settings image.width at part) (front ++ stripe_bytes (next_stripe image.settings image.width at part))
+  part_stands : (part : List (List Bool)) → length part ≡ l →
+      FrontStands image (i + 1) (whole ++ part) (next_encoder_start image.settings image.width at part) (front ++ stripe_bytes (next_stripe image.settings image.width at part))
   part_stands part enough = record {
     front_is = λ raster b. stripe_more part b (within raster b) (all raster b);
     course = λ raster b more. rw (← b.width_is) ((stripe_comes b (within raster b) (all raster b)).next (inside_of (height raster) l (i + 1) some more));
@@ -202,7 +205,8 @@ module _ {image : Image} {i : ℕ} {whole : List (List Bool)} {at : EncoderStart
     all raster b = omega (arith, long raster b)
 
 -- what is written for a stripe is the same where its own name is
-module _ {image : Image} {i : ℕ} {whole : List (List Bool)} {at : EncoderStart} {front : List ℕ} (some : 1 ≤ image.settings.stripe_rows) (so : StripesWhole image i whole at front) (part : List (List Bool)) (enough : length part ≡ image.settings.stripe_rows) where
+module _ {image : Image} {i : ℕ} {whole : List (List Bool)} {at : EncoderStart} {front : List ℕ} (some : 1 ≤ image.settings.stripe_rows) (so : StripesWhole image i whole at front)
+    (part : List (List Bool)) (enough : length part ≡ image.settings.stripe_rows) where
   start_with : Option (ℕ × ℕ) → EncoderStart
   start_with move = record {
     stripe = suc at.stripe;

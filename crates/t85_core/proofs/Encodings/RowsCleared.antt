@@ -18,11 +18,13 @@ cleared width w = next_cleared width (next_cleared width (next_cleared width w))
 abbrev AreSmall : List ℕ → Type 0
 AreSmall bytes = (k : ℕ) → slice_index bytes k < 256
 
-module _ {width : ℕ} {w1 w2 w3 : Held} (some : 1 ≤ width) (w0 : Held) (wide : w0.width ≡ width) (e1 : w1 ≡ next_cleared width w0) (e2 : w2 ≡ next_cleared width w1) (e3 : w3 ≡ next_cleared width w2) where
+module _ {width : ℕ} {w1 w2 w3 : Held} (some : 1 ≤ width) (w0 : Held) (wide : w0.width ≡ width) (e1 : w1 ≡ next_cleared width w0) (e2 : w2 ≡ next_cleared width w1)
+    (e3 : w3 ≡ next_cleared width w2) where
   third : w3 ≡ cleared width w0
   third = rw (e3, e2, e1)
 
-  pub cleared_lined : MaskedIsPacked → length w0.second ≡ bytes_of_row width → length w1.second ≡ bytes_of_row width → length w2.second ≡ bytes_of_row width → AreSmall w1.current → AreSmall w2.current → AreSmall w3.current → IsLined w3
+  pub cleared_lined : MaskedIsPacked → length w0.second ≡ bytes_of_row width → length w1.second ≡ bytes_of_row width → length w2.second ≡ bytes_of_row width → AreSmall w1.current →
+      AreSmall w2.current → AreSmall w3.current → IsLined w3
   cleared_lined packed long1 long2 long3 small1 small2 small3 = rw third (
     record { row = pixels_of width (masked_row width w0.current); above = pixels_of width (masked_row width w0.above); second = pixels_of width (masked_row width w0.second) },
     record {

@@ -5,7 +5,8 @@ use Rattle.t85_core.specs.Steps.State.{RowStart, lines_with, after_row}
 use Rattle.t85_core.specs.Steps.Written.{next_flag, after_rows, lines_down}
 
 -- rows after rows
-pub after_more : (mode : Mode) (move : Option (ℕ × ℕ)) (r : ℕ) (b : RowStart) (rows more : List (List Bool)) → after_rows mode move r b (rows ++ more) ≡ after_rows mode move (r + length rows) (after_rows mode move r b rows) more
+pub after_more : (mode : Mode) (move : Option (ℕ × ℕ)) (r : ℕ) (b : RowStart) (rows more : List (List Bool)) →
+    after_rows mode move r b (rows ++ more) ≡ after_rows mode move (r + length rows) (after_rows mode move r b rows) more
 after_more mode move r b [] more = let at : r ≡ r + 0 = omega arith in ap (λ n. after_rows mode move n b more) at
 after_more mode move r b (row ∷ rows) more =
     let at : (r + 1) + length rows ≡ r + suc (length rows) = omega arith in

@@ -17,7 +17,8 @@ reads_none {known} = record { given = []; taken = nothing known; are_rows = refl
   nothing None = tt
   nothing (Some a) = refl
 
-pub reads_join : {form : Form} {width : ℕ} {a b c : Option (List ℕ)} {rows more : List (List Bool)} → ReadsRows form width a b rows → ReadsRows form width b c more → ReadsRows form width a c (rows ++ more)
+pub reads_join : {form : Form} {width : ℕ} {a b c : Option (List ℕ)} {rows more : List (List Bool)} → ReadsRows form width a b rows → ReadsRows form width b c more →
+    ReadsRows form width a c (rows ++ more)
 reads_join {form} {width} {a} {b} {c} {rows} {more} p q = record {
   given = p.given ++ q.given;
   taken = Consumes-more a b c p.given q.given p.taken q.taken;

@@ -15,7 +15,8 @@ use Rattle.t85_core.specs.Steps.EncodeRows.{RowTaken}
 
 -- The current row of a window is written, with a given place and width.
 pub put_current : {told place told_width width : ℕ} (start end : ℕ) (bytes row : List ℕ) → told ≡ place → told_width ≡ width → length bytes ≡ 3 * div_ceil width 8 → length row ≡ div_ceil width 8 →
-    ((bytes row : List ℕ) → length bytes ≡ 3 * div_ceil told_width 8 → length row ≡ div_ceil told_width 8 → rows_at told told_width (with_part start end bytes row) ≡ with_current (rows_at told told_width bytes) row) →
+    ((bytes row : List ℕ) → length bytes ≡ 3 * div_ceil told_width 8 → length row ≡ div_ceil told_width 8 →
+    rows_at told told_width (with_part start end bytes row) ≡ with_current (rows_at told told_width bytes) row) →
     rows_at place width (with_part start end bytes row) ≡ with_current (rows_at place width bytes) row
 put_current {told} {width} start end bytes row place_is width_is long wide put =
     rw (← place_is, ← width_is) (put bytes row (long ∙ ap (λ w. 3 * div_ceil w 8) (sym width_is)) (wide ∙ ap (λ w. div_ceil w 8) (sym width_is)))

@@ -31,6 +31,10 @@ module _ {S : Type 0} (view : S → SinkView) where
   took_inked from to [] took = rw (← took) (record { same_buffer = refl; same_writer = refl; grows = omega arith }, appends_none (view from).text)
   took_inked from to (byte ∷ bytes) (next, first, rest) =
       let later = took_inked next to bytes rest in (
-        record { same_buffer = later.0.same_buffer ∙ first.0.same_buffer; same_writer = later.0.same_writer ∙ first.0.same_writer; grows = (let a = first.0.grows in let b = later.0.grows in omega arith) },
+        record {
+          same_buffer = later.0.same_buffer ∙ first.0.same_buffer;
+          same_writer = later.0.same_writer ∙ first.0.same_writer;
+          grows = (let a = first.0.grows in let b = later.0.grows in omega arith);
+        },
         Appends-more (view from).text (view next).text (view to).text (byte ∷ []) bytes first.1 later.1,
       )

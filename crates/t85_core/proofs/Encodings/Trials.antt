@@ -74,7 +74,8 @@ length-packed_rows width bytes k = simp length-map (many_numbers 0 k)
 
 -- ---- a row more
 
-module _ {part : List (List Bool)} {before : Held} {trial : Trial} (shape : Shape) (most : ℕ) (carry : StripeStart) (offset : ℕ) (row : List Bool) (window : Held) (trial' : Trial) (below : IsBelow row before window) (h : IsTried (trial_of (shape_mode shape) most carry offset) part shape.width trial before) where
+module _ {part : List (List Bool)} {before : Held} {trial : Trial} (shape : Shape) (most : ℕ) (carry : StripeStart) (offset : ℕ) (row : List Bool) (window : Held) (trial' : Trial)
+    (below : IsBelow row before window) (h : IsTried (trial_of (shape_mode shape) most carry offset) part shape.width trial before) where
   abbrev mode : Mode
   mode = shape_mode shape
 
@@ -115,7 +116,8 @@ module _ {part : List (List Bool)} {before : Held} {trial : Trial} (shape : Shap
       omega (arith, length-filter (λ l. not (may_be_typical mode l)) (lines_down carry.above carry.second part), length-lines_down carry.above carry.second part)
 
   counted_more : {flag : Bool} → length part < 2 ^ 32 - 1 → (may_be_typical mode line ≡ true → trial'.tally ≡ trial.tally) →
-      (may_be_typical mode line ≡ false → (lines : List Lines) → length lines < 2 ^ 32 - 1 → CountsLines trial.tally shape.width 0 lines → CountsLines trial'.tally shape.width 0 (lines ++ line ∷ [])) →
+      (may_be_typical mode line ≡ false → (lines : List Lines) → length lines < 2 ^ 32 - 1 → CountsLines trial.tally shape.width 0 lines →
+      CountsLines trial'.tally shape.width 0 (lines ++ line ∷ [])) →
       CountsLines trial.tally shape.width 0 (plain_down (trial_of mode most carry offset) part) → may_be_typical mode line ≡ flag →
       CountsLines trial'.tally shape.width 0 (plain_down (trial_of mode most carry offset) (part ++ row ∷ []))
   counted_more {flag = true} few typical plain was is =
@@ -124,9 +126,11 @@ module _ {part : List (List Bool)} {before : Held} {trial : Trial} (shape : Shap
       rw (plain_more, is) (plain is (plain_down (trial_of mode most carry offset) part) (few_plain few) was)
 
   pub row_tried : length part < 2 ^ 32 - 1 → trial'.is_counted ≡ trial.is_counted
-      → RowCoded (sink_at counts trial.sink h.pushed) (row_task shape trial.kept (record { place = b.state.place; learned = trial.learned }) line) trial'.kept (encoder_state trial'.sink trial'.encoder trial'.learned)
+      → RowCoded (sink_at counts trial.sink h.pushed) (row_task shape trial.kept (record { place = b.state.place; learned = trial.learned }) line) trial'.kept
+      (encoder_state trial'.sink trial'.encoder trial'.learned)
       → (trial'.kept.previous_typical ≡ true → trial'.tally ≡ trial.tally)
-      → (trial.is_counted ≡ true → trial'.kept.previous_typical ≡ false → (lines : List Lines) → length lines < 2 ^ 32 - 1 → CountsLines trial.tally shape.width 0 lines → CountsLines trial'.tally shape.width 0 (lines ++ line ∷ []))
+      → (trial.is_counted ≡ true → trial'.kept.previous_typical ≡ false → (lines : List Lines) → length lines < 2 ^ 32 - 1 → CountsLines trial.tally shape.width 0 lines →
+      CountsLines trial'.tally shape.width 0 (lines ++ line ∷ []))
       → is_two_line trial'.tally ≡ is_two_line trial.tally → most_of trial'.tally ≡ most_of trial.tally
       → IsTried (trial_of mode most carry offset) (part ++ row ∷ []) shape.width trial' window
   row_tried few same coded typical plain two_line most_is = record {
@@ -152,4 +156,9 @@ pub code_counted : {t : TrialOf} {part : List (List Bool)} {width : ℕ} {trial 
     (h : IsTried t part width trial window) → OnErr r (◌≡◌ {A = ℕ} 0 (one_more 0)) → Finish (sink_at counts trial.sink h.pushed) (tried_to t part).state.place to r →
     to.bytes ≡ length (tried_code t part) % 2 ^ 64
 code_counted {t} {part} {trial} {to} {r} laws h never f =
-    rw (took_counted trial.sink to f.more (sure r never f.writes.ok) (length h.pushed) h.bytes, ← length-append h.pushed f.more, f.all, (laws.one_code (tried_to t part).state.place (rows_place laws t.mode (named_move t.offset t.carry.offset) 0 (first_row_start t.carry) part laws.start_is_place)).only f.code f.is)
+    rw (
+      took_counted trial.sink to f.more (sure r never f.writes.ok) (length h.pushed) h.bytes,
+      ← length-append h.pushed f.more,
+      f.all,
+      (laws.one_code (tried_to t part).state.place (rows_place laws t.mode (named_move t.offset t.carry.offset) 0 (first_row_start t.carry) part laws.start_is_place)).only f.code f.is,
+    )

@@ -72,7 +72,8 @@ pub record EndsPieces (h : Fields) (Fits : List Segment → Type 0) (segments : 
   pub no_segment : code ≡ [] → (s : Segment) (z : List ℕ) → IsLegal h s → Fits (segments ++ s ∷ []) → x ≡ segment_bytes s ++ z → ⊥
 
 module _ {h : Fields} (ok : IsAccepted h) (Fits : List Segment → Type 0) (closed : (ss ts : List Segment) → Fits (ss ++ ts) → Fits ss) where
-  no_segment_before : {before : List Segment} {c x : List ℕ} (y : List ℕ) (t : Segment) → IsLegal h t → Fits (before ++ t ∷ []) → EndsPieces h Fits before c x → stuffed c ++ x ≡ segment_bytes t ++ y → ⊥
+  no_segment_before : {before : List Segment} {c x : List ℕ} (y : List ℕ) (t : Segment) → IsLegal h t → Fits (before ++ t ∷ []) → EndsPieces h Fits before c x →
+      stuffed c ++ x ≡ segment_bytes t ++ y → ⊥
   no_segment_before {c = []} y t legal fits ends e = ends.no_segment refl t y legal fits e
   no_segment_before {c = (b ∷ c)} {x} y t legal fits ends e = no_segment_in_code b (stuffed c ++ x) y t (sym (stuffed_cons b c x) ∙ e)
 
@@ -101,7 +102,8 @@ module _ {h : Fields} (ok : IsAccepted h) (Fits : List Segment → Type 0) (clos
 
 -- a stripe, cut before its end marker
 pub cut_at_marker : (s : Stripe) (x : List ℕ) → stripe_bytes s ++ x ≡ flat_map segment_bytes s.segments ++ (stuffed s.code ++ (marker_bytes s.reset ++ x))
-cut_at_marker s x = append_assoc (flat_map segment_bytes s.segments) (stuffed s.code ++ marker_bytes s.reset) x ∙ ap (λ z. flat_map segment_bytes s.segments ++ z) (append_assoc (stuffed s.code) (marker_bytes s.reset) x)
+cut_at_marker s x = append_assoc (flat_map segment_bytes s.segments) (stuffed s.code ++ marker_bytes s.reset) x
+    ∙ ap (λ z. flat_map segment_bytes s.segments ++ z) (append_assoc (stuffed s.code) (marker_bytes s.reset) x)
 
 pub marker_no_code : (reset : Bool) (x : List ℕ) → NoCode (marker_bytes reset ++ x)
 marker_no_code reset x b z e = went reset (stuff_cases b) e where
@@ -144,7 +146,8 @@ pub one_front : {h : Fields} → IsAccepted h → (ss ts : List Stripe) (x y : L
     flat_map stripe_bytes ss ++ x ≡ flat_map stripe_bytes ts ++ y → (ss ≡ ts) × (x ≡ y)
 one_front ok [] [] x y p q n e = (refl, e)
 one_front ok (s ∷ ss) (t ∷ ts) x y p q n e =
-    let first = one_stripe ok s t (flat_map stripe_bytes ss ++ x) (flat_map stripe_bytes ts ++ y) p.0 q.0 (sym (append_assoc (stripe_bytes s) (flat_map stripe_bytes ss) x) ∙ e ∙ append_assoc (stripe_bytes t) (flat_map stripe_bytes ts) y) in
+    let first = one_stripe ok s t (flat_map stripe_bytes ss ++ x) (flat_map stripe_bytes ts ++ y) p.0 q.0
+    (sym (append_assoc (stripe_bytes s) (flat_map stripe_bytes ss) x) ∙ e ∙ append_assoc (stripe_bytes t) (flat_map stripe_bytes ts) y) in
     let fewer : length ss ≡ length ts = omega arith in
     let rest = one_front ok ss ts x y p.1 q.1 fewer first.1 in
     (ap (λ z. z ∷ ss) first.0 ∙ ap (λ z. t ∷ z) rest.0, rest.1)
@@ -191,11 +194,13 @@ module _ {h : Fields} (ok : IsAccepted h) (height k n : ℕ) (suits : Suits h he
     few : (ss ts : List Segment) → count_by is_move (ss ++ ts) ≤ 1 → count_by is_move ss ≤ 1
     few ss ts e = let c = sum_by-append (λ y. cond (is_move y) 1 0) ss ts in omega arith
 
-  fault_ends : {f : Fault} (segments : List Segment) (code rest : List ℕ) → rest_fault h (spot_of height k (n + length (lengths segments))) (count_by is_move segments) (not (is_nil code)) rest ≡ Some f →
+  fault_ends : {f : Fault} (segments : List Segment) (code rest : List ℕ) →
+      rest_fault h (spot_of height k (n + length (lengths segments))) (count_by is_move segments) (not (is_nil code)) rest ≡ Some f →
       EndsPieces h Fits segments code rest
   fault_ends {f} segments code rest e = record {
     no_code = no_code_in h (spot_of height k (n + length (lengths segments))) (count_by is_move segments) (not (is_nil code)) rest e;
-    no_segment = λ nil s z legal fits is. no s z legal fits is (subst (λ u. rest_fault h (spot_of height k (n + length (lengths segments))) (count_by is_move segments) (not (is_nil u)) rest ≡ Some f) nil e);
+    no_segment = λ nil s z legal fits is. no s z legal fits is
+        (subst (λ u. rest_fault h (spot_of height k (n + length (lengths segments))) (count_by is_move segments) (not (is_nil u)) rest ≡ Some f) nil e);
   } where
     no : (s : Segment) (z : List ℕ) → IsLegal h s → Fits (segments ++ s ∷ []) → rest ≡ segment_bytes s ++ z →
         rest_fault h (spot_of height k (n + length (lengths segments))) (count_by is_move segments) false rest ≡ Some f → ⊥
@@ -240,7 +245,8 @@ pub record SameStripeFault {h : Fields} {spot spot' : Spot} {x y : List ℕ} {f 
   pub rest : p.rest ≡ q.rest
   pub fault : f ≡ g
 
-pub one_stripe_fault : {h : Fields} {x y : List ℕ} {f g : Fault} → IsAccepted h → (height k n : ℕ) → Suits h height k → (p : StripeFault h (spot_of height k n) x f) (q : StripeFault h (spot_of height k n) y g) →
+pub one_stripe_fault : {h : Fields} {x y : List ℕ} {f g : Fault} → IsAccepted h → (height k n : ℕ) → Suits h height k →
+    (p : StripeFault h (spot_of height k n) x f) (q : StripeFault h (spot_of height k n) y g) →
     x ≡ y → SameStripeFault p q
 one_stripe_fault {h} {f} {g} ok height k n suits p q e =
     let cut = one_cut ok (Fits ok height k n suits) (fits_closed ok height k n suits) [] p.segments q.segments (sym p.bytes_are ∙ e ∙ q.bytes_are)
@@ -289,7 +295,8 @@ module _ {h : Fields} (ok : IsAccepted h) (height most : ℕ) (suits : (k : ℕ)
       no_stripe_in_fault ok height k n (suits k (omega arith)) s (flat_map stripe_bytes ss ++ x) p.0 (first_gives s ss g) (subst (λ u. StripeFault h u tail f) (here k n) w)
       (sym (append_assoc (stripe_bytes s) (flat_map stripe_bytes ss) x) ∙ e)
   never_both {tail} {f} k n (s ∷ ss) (t ∷ ts) x p q g le less w e =
-      let first = one_stripe ok s t (flat_map stripe_bytes ss ++ x) (flat_map stripe_bytes ts ++ tail) p.0 q.0 (sym (append_assoc (stripe_bytes s) (flat_map stripe_bytes ss) x) ∙ e ∙ append_assoc (stripe_bytes t) (flat_map stripe_bytes ts) tail) in
+      let first = one_stripe ok s t (flat_map stripe_bytes ss ++ x) (flat_map stripe_bytes ts ++ tail) p.0 q.0
+      (sym (append_assoc (stripe_bytes s) (flat_map stripe_bytes ss) x) ∙ e ∙ append_assoc (stripe_bytes t) (flat_map stripe_bytes ts) tail) in
       let w' : StripeFault h (spot_on height (suc k) (n + length (lengths s.segments)) ts) tail f =
       subst (λ u. StripeFault h (spot_on height (suc k) (n + length (lengths u.segments)) ts) tail f) (sym first.0) (subst (λ u. StripeFault h u tail f) (onward k n t ts) w) in
       never_both (suc k) (n + length (lengths s.segments)) ss ts x p.1 q.1 (rest_gives s ss g) (omega arith) (omega arith) w' first.1
@@ -306,7 +313,8 @@ module _ {h : Fields} (ok : IsAccepted h) (height most : ℕ) (suits : (k : ℕ)
       absurd (no_stripe_in_fault ok height k n (suits k (omega arith)) t (flat_map stripe_bytes ts ++ y) q.0 (first_gives t ts gt) (subst (λ u. StripeFault h u x f) (here k n) v)
       (sym (append_assoc (stripe_bytes t) (flat_map stripe_bytes ts) y) ∙ sym e))
   same_front {x} {y} {f} {g} k n (s ∷ ss) (t ∷ ts) p q gs gt ls lt v w e =
-      let first = one_stripe ok s t (flat_map stripe_bytes ss ++ x) (flat_map stripe_bytes ts ++ y) p.0 q.0 (sym (append_assoc (stripe_bytes s) (flat_map stripe_bytes ss) x) ∙ e ∙ append_assoc (stripe_bytes t) (flat_map stripe_bytes ts) y) in
+      let first = one_stripe ok s t (flat_map stripe_bytes ss ++ x) (flat_map stripe_bytes ts ++ y) p.0 q.0
+      (sym (append_assoc (stripe_bytes s) (flat_map stripe_bytes ss) x) ∙ e ∙ append_assoc (stripe_bytes t) (flat_map stripe_bytes ts) y) in
       let back = sym first.0 in
       let w' : StripeFault h (spot_on height (suc k) (n + length (lengths s.segments)) ts) y g =
       subst (λ u. StripeFault h (spot_on height (suc k) (n + length (lengths u.segments)) ts) y g) back (subst (λ u. StripeFault h u y g) (onward k n t ts) w) in
@@ -322,7 +330,8 @@ module _ {h : Fields} (ok : IsAccepted h) (height most : ℕ) (suits : (k : ℕ)
       ap (λ u. spot_of height u (length (lengths (all_segments ss)))) a ∙ ap (spot_of height (0 + length ss)) b
 
   -- a body has its parts, or it is broken
-  pub parts_or_fault : {tail : List ℕ} {f : Fault} (ss ts : List Stripe) (x : List ℕ) → AllByRecursion (IsStripe h) ss → AllByRecursion (IsStripe h) ts → GiveOnly height 0 (all_segments ss) → length ts ≤ most →
+  pub parts_or_fault : {tail : List ℕ} {f : Fault} (ss ts : List Stripe) (x : List ℕ) → AllByRecursion (IsStripe h) ss → AllByRecursion (IsStripe h) ts → GiveOnly height 0 (all_segments ss) →
+      length ts ≤ most →
       length ts < length ss → StripeFault h (spot_after height ts) tail f → flat_map stripe_bytes ss ++ x ≡ flat_map stripe_bytes ts ++ tail → ⊥
   parts_or_fault {tail} {f} ss ts x p q g le less w e =
       never_both 0 0 ss ts x p q g (omega arith) less (subst (λ u. StripeFault h u tail f) (after_is ts) w) e
@@ -361,7 +370,8 @@ begun_cut : {h : Fields} {Fits : List Segment → Type 0} {d y : List ℕ} → I
     EndsPieces h Fits (before ++ ts) d y → (ss ≡ ts) × (more : List ℕ) × (d ≡ (b ∷ c) ++ more)
 begun_cut {Fits} {d} {y} ok closed before [] [] b c x e p q f ends = let k = code_front (b ∷ c) d x y e ends.no_code in (refl, k.0, k.1)
 begun_cut {Fits} {d} {y} ok closed before [] (t ∷ ts) b c x e p q f ends =
-    absurd (no_segment_in_code b (stuffed c ++ x) (flat_map segment_bytes ts ++ (stuffed d ++ y)) t (sym (stuffed_cons b c x) ∙ e ∙ append_assoc (segment_bytes t) (flat_map segment_bytes ts) (stuffed d ++ y)))
+    absurd (no_segment_in_code b (stuffed c ++ x) (flat_map segment_bytes ts ++ (stuffed d ++ y)) t
+    (sym (stuffed_cons b c x) ∙ e ∙ append_assoc (segment_bytes t) (flat_map segment_bytes ts) (stuffed d ++ y)))
 begun_cut {h} {Fits} {d} {y} ok closed before (s ∷ ss) [] b c x e p q f ends =
     let fits : Fits (before ++ s ∷ []) = closed (before ++ s ∷ []) ss (subst Fits (sym (append_assoc before (s ∷ []) ss)) f) in
     absurd (no_segment_before ok Fits closed (flat_map segment_bytes ss ++ (stuffed (b ∷ c) ++ x)) s p.0 fits (subst (λ u. EndsPieces h Fits u d y) (append-nil before) ends)
@@ -381,7 +391,8 @@ begun_in_stripe {h} {ss} {b} {c} ok x t y p q e =
     begun_cut ok (λ _ _ _. tt) [] ss t.segments b c x (e ∙ cut_at_marker t y) p.legal q.legal tt (marker_ends h Any t.segments t.code t.reset y)
 
 -- in one that isn't whole
-pub begun_in_fault : {h : Fields} {height n b : ℕ} {ss : List Segment} {c tail : List ℕ} {f : Fault} → IsAccepted h → (k : ℕ) → Suits h height k → (x : List ℕ) → IsBegun h ss (b ∷ c) → GiveOnly height n ss →
+pub begun_in_fault : {h : Fields} {height n b : ℕ} {ss : List Segment} {c tail : List ℕ} {f : Fault} → IsAccepted h → (k : ℕ) → Suits h height k → (x : List ℕ) → IsBegun h ss (b ∷ c) →
+    GiveOnly height n ss →
     (w : StripeFault h (spot_of height k n) tail f) → flat_map segment_bytes ss ++ (stuffed (b ∷ c) ++ x) ≡ tail → (ss ≡ w.segments) × (more : List ℕ) × (w.code ≡ (b ∷ c) ++ more)
 begun_in_fault {height} {n} {b} {ss} {c} ok k suits x p g w e =
     begun_cut ok (fits_closed ok height k n suits) [] ss w.segments b c x (e ∙ w.bytes_are) p.legal w.begun.legal
@@ -402,14 +413,19 @@ module _ {h : Fields} (ok : IsAccepted h) (height most : ℕ) (suits : (k : ℕ)
       absurd (no_stripe_in_fault ok height k n (suits k (omega arith)) s (flat_map stripe_bytes ss ++ x) p.0 (first_gives ok height most suits s ss g)
       (subst (λ u. StripeFault h u y w.0) (here ok height most suits k n) w.1) (sym (append_assoc (stripe_bytes s) (flat_map stripe_bytes ss) x) ∙ e))
   first_on k n (s ∷ ss) (t ∷ ts) x y p q g le w e =
-      let first = one_stripe ok s t (flat_map stripe_bytes ss ++ x) (flat_map stripe_bytes ts ++ y) p.0 q.0 (sym (append_assoc (stripe_bytes s) (flat_map stripe_bytes ss) x) ∙ e ∙ append_assoc (stripe_bytes t) (flat_map stripe_bytes ts) y) in
+      let first = one_stripe ok s t (flat_map stripe_bytes ss ++ x) (flat_map stripe_bytes ts ++ y) p.0 q.0
+      (sym (append_assoc (stripe_bytes s) (flat_map stripe_bytes ss) x) ∙ e ∙ append_assoc (stripe_bytes t) (flat_map stripe_bytes ts) y) in
       let rest = first_on (suc k) (n + length (lengths s.segments)) ss ts x y p.1 q.1 (rest_gives ok height most suits s ss g) (omega arith) (fewer first.0 w) first.1 in
       (rest.0, ap (λ z. z ∷ ts) (sym first.0) ∙ ap (λ z. s ∷ z) rest.1, rest.2)
     where
       fewer : s ≡ t → (length (s ∷ ss) ≤ length (t ∷ ts)) ⊎ ((f : Fault) × StripeFault h (spot_on height k n (t ∷ ts)) y f) →
           (length ss ≤ length ts) ⊎ ((f : Fault) × StripeFault h (spot_on height (suc k) (n + length (lengths s.segments)) ts) y f)
       fewer same (inl m) = inl (omega arith)
-      fewer same (inr u) = inr (u.0, subst (λ z. StripeFault h (spot_on height (suc k) (n + length (lengths z.segments)) ts) y u.0) (sym same) (subst (λ z. StripeFault h z y u.0) (onward ok height most suits k n t ts) u.1))
+      fewer same (inr u) = inr (
+        u.0,
+        subst (λ z. StripeFault h (spot_on height (suc k) (n + length (lengths z.segments)) ts) y u.0) (sym same)
+            (subst (λ z. StripeFault h z y u.0) (onward ok height most suits k n t ts) u.1),
+      )
 
   -- Whole stripes are the first of each other reading: of more stripes, or of some and one that isn't whole.
   pub first_parts : (ss ts : List Stripe) (x y : List ℕ) → AllByRecursion (IsStripe h) ss → AllByRecursion (IsStripe h) ts → GiveOnly height 0 (all_segments ss) → length ts ≤ most →

@@ -82,7 +82,8 @@ module _ (h : Fields) (spot : Spot) (moves : ℕ) where
         record {
           segment = Move (big_number 4 (x ∷ y ∷ z ∷ w ∷ o ∷ last ∷ xs)) o;
           more = xs;
-          tail_is = ap (λ v. 255 ∷ 6 ∷ (v ++ o ∷ last ∷ xs)) (sym (four_back x y z w (o ∷ last ∷ xs) a.0 a.1.0 a.1.1.0 a.1.1.1.0)) ∙ ap (λ v. 255 ∷ 6 ∷ (big_bytes 4 (big_number 4 (x ∷ y ∷ z ∷ w ∷ o ∷ last ∷ xs)) ++ o ∷ v ∷ xs)) zero_last;
+          tail_is = ap (λ v. 255 ∷ 6 ∷ (v ++ o ∷ last ∷ xs)) (sym (four_back x y z w (o ∷ last ∷ xs) a.0 a.1.0 a.1.1.0 a.1.1.1.0))
+              ∙ ap (λ v. 255 ∷ 6 ∷ (big_bytes 4 (big_number 4 (x ∷ y ∷ z ∷ w ∷ o ∷ last ∷ xs)) ++ o ∷ v ∷ xs)) zero_last;
           legal = (grind (arith, nat_tests), grind (arith, nat_tests));
           one_move = omega (arith, none);
           gives = gives_none spot.height spot.heights (Move (big_number 4 (x ∷ y ∷ z ∷ w ∷ o ∷ last ∷ xs)) o ∷ []) once refl;
@@ -102,7 +103,8 @@ module _ (h : Fields) (spot : Spot) (moves : ℕ) where
           tail_is =
               ap (λ v. 255 ∷ 7 ∷ (v ++ xs)) (sym (four_back x y z w xs a.0 a.1.0 a.1.1.0 a.1.1.1.0) ∙ ap (big_bytes 4) (sym many))
               ∙ ap (λ v. 255 ∷ 7 ∷ (big_bytes 4 (length (take (big_number 4 (x ∷ y ∷ z ∷ w ∷ xs)) xs)) ++ v)) (sym (take-append-drop (big_number 4 (x ∷ y ∷ z ∷ w ∷ xs)) xs))
-              ∙ ap (λ v. 255 ∷ 7 ∷ v) (sym (append_assoc (big_bytes 4 (length (take (big_number 4 (x ∷ y ∷ z ∷ w ∷ xs)) xs))) (take (big_number 4 (x ∷ y ∷ z ∷ w ∷ xs)) xs) (drop (big_number 4 (x ∷ y ∷ z ∷ w ∷ xs)) xs)));
+              ∙ ap (λ v. 255 ∷ 7 ∷ v) (sym (append_assoc (big_bytes 4 (length (take (big_number 4 (x ∷ y ∷ z ∷ w ∷ xs)) xs))) (take (big_number 4 (x ∷ y ∷ z ∷ w ∷ xs)) xs)
+              (drop (big_number 4 (x ∷ y ∷ z ∷ w ∷ xs)) xs)));
           legal = omega arith;
           one_move = omega arith;
           gives = gives_none spot.height spot.heights (Comment (take (big_number 4 (x ∷ y ∷ z ∷ w ∷ xs)) xs) ∷ []) once refl;

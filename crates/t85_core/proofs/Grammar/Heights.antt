@@ -63,7 +63,8 @@ module _ {h : Fields} (ok : IsAccepted h) (body : List ℕ) where
     rest = segment_bytes (NewLength n) ++ g.rest;
     bytes_are = refl;
     begun = g.begun;
-    gives = gives_none 0 (length (lengths (all_segments g.stripes))) g.segments (let a = ap length (none_left (all_segments g.stripes) g.segments g.first) in omega arith) (none_right (all_segments g.stripes) g.segments g.first);
+    gives = gives_none 0 (length (lengths (all_segments g.stripes))) g.segments (let a = ap length (none_left (all_segments g.stripes) g.segments g.first) in omega arith)
+        (none_right (all_segments g.stripes) g.segments g.first);
     rest_has = changed n (length g.stripes) g.rest g.variable g.valid (
         let a = ap length (none_left (all_segments g.stripes) g.segments g.first) in
         let b : length (lengths g.segments) ≡ 0 = rw (none_right (all_segments g.stripes) g.segments g.first) in

@@ -57,7 +57,8 @@ module _ (h : Fields) (height : ℕ) where
         look (fault_of segments code rest) refl (λ ss c r less b g a is. parse_stripe fuel ss c r less b g a is)
       where
         look : (o : Option Fault) → fault_of segments code rest ≡ o →
-            ((ss : List Segment) (c r : List ℕ) → length r ≤ fuel → IsBegun h ss c → GiveOnly height n ss → AreBytes r → tail ≡ flat_map segment_bytes ss ++ (stuffed c ++ r) → Parsed k n tail) → Parsed k n tail
+            ((ss : List Segment) (c r : List ℕ) → length r ≤ fuel → IsBegun h ss c → GiveOnly height n ss → AreBytes r → tail ≡ flat_map segment_bytes ss ++ (stuffed c ++ r) → Parsed k n tail) →
+            Parsed k n tail
         look (Some f) q further = broken f (record { segments = segments; code = code; rest = rest; bytes_are = e; begun = begun; gives = gives; rest_has = q })
         look None q further = take_piece (front_of h (spot_of height k (n + length (lengths segments))) (count_by is_move segments) (not (is_nil code)) rest all begun.one_move gives.one q) where
           take_piece : Front h (spot_of height k (n + length (lengths segments))) (count_by is_move segments) (not (is_nil code)) rest → Parsed k n tail
@@ -94,7 +95,8 @@ module _ (h : Fields) (height : ℕ) where
       went (broken f left) further =
           let a : k ≡ k + 0 = omega arith in
           let b : n ≡ n + 0 = omega arith in
-          some_there [] f tail (omega arith) tt (gives_none height n [] once refl) (subst (λ u. StripeFault h (spot_of height (k + 0) u) tail f) b (subst (λ u. StripeFault h (spot_of height u n) tail f) a left)) refl
+          some_there [] f tail (omega arith) tt (gives_none height n [] once refl)
+          (subst (λ u. StripeFault h (spot_of height (k + 0) u) tail f) b (subst (λ u. StripeFault h (spot_of height u n) tail f) a left)) refl
       went (whole s more begun gives is) further = next (further (n + length (lengths s.segments)) more gives.one (all_right (λ x. x < 256) (stripe_bytes s) more (subst AreBytes is all))) where
         joined : (ss : List Stripe) (z : List ℕ) → more ≡ flat_map stripe_bytes ss ++ z → tail ≡ flat_map stripe_bytes (s ∷ ss) ++ z
         joined ss z q = is ∙ ap (λ u. stripe_bytes s ++ u) q ∙ sym (append_assoc (stripe_bytes s) (flat_map stripe_bytes ss) z)
@@ -106,7 +108,8 @@ module _ (h : Fields) (height : ℕ) where
             let c = many_lengths s.segments (all_segments ss) in
             let b : (n + length (lengths s.segments)) + length (lengths (all_segments ss)) ≡ n + length (lengths (all_segments (s ∷ ss))) = omega arith in
             some_there (s ∷ ss) f t (omega arith) (begun, each) (gives_both height n (all_segments ss) gives gs)
-            (subst (λ u. StripeFault h (spot_of height (k + suc (length ss)) u) t f) b (subst (λ u. StripeFault h (spot_of height u ((n + length (lengths s.segments)) + length (lengths (all_segments ss)))) t f) a left)) (joined ss t q)
+            (subst (λ u. StripeFault h (spot_of height (k + suc (length ss)) u) t f) b
+            (subst (λ u. StripeFault h (spot_of height u ((n + length (lengths s.segments)) + length (lengths (all_segments ss)))) t f) a left)) (joined ss t q)
 
   -- so many whole stripes and a rest, or fewer and one that isn't whole
   pub data Cut (m : ℕ) (body : List ℕ) : Type 0 where

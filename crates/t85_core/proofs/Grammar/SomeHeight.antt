@@ -69,7 +69,8 @@ module _ {h : Fields} (ok : IsAccepted h) where
   look_fault k rest = rest_fault h (spot_of 0 k 0) 1 false rest
 
   look_at : (fuel k : ℕ) (rest : List ℕ) → length rest ≤ fuel → AreBytes rest → Look k rest
-  look_at zero k [] le all = ended [] [] tt tt (λ n more v e. let l = ap length e in omega arith) (λ text more s e. let l : 0 ≡ length (segment_bytes (Comment text) ++ more) = ap length e in omega arith) refl
+  look_at zero k [] le all = ended [] [] tt tt (λ n more v e. let l = ap length e in omega arith) (λ text more s e. let l : 0 ≡ length (segment_bytes (Comment text) ++ more) = ap length e in
+      omega arith) refl
   look_at zero k (b ∷ rest) le all = absurd (omega arith)
   look_at (suc fuel) k rest le all = went (height_at k rest all) (λ r less a. look_at fuel k r less a) where
     went : HeightAt k rest → ((r : List ℕ) → length r ≤ fuel → AreBytes r → Look k r) → Look k rest
@@ -124,19 +125,22 @@ module _ {h : Fields} (ok : IsAccepted h) where
   comments_make_none cs c = let e = no_moves cs c in omega arith
 
   -- where the look ended there is no height
-  no_look : (k n : ℕ) (cs ds : List Segment) (last more : List ℕ) → AllByRecursion (λ s. IsTrue (is_comment s)) cs → AllByRecursion (IsLegal h) cs → AllByRecursion (λ s. IsTrue (is_comment s)) ds → AllByRecursion (IsLegal h) ds →
+  no_look : (k n : ℕ) (cs ds : List Segment) (last more : List ℕ) → AllByRecursion (λ s. IsTrue (is_comment s)) cs → AllByRecursion (IsLegal h) cs →
+      AllByRecursion (λ s. IsTrue (is_comment s)) ds → AllByRecursion (IsLegal h) ds →
       is_valid_length h k n ≡ true →
       ((n : ℕ) (more : List ℕ) → is_valid_length h k n ≡ true → last ≡ segment_bytes (NewLength n) ++ more → ⊥) →
       ((text more : List ℕ) → length text < 2 ^ 32 → last ≡ segment_bytes (Comment text) ++ more → ⊥) →
       flat_map segment_bytes cs ++ last ≡ flat_map segment_bytes ds ++ (segment_bytes (NewLength n) ++ more) → ⊥
   no_look k n [] [] last more c l d m valid no_height no_comment e = no_height n more valid e
   no_look k n [] (Comment text ∷ ds) last more c l d m valid no_height no_comment e =
-      no_comment text (flat_map segment_bytes ds ++ (segment_bytes (NewLength n) ++ more)) m.0 (e ∙ append_assoc (segment_bytes (Comment text)) (flat_map segment_bytes ds) (segment_bytes (NewLength n) ++ more))
+      no_comment text (flat_map segment_bytes ds ++ (segment_bytes (NewLength n) ++ more)) m.0
+      (e ∙ append_assoc (segment_bytes (Comment text)) (flat_map segment_bytes ds) (segment_bytes (NewLength n) ++ more))
   no_look k n [] (s ∷ ds) last more c l d m valid no_height no_comment e = true≢false (sym d.0)
   no_look k n (Comment text ∷ cs) [] last more c l d m valid no_height no_comment e = let s = second e in omega (arith, s)
   no_look k n (Comment text ∷ cs) (Comment text' ∷ ds) last more c l d m valid no_height no_comment e =
       let first = one_segment ok (Comment text) (Comment text') (flat_map segment_bytes cs ++ last) (flat_map segment_bytes ds ++ (segment_bytes (NewLength n) ++ more)) l.0 m.0
-      (sym (append_assoc (segment_bytes (Comment text)) (flat_map segment_bytes cs) last) ∙ e ∙ append_assoc (segment_bytes (Comment text')) (flat_map segment_bytes ds) (segment_bytes (NewLength n) ++ more)) in
+      (sym (append_assoc (segment_bytes (Comment text)) (flat_map segment_bytes cs) last) ∙ e
+      ∙ append_assoc (segment_bytes (Comment text')) (flat_map segment_bytes ds) (segment_bytes (NewLength n) ++ more)) in
       no_look k n cs ds last more c.1 l.1 d.1 m.1 valid no_height no_comment first.1
   no_look k n (Comment text ∷ cs) (s ∷ ds) last more c l d m valid no_height no_comment e = true≢false (sym d.0)
   no_look k n (s ∷ cs) ds last more c l d m valid no_height no_comment e = true≢false (sym c.0)
@@ -147,7 +151,8 @@ module _ {h : Fields} (ok : IsAccepted h) where
   all_legal [] each = tt
   all_legal (s ∷ ss) each = All-append (IsLegal h) s.segments (all_segments ss) each.0.legal (all_legal ss each.1)
 
-  both_none : (ss : List Stripe) (ts : List Segment) → AreStripes h ss → AllByRecursion (IsLegal h) ts → GiveOnly 0 0 (all_segments ss) → AllByRecursion (λ n. n ≡ 0) (lengths ts) → lengths (all_segments ss ++ ts) ≡ []
+  both_none : (ss : List Stripe) (ts : List Segment) → AreStripes h ss → AllByRecursion (IsLegal h) ts → GiveOnly 0 0 (all_segments ss) → AllByRecursion (λ n. n ≡ 0) (lengths ts) →
+      lengths (all_segments ss ++ ts) ≡ []
   both_none ss ts each legal g k =
       let a = legal_give_none h (all_segments ss) (all_legal ss each) g.this in
       let b = legal_give_none h ts legal k in
@@ -189,7 +194,8 @@ module _ {h : Fields} (ok : IsAccepted h) where
         other cut.broken.fault
 
   module _ (body : List ℕ) (all : AreBytes body) (variable : is_variable h ≡ true) where
-    enough_there : (ss : List Stripe) (rest : List ℕ) → length ss ≡ stripe_count h.yd h.l0 → AreStripes h ss → GiveOnly 0 0 (all_segments ss) → body ≡ flat_map stripe_bytes ss ++ rest → (n : ℕ) × IsHeight h body n
+    enough_there : (ss : List Stripe) (rest : List ℕ) → length ss ≡ stripe_count h.yd h.l0 → AreStripes h ss → GiveOnly 0 0 (all_segments ss) → body ≡ flat_map stripe_bytes ss ++ rest →
+        (n : ℕ) × IsHeight h body n
     enough_there ss rest many each gives is = went (look_at (length rest) (length ss) rest (omega arith) (all_right (λ x. x < 256) (flat_map stripe_bytes ss) rest (rw (← is) all))) where
       went : Look (length ss) rest → (n : ℕ) × IsHeight h body n
       went (found cs n more c l v e) = (

@@ -50,7 +50,8 @@ accepted bytes h p =
     (skip _ (reserved (slice_index bytes 18) (slice_index bytes 19) p.zero p.order (omega arith))
     (skip _ (layers p.dl p.d)
     (skip _ (planes p.p)
-    (skip _ (sizes (long_at 4 bytes) (long_at 8 bytes) (long_at 12 bytes) (subst (λ n. 1 ≤ n) (sym p.xd) p.accepted.width_from) (subst (λ n. 1 ≤ n) (sym p.yd) p.accepted.height_from) (subst (λ n. 1 ≤ n) (sym p.l0) p.accepted.stripe_from))
+    (skip _ (sizes (long_at 4 bytes) (long_at 8 bytes) (long_at 12 bytes) (subst (λ n. 1 ≤ n) (sym p.xd) p.accepted.width_from) (subst (λ n. 1 ≤ n) (sym p.yd) p.accepted.height_from)
+    (subst (λ n. 1 ≤ n) (sym p.l0) p.accepted.stripe_from))
     (skip _ (not_above 1048576 (long_at 4 bytes) (subst (λ n. n ≤ 1048576) (sym p.xd) p.accepted.width_to))
     (skip _ (not_above 127 (slice_index bytes 16) (subst (λ n. n ≤ 127) (sym p.mx) p.accepted.offset_to))
     (skip _ (differs (slice_index bytes 19 % 8) 6 private) refl))))))) where

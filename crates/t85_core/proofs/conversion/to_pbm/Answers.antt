@@ -9,13 +9,16 @@ pub returns-then-not-is_variable-clause-outcome : goal.returns-then-not-is_varia
 returns-then-not-is_variable-clause-outcome g c =
     let taken = c.in_ok-header.ensures.accepted in
     goes_once c.coder_laws.ensures (fields_of c.in_ok-header.header) c.args.max_rows _ (g.R.Input.view c.read.new.input).remaining _ _ _ _ _ _ _ _ _ _ _ _ c.convert.result
-    (record { given = taken.0; long = taken.1; taken = taken.2; header_of = taken.3 }) (sym c.is_variable.ensures ∙ c.if-not-is_variable.true) (rw c.in_ok-header.ensures.counts at c.convert.ensures.outcome) refl
+    (record { given = taken.0; long = taken.1; taken = taken.2; header_of = taken.3 }) (sym c.is_variable.ensures ∙ c.if-not-is_variable.true)
+    (rw c.in_ok-header.ensures.counts at c.convert.ensures.outcome) refl
 
 pub returns-in-Some-clause-outcome : goal.returns-in-Some-clause-outcome
 returns-in-Some-clause-outcome g c =
     let taken = c.in_ok-header.ensures.accepted in
-    goes_twice c.coder_laws.ensures (λ reading. (g.Second.Input.view reading).remaining) (λ reading. (g.Second.Input.view reading).failures) (fields_of c.in_ok-header.header) c.args.max_rows _ (g.R.Input.view c.read.new.input).remaining _ _ _ _ _ _ _ _ _ _ c.convert_again.result
-    (record { given = taken.0; long = taken.1; taken = taken.2; header_of = taken.3 }) (sym c.is_variable.ensures ∙ c.if-not-is_variable.false) (rw c.in_ok-header.ensures.counts at c.convert_again.ensures.outcome) c.args.again.now c.in-Some.is
+    goes_twice c.coder_laws.ensures (λ reading. (g.Second.Input.view reading).remaining) (λ reading. (g.Second.Input.view reading).failures) (fields_of c.in_ok-header.header) c.args.max_rows _
+    (g.R.Input.view c.read.new.input).remaining _ _ _ _ _ _ _ _ _ _ c.convert_again.result
+    (record { given = taken.0; long = taken.1; taken = taken.2; header_of = taken.3 }) (sym c.is_variable.ensures ∙ c.if-not-is_variable.false)
+    (rw c.in_ok-header.ensures.counts at c.convert_again.ensures.outcome) c.args.again.now c.in-Some.is
 
 pub returns-in-None-clause-outcome : goal.returns-in-None-clause-outcome
 returns-in-None-clause-outcome g c =

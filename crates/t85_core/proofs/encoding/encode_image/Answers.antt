@@ -99,4 +99,5 @@ returns-clause-unwritten g c is =
     let s = settings_of c.args.options.now in
     let so = c.rows.invariant.come in
     let ended : c.rows.counter ≡ c.args.size.height = omega arith in
-    end_refused s c.args.size.height (g.R.Input.view c.args.source.now).remaining _ _ so.2 (so.1 ∙ ended) (err_of c.end.result is (c.end.ensures.cut c.rows.invariant.going) (image_of s c.args.size.width c.args.size.height) so.0 _ so.3)
+    end_refused s c.args.size.height (g.R.Input.view c.args.source.now).remaining _ _ so.2 (so.1 ∙ ended)
+    (err_of c.end.result is (c.end.ensures.cut c.rows.invariant.going) (image_of s c.args.size.width c.args.size.height) so.0 _ so.3)

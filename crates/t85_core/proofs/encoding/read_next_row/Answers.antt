@@ -11,4 +11,5 @@ returns-in-Ok-clause-ok g c =
     rw (put_current c.current_row-current.result.start c.current_row-current.result.end c.turn.new.self.rows.now c.read_row.new.row c.place.ensures.place c.width.ensures c.turn.new.self.long wide c.current_row-current.ensures.put) (row_taken c.turn.ensures.turned c.requires.width c.in-Ok.ensures.value c.in-Ok.ensures.taken)
 
 pub returns-in-Err-clause-short : goal.returns-in-Err-clause-short
-returns-in-Err-clause-short g c = (c.in-Err.fault, refl, record { given = c.in-Err.ensures.given; taken = c.in-Err.ensures.taken; has_fault = c.in-Err.ensures.fault; at_end = c.in-Err.ensures.at_end })
+returns-in-Err-clause-short g c =
+    (c.in-Err.fault, refl, record { given = c.in-Err.ensures.given; taken = c.in-Err.ensures.taken; has_fault = c.in-Err.ensures.fault; at_end = c.in-Err.ensures.at_end })

@@ -16,7 +16,8 @@ loop-place-preserved g c =
     let fits : place + count ≤ c.args.end = omega (arith, c.in-Ok.ensures.within, length-take (c.args.end - place) (drop place bytes), c.loop-place-test.true) in
     record {
       within = fits;
-      text = keeps_written _ _ _ _ (take count held) _ c.loop-place.invariant.text c.in-Ok.ensures.bytes (sym (take-append-drop count held) ∙ ap (λ z. take count held ++ z) (sym (held_after bytes place count c.args.end fits)));
+      text = keeps_written _ _ _ _ (take count held) _ c.loop-place.invariant.text c.in-Ok.ensures.bytes
+          (sym (take-append-drop count held) ∙ ap (λ z. take count held ++ z) (sym (held_after bytes place count c.args.end fits)));
       grows = (let more = grows_with _ _ _ c.in-Ok.ensures.bytes in let before = c.loop-place.invariant.grows in omega arith);
       no_flush = c.in-Ok.ensures.flushes ∙ c.loop-place.invariant.no_flush;
       same_target = c.in-Ok.ensures.target ∙ c.loop-place.invariant.same_target;

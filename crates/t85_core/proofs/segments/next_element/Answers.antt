@@ -66,4 +66,5 @@ returns-in_default-clause-err g c =
     let more : (escape ≢ 5) × (escape ≢ 6) × (escape ≢ 7) = (omega arith, omega arith, omega arith) in
     Ends-at (255 ∷ escape ∷ [])
     (escape_taken _ _ _ _ _ c.in_ok-first.ensures.ok c.if-first.false c.in_ok-escape.ensures.ok) refl (λ h. cc)
-    (λ n. unknown_escape (fields_of c.args.header.now) (record { height = n; entities = c.args.place.entities; heights = cond c.args.place.given 1 0 }) (cond c.args.moved 1 0) escape [] other.0 other.1 other.2 other.3 more.0 more.1 more.2)
+    (λ n. unknown_escape (fields_of c.args.header.now) (record { height = n; entities = c.args.place.entities; heights = cond c.args.place.given 1 0 })
+    (cond c.args.moved 1 0) escape [] other.0 other.1 other.2 other.3 more.0 more.1 more.2)

@@ -23,7 +23,8 @@ returns-in-Some g c =
     let is = ap (option_map (λ text. text.now)) c.in-Some.is in
     let header = c.bytes.ensures ∙ ap header_bytes c.header-header.ensures in
     record {
-      ok = on_ok c.write_comment.result (λ put more. head_commented (settings_of c.args.options.now) c.args.size.width c.args.size.height _ _ _ header is put more) (always c.write_comment.result c.in_ok-put.ensures.ok) c.write_comment.ensures.ok;
+      ok = on_ok c.write_comment.result (λ put more. head_commented (settings_of c.args.options.now) c.args.size.width c.args.size.height _ _ _ header is put more)
+          (always c.write_comment.result c.in_ok-put.ensures.ok) c.write_comment.ensures.ok;
       err = c.write_comment.ensures.err;
       cut = on_err c.write_comment.result (comment_cut (settings_of c.args.options.now) c.args.size.width c.args.size.height header is c.in_ok-put.ensures.ok) c.write_comment.ensures.cut;
       grows = le_trans c.put.ensures.grows c.write_comment.ensures.grows;
@@ -33,7 +34,8 @@ returns-in-Some g c =
 
 pub returns-in-None : goal.returns-in-None
 returns-in-None g c = record {
-  ok = head_plain (settings_of c.args.options.now) c.args.size.width c.args.size.height _ _ (c.bytes.ensures ∙ ap header_bytes c.header-header.ensures) (ap (option_map (λ text. text.now)) c.in-None.is) c.in_ok-put.ensures.ok;
+  ok = head_plain (settings_of c.args.options.now) c.args.size.width c.args.size.height _ _ (c.bytes.ensures ∙ ap header_bytes c.header-header.ensures)
+      (ap (option_map (λ text. text.now)) c.in-None.is) c.in_ok-put.ensures.ok;
   err = tt;
   cut = tt;
   grows = c.put.ensures.grows;

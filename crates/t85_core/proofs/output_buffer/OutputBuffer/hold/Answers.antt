@@ -32,7 +32,8 @@ pub loop-taken-preserved : goal.loop-taken-preserved
 loop-taken-preserved g c =
     let old = c.loop-taken.self in
     let new = c.if-self.self in
-    let kept : Keeps (append_known (g.W.Output.view old.output.now).contents (held_of old.bytes old.at old.end)) (append_known (g.W.Output.view new.output.now).contents (held_of new.bytes new.at new.end)) =
+    let kept : Keeps (append_known (g.W.Output.view old.output.now).contents (held_of old.bytes old.at old.end))
+    (append_known (g.W.Output.view new.output.now).contents (held_of new.bytes new.at new.end)) =
     elim c.if-self.branch [
       | then-self+in_ok-write_held w ↦ rw w.self-is w.write_held.ensures.text
       | else-self w ↦ rw w.self-is (Keeps-same _)

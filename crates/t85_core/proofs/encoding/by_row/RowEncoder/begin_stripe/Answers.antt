@@ -11,7 +11,8 @@ use Rattle.t85_core.proofs.encoding.by_row.RowEncoder.begin_stripe.Goals as goal
 pub returns-in_err-move_pixel-clause-cut : goal.returns-in_err-move_pixel-clause-cut
 returns-in_err-move_pixel-clause-cut g c =
     exit_all (λ r. OnErr r ((image : Image) (rows : List (List Bool)) (row : List Bool) (before : Held) (origin : Origin) →
-    Waits image rows (view_of c.args.self.now c.args.learning.now) before origin (g.P.ByteTarget.view c.args.target.now).text → StreamCut image (rows ++ row ∷ []) origin (g.P.ByteTarget.view c.move_pixel.new.target).text)) c.from_residual.result c.from_residual.ensures.1
+    Waits image rows (view_of c.args.self.now c.args.learning.now) before origin (g.P.ByteTarget.view c.args.target.now).text →
+    StreamCut image (rows ++ row ∷ []) origin (g.P.ByteTarget.view c.move_pixel.new.target).text)) c.from_residual.result c.from_residual.ensures.1
     (λ image rows row before origin w. move_cut _ w c.requires.left row c.in_err-move_pixel.ensures.cut)
 
 pub returns-clause-ok : goal.returns-clause-ok

@@ -18,7 +18,8 @@ use Rattle.t85_core.proofs.encoding.by_row.RowEncoder.code.Goals as goal
 pub returns-in_err-code_row-clause-cut : goal.returns-in_err-code_row-clause-cut
 returns-in_err-code_row-clause-cut g c =
     exit_all (λ r. OnErr r ((image : Image) (rows : List (List Bool)) (row : List Bool) (before : Held) (origin : Origin) → IsBelow row before (held c.args.window.now) →
-    Runs image rows (view_of c.args.self.now c.args.learning.now) before origin (g.P.ByteTarget.view c.args.target.now).text → StreamCut image (rows ++ row ∷ []) origin (g.P.ByteTarget.view c.code_row.new.target).text)) c.from_residual.result c.from_residual.ensures.1
+    Runs image rows (view_of c.args.self.now c.args.learning.now) before origin (g.P.ByteTarget.view c.args.target.now).text →
+    StreamCut image (rows ++ row ∷ []) origin (g.P.ByteTarget.view c.code_row.new.target).text)) c.from_residual.result c.from_residual.ensures.1
     (λ image rows row before origin below r. row_cut row (held c.args.window.now) _ below c.requires.lined.1 r c.writing_laws.ensures c.requires.ready.1.fewer
     (c.in_err-code_row.ensures.row (row_start_in image.settings image.width r.at r.part).state.place r.pushed (lines_with (row_start_in image.settings image.width r.at r.part) row) r.running.codes
     (lines_are row (held c.args.window.now) (g.P.ByteTarget.view c.args.target.now).text below c.requires.lined.1 r)).cut)

@@ -19,7 +19,8 @@ use Rattle.t85_core.proofs.encoding.by_row.RowEncoder.end_stripe.Goals as goal
 pub returns-in_err-end_entity-clause-cut : goal.returns-in_err-end_entity-clause-cut
 returns-in_err-end_entity-clause-cut g c =
     exit_all (λ r. OnErr r ((image : Image) (rows : List (List Bool)) (origin : Origin) →
-    Runs image rows (view_of c.args.self.now c.args.learning.now) (held c.args.window.now) origin (g.P.ByteTarget.view c.args.target.now).text → StripeBegun image c.args.self.now.in_stripe rows origin (g.P.ByteTarget.view c.end_entity.new.target).text)) c.from_residual.result c.from_residual.ensures.1
+    Runs image rows (view_of c.args.self.now c.args.learning.now) (held c.args.window.now) origin (g.P.ByteTarget.view c.args.target.now).text →
+    StripeBegun image c.args.self.now.in_stripe rows origin (g.P.ByteTarget.view c.end_entity.new.target).text)) c.from_residual.result c.from_residual.ensures.1
     (λ image rows origin r.
     let e = c.in_err-end_entity.ensures.ended (row_start_in image.settings image.width r.at r.part).state.place r.pushed (rw c.replace-encoder.ensures.value r.running.codes) in
     stripe_cut _ c.requires.some r c.writing_laws.ensures e.is e.all e.cut)

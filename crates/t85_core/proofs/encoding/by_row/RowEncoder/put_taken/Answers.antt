@@ -15,18 +15,22 @@ Cut v window old new r = OnErr r ((row : List Bool) (before : Held) → IsBelow 
 
 pub returns-in_err-begin_where_due-clause-cut : goal.returns-in_err-begin_where_due-clause-cut
 returns-in_err-begin_where_due-clause-cut g c _ =
-    exit_all (Cut (view_of c.args.self.now c.args.learning.now) (held c.args.window.now) (g.P.ByteTarget.view c.args.target.now).text (g.P.ByteTarget.view c.begin_where_due.new.target).text) c.from_residual.result c.from_residual.ensures.1
+    exit_all (Cut (view_of c.args.self.now c.args.learning.now) (held c.args.window.now) (g.P.ByteTarget.view c.args.target.now).text
+    (g.P.ByteTarget.view c.begin_where_due.new.target).text) c.from_residual.result c.from_residual.ensures.1
     (λ row before below image rows origin so. c.in_err-begin_where_due.ensures.cut row before image rows origin so)
 
 pub returns-in_err-code-clause-cut : goal.returns-in_err-code-clause-cut
 returns-in_err-code-clause-cut g c _ =
-    exit_all (Cut (view_of c.args.self.now c.args.learning.now) (held c.args.window.now) (g.P.ByteTarget.view c.args.target.now).text (g.P.ByteTarget.view c.code.new.target).text) c.from_residual-in_err-code.result c.from_residual-in_err-code.ensures.1
+    exit_all (Cut (view_of c.args.self.now c.args.learning.now) (held c.args.window.now) (g.P.ByteTarget.view c.args.target.now).text
+    (g.P.ByteTarget.view c.code.new.target).text) c.from_residual-in_err-code.result c.from_residual-in_err-code.ensures.1
     (λ row before below image rows origin so. c.in_err-code.ensures.cut image rows row before origin below (c.in_ok-begin_where_due.ensures.ok image rows before origin so))
 
 pub returns-in_err-end_where_due-clause-cut : goal.returns-in_err-end_where_due-clause-cut
 returns-in_err-end_where_due-clause-cut g c _ =
-    exit_all (Cut (view_of c.args.self.now c.args.learning.now) (held c.args.window.now) (g.P.ByteTarget.view c.args.target.now).text (g.P.ByteTarget.view c.end_where_due.new.target).text) c.from_residual-in_err-end_where_due.result c.from_residual-in_err-end_where_due.ensures.1
-    (λ row before below image rows origin so. c.in_err-end_where_due.ensures.cut image (rows ++ row ∷ []) origin (c.in_ok-code.ensures.ok image rows row before origin below (c.in_ok-begin_where_due.ensures.ok image rows before origin so)))
+    exit_all (Cut (view_of c.args.self.now c.args.learning.now) (held c.args.window.now) (g.P.ByteTarget.view c.args.target.now).text
+    (g.P.ByteTarget.view c.end_where_due.new.target).text) c.from_residual-in_err-end_where_due.result c.from_residual-in_err-end_where_due.ensures.1
+    (λ row before below image rows origin so. c.in_err-end_where_due.ensures.cut image (rows ++ row ∷ []) origin
+    (c.in_ok-code.ensures.ok image rows row before origin below (c.in_ok-begin_where_due.ensures.ok image rows before origin so)))
 
 pub returns-clause-ok : goal.returns-clause-ok
 returns-clause-ok g c row before below image rows origin so =

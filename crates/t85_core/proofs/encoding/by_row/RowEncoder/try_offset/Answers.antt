@@ -19,7 +19,8 @@ returns-clause-bytes c carry carried =
     (trial_begins e (held w) carry carried refl refl c.copy.ensures c.start.ensures.codes refl c.new.ensures.two_line c.new.ensures.most (c.new.ensures.counts e.shape.width 0)
     (λ lined. c.clear_padding.ensures.stays (rw same lined) ∙ same)) in
     ap (λ n. (n + c.other_bytes.result) % 2 ^ 64) (c.finish-tried.ensures.bytes t _ _ _ tried)
-    ∙ ap (λ n. (code % 2 ^ 64 + n) % 2 ^ 64) (c.other_bytes.ensures ∙ others_are c.args.offset e.kept.offset ∙ ap (λ o. length (flat_map segment_bytes (move_segments (named_move c.args.offset o))) + 2) carried.offset_is)
+    ∙ ap (λ n. (code % 2 ^ 64 + n) % 2 ^ 64) (c.other_bytes.ensures ∙ others_are c.args.offset e.kept.offset
+    ∙ ap (λ o. length (flat_map segment_bytes (move_segments (named_move c.args.offset o))) + 2) carried.offset_is)
     ∙ summed code _
 
 pub returns-clause-lag : goal.returns-clause-lag
