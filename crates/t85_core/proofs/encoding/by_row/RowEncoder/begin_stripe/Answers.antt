@@ -17,4 +17,5 @@ returns-in_err-move_pixel-clause-cut g c =
 
 pub returns-clause-ok : goal.returns-clause-ok
 returns-clause-ok g c image rows before origin w =
-    stripe_begun _ w c.requires.left c.move_pixel.new.kept c.restart.new.self c.is_followed-self.result c.in_ok-move_pixel.ensures.ok c.restart.ensures.counts c.restart.ensures.two_line c.restart.ensures.most c.is_followed-self.ensures
+    stripe_begun _ w c.requires.left c.move_pixel.new.kept c.restart.new.self c.is_followed-self.result c.in_ok-move_pixel.ensures.ok c.restart.ensures.counts c.restart.ensures.two_line
+    c.restart.ensures.most c.is_followed-self.ensures

@@ -27,7 +27,8 @@ returns-in_err-code_row-clause-cut g c =
 pub returns-clause-ok : goal.returns-clause-ok
 returns-clause-ok g c image rows row before origin below r =
     let is = c.counted-counted.ensures.is c.args.learning.now in
-    row_coded row (held c.args.window.now) _ below c.requires.lined.1 r c.requires.ready.0 c.requires.ready.1.fewer c.requires.ready.1.able.few_rows c.code_row.new.learned c.count_row.new.tally c.code_row.new.encoder refl refl
+    row_coded row (held c.args.window.now) _ below c.requires.lined.1 r c.requires.ready.0 c.requires.ready.1.fewer c.requires.ready.1.able.few_rows c.code_row.new.learned c.count_row.new.tally
+    c.code_row.new.encoder refl refl
     (c.in_ok-code_row.ensures.row (row_start_in image.settings image.width r.at r.part).state.place r.pushed (lines_with (row_start_in image.settings image.width r.at r.part) row) r.running.codes
     (lines_are row (held c.args.window.now) (g.P.ByteTarget.view c.args.target.now).text below c.requires.lined.1 r)).ok
     (λ lines l few has counted. rw (← is) (c.count_row.ensures.counts lines l few has (subst (λ o. IsCountedTo c.args.self.now.size.width o c.args.learning.now.tally lines) (sym is) counted)))
@@ -60,7 +61,8 @@ returns-in_err-code_row-clause-few g c =
     exit_all (CodesFew c.args.self.now _ (g.P.ByteTarget.view c.args.target.now).text (g.P.ByteTarget.view c.code_row.new.target).text) c.from_residual.result c.from_residual.ensures.1
     (record {
       ok = tt;
-      err = row_cut_few c.writing_laws.ensures c.args.self.now.encoder somewhere.0 c.args.learning.now.learned somewhere.1 somewhere.2 _ _ c.args.self.now.shape c.args.self.now.kept c.requires.lined.0.0 (c.requires.lined.0.1.row_wide ∙ c.requires.lined.1)
+      err = row_cut_few c.writing_laws.ensures c.args.self.now.encoder somewhere.0 c.args.learning.now.learned somewhere.1 somewhere.2 _ _ c.args.self.now.shape c.args.self.now.kept
+          c.requires.lined.0.0 (c.requires.lined.0.1.row_wide ∙ c.requires.lined.1)
           (c.in_err-code_row.ensures.row somewhere.0 somewhere.1 c.requires.lined.0.0 somewhere.2 c.requires.lined.0.1).cut;
     })
 
@@ -68,7 +70,8 @@ pub returns-clause-few : goal.returns-clause-few
 returns-clause-few g c =
     let somewhere = c.requires.ready.1.able.somewhere in
     record {
-      ok = row_put_few c.writing_laws.ensures c.args.self.now.encoder somewhere.0 c.args.learning.now.learned somewhere.1 somewhere.2 _ _ c.args.self.now.shape c.args.self.now.kept c.requires.lined.0.0 c.code_row.new.encoder c.code_row.new.learned (c.requires.lined.0.1.row_wide ∙ c.requires.lined.1)
+      ok = row_put_few c.writing_laws.ensures c.args.self.now.encoder somewhere.0 c.args.learning.now.learned somewhere.1 somewhere.2 _ _ c.args.self.now.shape c.args.self.now.kept
+          c.requires.lined.0.0 c.code_row.new.encoder c.code_row.new.learned (c.requires.lined.0.1.row_wide ∙ c.requires.lined.1)
           (c.in_ok-code_row.ensures.row somewhere.0 somewhere.1 c.requires.lined.0.0 somewhere.2 c.requires.lined.0.1).ok;
       err = tt;
     }
