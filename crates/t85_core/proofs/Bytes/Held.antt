@@ -69,12 +69,13 @@ pub held_long : (bytes : List ℕ) (at end : ℕ) → at ≤ end → end ≤ len
 held_long bytes at end ordered within = omega (arith, length-take (end - at) (drop at bytes), length-drop at bytes)
 
 -- the last bytes of those that are held stay, and those before them are taken
-pub kept_last : {left most : ℕ} (bytes : List ℕ) (at end : ℕ) (a : Option (List ℕ)) → at ≤ end → end ≤ length bytes → most ≡ min left (end - at) → (front back : List ℕ) →
+pub kept_last : {left most : ℕ} (bytes : List ℕ) (at end : ℕ) (a : Option (List ℕ)) → (at ≤ end) × (end ≤ length bytes) → most ≡ min left (end - at) → (front back : List ℕ) →
     held_of bytes at end ≡ front ++ back → length back ≡ left →
     (held_of bytes (at + ((end - at) - most)) end ≡ back) × Consumes (prepend_known (held_of bytes at end) a) (prepend_known (held_of bytes (at + ((end - at) - most)) end) a) front
-kept_last {most} bytes at end a ordered within most_is front back is long =
+kept_last {most} bytes at end a within most_is front back is long =
     let count : ℕ = (end - at) - most in
-    let all = held_long bytes at end ordered within in
+    let ordered = within.0 in
+    let all = held_long bytes at end ordered within.1 in
     let sum = ap length is ∙ length-append front back in
     let few : length front ≡ (end - at) - most = omega arith in
     let fits : at + ((end - at) - most) ≤ end = omega arith in

@@ -4,7 +4,7 @@ use Rattle.std.proofs.lemmas.Bool.Decides.{nat_tests}
 use Rattle.std.specs.Prelude.{IfSome, OnOk, IfErr, IsErrOf, unwrap_or}
 use Rattle.std.specs.Option.{option_map_or}
 use Rattle.std.specs.Io.KnownBytes.{Consumes, IsAtEnd, append_known}
-use Rattle.t85_core.specs.Change.{between}
+use Rattle.t85_core.specs.Change.{Change, between}
 use Rattle.pbm_core.specs.declared.fault.PbmFault.{PbmFault}
 use Rattle.pbm_core.specs.declared.fault.PbmFault.TheVariants as pbm
 use Rattle.pbm_core.specs.declared.form.Form.{Form}
@@ -14,7 +14,7 @@ use Rattle.t85_core.specs.declared.fault.Fault.{Fault}
 use Rattle.t85_core.specs.declared.fault.Fault.TheVariants.{AnnouncedLow, Pbm}
 use Rattle.t85_core.specs.declared.options.Options.{Options}
 use Rattle.pbm_core.specs.Image.{HoldsRows}
-use Rattle.t85_core.specs.Encode.{raster_of, IsEncodeFault, WritesCode, WritesCodeBegun, WritesCodeFront, Encode, layout_of}
+use Rattle.t85_core.specs.Encode.{raster_of, IsEncodeFault, WritesCode, WritesCodeBegun, WritesCodeFront, Encode, Layout, layout_of}
 use Rattle.t85_core.specs.Steps.EncodeStripes.{ImageCoded, ImageShort, ImageFront}
 use Rattle.t85_core.specs.Steps.Buffers.{known_length}
 use Rattle.t85_core.specs.Jbg.{Settings, AreSettings, jbg, jbg_up_to, IsAnnounced, is_low}
@@ -189,11 +189,9 @@ module _ (s : Settings) (form : Form) (width height' : ℕ) (in_old in_new out_o
   }
 
 -- the output before its loan, and at the loan's end
-pub encodes_at : {W : Type 0} {s : Settings} {before : Option (List ℕ)} {count : ℕ} {output output' : W} {r : Result (Unit {0}) Fault} (contents : W → Option (List ℕ)) (failures : W → ℕ) (form : Form)
-    (width height' : ℕ) (in_old in_new : Option (List ℕ)) (reads_old reads_new : ℕ) (start : W) → before ≡ contents start → count ≡ failures start → output ≡ output' →
-    Encode s (layout_of form width height') (between in_old in_new reads_old reads_new) (between before (contents output) count (failures output)) r →
-    Encode s (layout_of form width height') (between in_old in_new reads_old reads_new) (between (contents start) (contents output') (failures start) (failures output')) r
-encodes_at {s} {before} {output} {r} contents failures form width height' in_old in_new reads_old reads_new start text n same e =
+pub encodes_at : {W : Type 0} {s : Settings} {before : Option (List ℕ)} {count : ℕ} {output output' : W} {r : Result (Unit {0}) Fault} {layout : Layout} {input : Change} (contents : W → Option (List ℕ)) (failures : W → ℕ) (start : W) → before ≡ contents start → count ≡ failures start → output ≡ output' →
+    Encode s layout input (between before (contents output) count (failures output)) r → Encode s layout input (between (contents start) (contents output') (failures start) (failures output')) r
+encodes_at {s} {before} {output} {r} contents failures start text n same e =
     rw (← same, ← text, ← n) e
 
 -- an announced height that is too low is reported at once

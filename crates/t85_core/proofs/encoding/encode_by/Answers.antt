@@ -12,7 +12,7 @@ returns-clause-outcome g c =
     let output = c.encode_buffered.new.buffer.output.now in
     let text = text_unheld buffer.bytes buffer.at buffer.end (g.W.Output.view buffer.output.now).contents c.new-buffer.ensures.empty
     ∙ ap (λ m. (g.W.Output.view m.now).contents) c.new-buffer.ensures.lent in
-    encodes_at (λ d. (g.W.Output.view d).contents) (λ d. (g.W.Output.view d).failures) c.args.form c.args.size.width c.args.size.height _ _ _ _ c.args.output.now text
+    encodes_at (λ d. (g.W.Output.view d).contents) (λ d. (g.W.Output.view d).failures) c.args.output.now text
     (ap (λ m. (g.W.Output.view m.now).failures) c.new-buffer.ensures.lent) (search rules)
     (encoded s c.args.form c.args.size.width c.args.size.height _ _ _ _
     (held_of c.encode_buffered.new.buffer.bytes c.encode_buffered.new.buffer.at c.encode_buffered.new.buffer.end) c.code_denotes.ensures (are_settings c.args.options.now)
