@@ -54,25 +54,33 @@ pub copied : {copy : Held} {place place' width width' : ℕ} {bytes bytes' : Lis
 copied {place'} {width} {width'} {bytes} same at wide is = rw (is, at, ← wide, same)
 
 -- before the first row
+pub record IsUntried (e : RowEncoder) (learned : List Estimate) (t width : ℕ) (trial : Trial) : Type 0 where
+  pub offset_is : trial.kept.offset ≡ t
+  pub previous_is : trial.kept.previous_typical ≡ e.kept.previous_typical
+  pub taught : trial.learned ≡ learned
+  pub codes : EncoderIsAt trial.encoder start []
+  pub none : trial.sink.bytes ≡ 0
+  pub two_line : is_two_line trial.tally ≡ e.shape.two_line
+  pub most : most_of trial.tally ≡ e.most_offset
+  pub counts : CountsLines trial.tally width 0 []
+
 pub trial_begins : {learned : List Estimate} {t width : ℕ} {window' : Held} {trial : Trial} (e : RowEncoder) (window : Held) (carry : StripeStart) → IsCarriedTo e learned window carry →
-    trial.kept.offset ≡ t →
-    trial.kept.previous_typical ≡ e.kept.previous_typical → trial.learned ≡ learned → EncoderIsAt trial.encoder start [] → trial.sink.bytes ≡ 0 → is_two_line trial.tally ≡ e.shape.two_line →
-    most_of trial.tally ≡ e.most_offset → CountsLines trial.tally width 0 [] → (IsLined window → window' ≡ window) → IsTried (trial_from e carry t) [] width trial window'
-trial_begins {t} e window carry carried offset previous taught codes none two_line most counts stays = record {
+    IsUntried e learned t width trial → (IsLined window → window' ≡ window) → IsTried (trial_from e carry t) [] width trial window'
+trial_begins {t} e window carry carried u stays = record {
   pushed = [];
-  codes = codes;
-  bytes = none;
+  codes = u.codes;
+  bytes = u.none;
   is_held = record {
     at_top = at_top t carry.offset;
-    offset_is = offset ∙ moved_there carry.offset;
-    previous_is = previous ∙ carried.previous_is;
-    learned_is = taught ∙ carried.learned_is;
+    offset_is = u.offset_is ∙ moved_there carry.offset;
+    previous_is = u.previous_is ∙ carried.previous_is;
+    learned_is = u.taught ∙ carried.learned_is;
     third = carried.third;
     lines_are = rw (stays (_, carried.lines_are)) carried.lines_are;
   };
-  two_line = two_line;
-  most_is = most;
-  counts = λ _. counts;
+  two_line = u.two_line;
+  most_is = u.most;
+  counts = λ _. u.counts;
 }
 
 -- the bytes of its move and its end marker

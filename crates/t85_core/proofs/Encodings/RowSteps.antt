@@ -565,24 +565,35 @@ module _ {image : Image} {rows : List (List Bool)} {v : RowView} {origin : Origi
 
 -- ---- an image begins
 
-pub none_stand : {image : Image} {window : Held} {text text' : Option (List ℕ)} (v : RowView) → IsPlan image v.plan → v.rows ≡ 0 → v.in_stripe ≡ 0 → v.named ≡ None → image.settings.named ≡ [] →
-    EncoderIsAt v.encoder start [] → v.kept.offset ≡ 0 → v.kept.previous_typical ≡ false → v.learned ≡ fresh → HasLines window (white_lines image.width) →
-    is_two_line v.tally ≡ (mode_of image.settings.options).two_line → most_of v.tally ≡ image.settings.most_offset → ((width' current : ℕ) → CountsLines v.tally width' current []) →
-    Appends text text' (head_of image.settings image.width image.limit) → Stands image [] v window (here text) text'
-none_stand {image} v plan rows_is none nameless unnamed codes offset previous learned white two_line most counts put = inl (record {
+-- the fields before the first row
+pub record IsUnused (s : Settings) (v : RowView) : Type 0 where
+  pub rows_is : v.rows ≡ 0
+  pub in_stripe : v.in_stripe ≡ 0
+  pub nameless : v.named ≡ None
+  pub codes : EncoderIsAt v.encoder start []
+  pub offset_is : v.kept.offset ≡ 0
+  pub previous_is : v.kept.previous_typical ≡ false
+  pub learned_is : v.learned ≡ fresh
+  pub two_line : is_two_line v.tally ≡ (mode_of s.options).two_line
+  pub most : most_of v.tally ≡ s.most_offset
+  pub counts : (width current : ℕ) → CountsLines v.tally width current []
+
+pub none_stand : {image : Image} {v : RowView} {window : Held} {text text' : Option (List ℕ)} → IsPlan image v.plan → image.settings.named ≡ [] → IsUnused image.settings v →
+    HasLines window (white_lines image.width) → Appends text text' (head_of image.settings image.width image.limit) → Stands image [] v window (here text) text'
+none_stand {image} plan unnamed u white put = inl (record {
   plan_is = plan;
-  come = record { many = rows_is; few = omega arith; wide = tt };
+  come = record { many = u.rows_is; few = omega arith; wide = tt };
   i = 0;
   at = first_encoder_start image.width;
   front = head_of image.settings image.width image.limit;
   stripes = none_whole;
-  in_stripe = none;
-  codes = codes;
+  in_stripe = u.in_stripe;
+  codes = u.codes;
   names_to = (let none_are : length image.settings.named ≡ 0 = ap length unnamed in omega arith);
   on_course = λ _. record {
-    is_held = record { at_top = tt; offset_is = offset; previous_is = previous; learned_is = learned; third = white_row image.width; lines_are = white };
-    is_tallied = record { two_line = two_line; most = most; lines = []; counts = counts image.width 0; lines_are = λ _. refl };
-    named_is = nameless ∙ sym (ap (λ names. slice_index_or names 0 None) unnamed);
+    is_held = record { at_top = tt; offset_is = u.offset_is; previous_is = u.previous_is; learned_is = u.learned_is; third = white_row image.width; lines_are = white };
+    is_tallied = record { two_line = u.two_line; most = u.most; lines = []; counts = u.counts image.width 0; lines_are = λ _. refl };
+    named_is = u.nameless ∙ sym (ap (λ names. slice_index_or names 0 None) unnamed);
   };
   sent = sent_here put;
 })

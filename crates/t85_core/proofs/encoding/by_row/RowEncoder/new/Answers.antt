@@ -31,5 +31,15 @@ returns-clause-plan c =
 
 pub returns-clause-first : goal.returns-clause-first
 returns-clause-first c learning untaught window text text' white put =
-    none_stand _ (returns-clause-plan c)
-    refl refl refl refl c.start.ensures.codes refl refl untaught.learned_is white untaught.two_line untaught.most untaught.counts put
+    none_stand (returns-clause-plan c) refl (record {
+      rows_is = refl;
+      in_stripe = refl;
+      nameless = refl;
+      codes = c.start.ensures.codes;
+      offset_is = refl;
+      previous_is = refl;
+      learned_is = untaught.learned_is;
+      two_line = untaught.two_line;
+      most = untaught.most;
+      counts = untaught.counts;
+    }) white put

@@ -16,7 +16,16 @@ returns-clause-bytes c carry carried =
     let code = length (tried_code t (all_rows_in e.size.width c.args.rows.now)) in
     let same = copied c.copy_from_slice.ensures.after c.place.ensures.place c.requires.width c.resume-copy.ensures.held in
     let tried = c.code_rows.ensures.rows e.most_offset carry c.args.offset
-    (trial_begins e (held w) carry carried refl refl c.copy.ensures c.start.ensures.codes refl c.new.ensures.two_line c.new.ensures.most (c.new.ensures.counts e.shape.width 0)
+    (trial_begins e (held w) carry carried (record {
+      offset_is = refl;
+      previous_is = refl;
+      taught = c.copy.ensures;
+      codes = c.start.ensures.codes;
+      none = refl;
+      two_line = c.new.ensures.two_line;
+      most = c.new.ensures.most;
+      counts = c.new.ensures.counts e.shape.width 0;
+    })
     (λ lined. c.clear_padding.ensures.stays (rw same lined) ∙ same)) in
     ap (λ n. (n + c.other_bytes.result) % 2 ^ 64) (c.finish-tried.ensures.bytes t _ _ _ tried)
     ∙ ap (λ n. (code % 2 ^ 64 + n) % 2 ^ 64) (c.other_bytes.ensures ∙ others_are c.args.offset e.kept.offset
@@ -29,6 +38,15 @@ returns-clause-lag c carry carried counted =
     let w = c.args.window.now in
     let same = copied c.copy_from_slice.ensures.after c.place.ensures.place c.requires.width c.resume-copy.ensures.held in
     let tried = c.code_rows.ensures.rows e.most_offset carry c.args.offset
-    (trial_begins e (held w) carry carried refl refl c.copy.ensures c.start.ensures.codes refl c.new.ensures.two_line c.new.ensures.most (c.new.ensures.counts e.shape.width 0)
+    (trial_begins e (held w) carry carried (record {
+      offset_is = refl;
+      previous_is = refl;
+      taught = c.copy.ensures;
+      codes = c.start.ensures.codes;
+      none = refl;
+      two_line = c.new.ensures.two_line;
+      most = c.new.ensures.most;
+      counts = c.new.ensures.counts e.shape.width 0;
+    })
     (λ lined. c.clear_padding.ensures.stays (rw same lined) ∙ same)) in
     c.finish-tried.ensures.lag (trial_from e carry c.args.offset) _ _ _ tried (c.code_rows.ensures.is_counted ∙ counted)
