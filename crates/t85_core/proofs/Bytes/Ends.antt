@@ -1,5 +1,5 @@
 -- A walk that ends in the middle, seen from its beginning.
-use Rattle.std.proofs.Common.{◌≡◌, ◌≢◌, ℕ, List, [], ◌++◌, Option, Result, Ok, Err, sym, ap, ◌∙◌, append-nil, subst}
+use Rattle.std.proofs.Common.{◌≡◌, ◌≢◌, ℕ, List, [], ◌++◌, Option, Result, Ok, Err, append-nil}
 use Rattle.std.specs.Io.KnownBytes.{Consumes}
 use Rattle.std.specs.Result.{IfOk, OnOk, OnErr, IfErr, IsErrAnd, IsErrOf}
 use Rattle.t85_core.specs.declared.fault.Fault.{Fault}

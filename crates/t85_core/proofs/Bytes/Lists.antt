@@ -1,5 +1,5 @@
 -- Lists that grow by one.
-use Rattle.std.proofs.Common.{cond, ◌≡◌, ◌+◌, ℕ, Bool, List, [], ◌∷◌, ◌++◌, count_by, ap, ◌∙◌, append-nil, arith}
+use Rattle.std.proofs.Common.{cond, ◌≡◌, ◌+◌, ℕ, Bool, List, [], ◌∷◌, ◌++◌, count_by, append-nil, arith}
 use Rattle.std.specs.List.{AllByRecursion, flat_map}
 use Rattle.std.proofs.lemmas.List.Sums.{sum_by-append}
 use Rattle.std.proofs.lemmas.Grind.{flat_map-append}

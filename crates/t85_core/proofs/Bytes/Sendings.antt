@@ -1,5 +1,5 @@
 -- The bytes of a stream that were sent, over several calls.
-use Rattle.std.proofs.Common.{◌≤◌, ℕ, List, [], ◌++◌, Option, None, Some, subst, refl, sym, ap, ◌∙◌, append_assoc, append-nil}
+use Rattle.std.proofs.Common.{◌≤◌, ℕ, List, [], ◌++◌, Option, None, Some, refl, sym, ap, ◌∙◌, append_assoc, append-nil}
 use Rattle.std.specs.Io.KnownBytes.{Appends, Keeps, append_known}
 use Rattle.pbm_core.specs.Device.{AppendsBeginning}
 use Rattle.t85_core.specs.Steps.Buffers.{known_length}

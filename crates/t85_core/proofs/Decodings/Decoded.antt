@@ -11,7 +11,7 @@ use Rattle.raster_core.specs.Packed.{packed_row}
 use Rattle.t85_core.specs.declared.fault.Fault.{Fault}
 use Rattle.t85_core.specs.declared.fault.Fault.TheVariants.{Truncated, Read, Write}
 use Rattle.t85_core.specs.Header.{Fields}
-use Rattle.t85_core.specs.Grammar.{segment_bytes, stripe_bytes, stripe_count, is_move, is_nil}
+use Rattle.t85_core.specs.Grammar.{segment_bytes, stripe_bytes, is_move, is_nil}
 use Rattle.t85_core.specs.Refusal.{spot_behind, spot_after, rest_fault}
 use Rattle.t85_core.specs.Denotes.{DenotesAt}
 use Rattle.t85_core.specs.Fixed.{Fixes}

@@ -8,7 +8,6 @@ use Rattle.std.proofs.Math.Nat.{mul-le-mul_right}
 use Rattle.qm_core.specs.Code.{stuffed}
 use Rattle.qm_core.specs.Source.{bytes_of}
 use Rattle.qm_core.specs.declared.source.Pulled.{Pulled}
-use Rattle.t85_core.specs.declared.fault.Fault.TheVariants.{Changed}
 use Rattle.t85_core.specs.Lent.{PieceView, WalkView, Carried}
 use Rattle.t85_core.specs.declared.pieces.behind.Behind.{Behind}
 use Rattle.t85_core.specs.declared.pieces.walk.Stage.TheVariants as stage

@@ -1,6 +1,6 @@
 -- The offset that is found for a stripe is the best one.
-use Rattle.std.proofs.Common.{◌≡◌, ◌⊎◌, inl, inr, ℕ, ◌+◌, ◌-◌, ◌*◌, ◌/◌, ◌%◌, ◌^◌, ◌<◌, ◌≤◌, Bool, true, false, not, ◌&&◌, ◌||◌, List, [], ◌∷◌, ◌++◌, length, refl, sym, ◌∙◌, ap, subst, arith, length-append, Option, None, Some, IfSome, ◌==◌, option_map, option_to_list, Contains}
-use Rattle.std.specs.Prelude.{flat_map, if◌then◌else◌, min, nat_le, slice_index_or}
+use Rattle.std.proofs.Common.{◌≡◌, ◌⊎◌, inl, inr, ℕ, ◌+◌, ◌-◌, ◌*◌, ◌/◌, ◌%◌, ◌^◌, ◌<◌, ◌≤◌, Bool, true, false, not, ◌&&◌, ◌||◌, List, [], ◌∷◌, ◌++◌, length, refl, sym, ◌∙◌, ap, arith, length-append, Option, None, Some, IfSome, ◌==◌, option_map, option_to_list, Contains}
+use Rattle.std.specs.Prelude.{flat_map, if◌then◌else◌, min, nat_le}
 use Rattle.std.proofs.lemmas.Bool.Decides.{nat_tests}
 use Rattle.std.proofs.Math.Nat.{mul-le-mul_right}
 use Rattle.pbm_core.specs.Pbm.{bytes_of_row}
@@ -10,8 +10,8 @@ use Rattle.qm_core.specs.Laws.{EventsDouble, CodeIsShort}
 use Rattle.qm_core.specs.Place.{Estimate, start}
 use Rattle.raster_core.specs.Raster.{Raster, height}
 use Rattle.raster_core.specs.Lines.{Mode}
-use Rattle.raster_core.specs.Offset.{best_offset, candidates, chosen_offset}
-use Rattle.raster_core.specs.Packed.{Held, HasLines, rows_at}
+use Rattle.raster_core.specs.Offset.{best_offset, candidates}
+use Rattle.raster_core.specs.Packed.{Held, rows_at}
 use Rattle.raster_core.specs.Tally.{CountsLines, is_two_line, most_of}
 use Rattle.t85_core.specs.declared.encoding.by_row.RowEncoder.{RowEncoder}
 use Rattle.t85_core.specs.declared.encoding.by_row.best_offset.Choice.{Choice}
@@ -20,7 +20,7 @@ use Rattle.t85_core.specs.declared.encoding.learning.Learning.{Learning}
 use Rattle.t85_core.specs.BestOffset.{IsNoWorse, IsShortest, IsBestFor, counted_lag, plain_lines, stripe_length}
 use Rattle.t85_core.specs.Coding.{mode_of}
 use Rattle.t85_core.specs.Grammar.{marker_bytes, segment_bytes, stripe_bytes}
-use Rattle.t85_core.specs.Jbg.{Settings, named_for, moved_to, move_segments, coding_of}
+use Rattle.t85_core.specs.Jbg.{Settings, named_for, move_segments, coding_of}
 use Rattle.t85_core.specs.RowImage.{Image, MayCome, naming, with_name}
 use Rattle.t85_core.specs.Steps.ByRow.{IsLined, IsStart, Waits, view_of}
 use Rattle.t85_core.specs.Steps.Looked.{CourseAt, offset_to}

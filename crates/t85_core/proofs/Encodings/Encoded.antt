@@ -1,5 +1,5 @@
 -- From what encoding took and wrote to what is said of the whole body.
-use Rattle.std.proofs.Common.{◌≡◌, ◌≤◌, ◌<◌, ◌^◌, ◌==◌, true, ℕ, List, [], ◌++◌, length, Option, None, Some, Result, refl, sym, ap, ◌∙◌, append_assoc, append-nil, subst, arith, Bor, option_map, ◌≢◌, nat_lt, false, Ok, Err}
+use Rattle.std.proofs.Common.{◌≡◌, ◌≤◌, ◌<◌, ◌^◌, true, ℕ, List, [], ◌++◌, length, Option, None, Some, Result, refl, sym, ap, ◌∙◌, append_assoc, append-nil, subst, arith, Bor, option_map, ◌≢◌, nat_lt, false, Ok, Err}
 use Rattle.std.proofs.lemmas.Bool.Decides.{nat_tests}
 use Rattle.std.specs.Prelude.{IfSome, OnOk, IfErr, IsErrOf, unwrap_or}
 use Rattle.std.specs.Option.{option_map_or}
@@ -13,11 +13,10 @@ use Rattle.raster_core.specs.Raster.{IsRaster}
 use Rattle.t85_core.specs.declared.fault.Fault.{Fault}
 use Rattle.t85_core.specs.declared.fault.Fault.TheVariants.{AnnouncedLow, Pbm}
 use Rattle.t85_core.specs.declared.options.Options.{Options}
-use Rattle.pbm_core.specs.Image.{HoldsRows}
 use Rattle.t85_core.specs.Encode.{raster_of, IsEncodeFault, WritesCode, WritesCodeBegun, WritesCodeFront, Encode, Layout, layout_of}
 use Rattle.t85_core.specs.Steps.EncodeStripes.{ImageCoded, ImageShort, ImageFront}
 use Rattle.t85_core.specs.Steps.Buffers.{known_length}
-use Rattle.t85_core.specs.Jbg.{Settings, AreSettings, jbg, jbg_up_to, IsAnnounced, is_low}
+use Rattle.t85_core.specs.Jbg.{Settings, AreSettings, jbg, jbg_up_to, is_low}
 use Rattle.t85_core.specs.Options.{settings_of}
 use Rattle.t85_core.specs.Laws.{CodeDenotes}
 use Rattle.t85_core.specs.Failures.{CountsBoth, CountsWrite}

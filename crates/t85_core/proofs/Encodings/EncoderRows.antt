@@ -1,12 +1,12 @@
 -- The rows of a stripe as an encoder carries them are those that the raster's coding looks up.
-use Rattle.std.proofs.Common.{◌≡◌, ℕ, zero, suc, ◌+◌, ◌-◌, ◌*◌, ◌/◌, ◌<◌, ◌≤◌, nat_eq, Bool, false, List, [], ◌∷◌, length, map, refl, sym, ◌∙◌, ap, subst, arith, Option, None, Some}
+use Rattle.std.proofs.Common.{◌≡◌, ℕ, zero, suc, ◌+◌, ◌-◌, ◌*◌, ◌/◌, ◌<◌, ◌≤◌, nat_eq, Bool, false, List, [], ◌∷◌, length, map, refl, sym, ◌∙◌, ap, arith, Option, None, Some}
 use Rattle.std.specs.Prelude.{slice_index_or, if◌then◌else◌, unwrap_or, option_map, option_and_then, nat_lt}
 use Rattle.std.proofs.lemmas.Bool.Decides.{nat_tests}
 use Rattle.raster_core.specs.Raster.{Raster, height, white_row}
-use Rattle.raster_core.specs.Lines.{lines_at, numbers_from, may_be_typical}
+use Rattle.raster_core.specs.Lines.{numbers_from, may_be_typical}
 use Rattle.raster_core.specs.Offset.{chosen_offset, best_offset, candidates, agreement}
 use Rattle.t85_core.specs.Coding.{Coding, fresh_stripe, lines_of}
-use Rattle.t85_core.specs.Steps.State.{RowStart, offset_at, lines_with, after_row}
+use Rattle.t85_core.specs.Steps.State.{RowStart, offset_at, after_row}
 use Rattle.t85_core.specs.Jbg.{Settings, cut, coding_of}
 use Rattle.t85_core.specs.Steps.Written.{next_flag, after_rows, lines_down}
 use Rattle.t85_core.proofs.Bytes.Elements.{Continues, continues_first, continues_rest}

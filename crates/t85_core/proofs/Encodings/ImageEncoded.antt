@@ -4,7 +4,7 @@ use Rattle.std.specs.Prelude.{IfSome}
 use Rattle.std.specs.Io.KnownBytes.{Consumes}
 use Rattle.t85_core.specs.Change.{between}
 use Rattle.pbm_core.specs.Outcome.{HasHeader, HasFault, LeavesRest, WrittenIsRead}
-use Rattle.pbm_core.specs.Pbm.{letters_of, header_text}
+use Rattle.pbm_core.specs.Pbm.{letters_of}
 use Rattle.pbm_core.specs.Refusal.{HeaderFault}
 use Rattle.pbm_core.specs.Reading.{fault_of_given, CountsPbmRead as CountsPbm}
 use Rattle.pbm_core.specs.declared.fault.PbmFault.{PbmFault}

@@ -3,7 +3,6 @@ use Rattle.std.proofs.Common.{◌≡◌, inl, inr, ℕ, Bool, true, false, ap, L
 use Rattle.std.specs.Io.KnownBytes.{Consumes, Keeps}
 use Rattle.pbm_core.specs.Device.{one_more}
 use Rattle.t85_core.specs.Change.{between}
-use Rattle.pbm_core.specs.Outcome.{HasHeader}
 use Rattle.pbm_core.specs.declared.fault.PbmFault.{PbmFault}
 use Rattle.pbm_core.specs.declared.fault.PbmFault.TheVariants as pbm
 use Rattle.pbm_core.specs.declared.form.Form.{Form}
@@ -12,7 +11,6 @@ use Rattle.t85_core.specs.declared.fault.Fault.TheVariants.{Write, OutOfMemory}
 use Rattle.t85_core.specs.Encode.{raster_of, IsEncodeFault, WritesCode, WritesCodeBegun, WritesCodeFront, AreAllRows, Encode, layout_of}
 use Rattle.t85_core.specs.ToJbg.{IsImage, WritesStreamFront, WritesStream, WritesStreamBegun, RefusesPbm, ToJbg}
 use Rattle.t85_core.specs.Jbg.{Settings, is_low, jbg}
-use Rattle.t85_core.specs.Failures.{CountsBoth}
 use Rattle.t85_core.proofs.Encodings.ImageEncoded.{TakesHeader, among_faults, not_no_memory}
 use Rattle.t85_core.proofs.Bytes.Held.{Keeps-same}
 use Rattle.t85_core.proofs.Bytes.Streams.{Appends-keeps, Consumes-more, known_behind}

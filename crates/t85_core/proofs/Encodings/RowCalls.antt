@@ -1,5 +1,5 @@
 -- The calls of a row encoder, which hold nothing back.
-use Rattle.std.proofs.Common.{◌≡◌, ◌≤◌, ◌<◌, ◌*◌, inl, inr, ℕ, Bool, List, ◌++◌, sym, ap, ◌∙◌, subst, append_assoc, Option}
+use Rattle.std.proofs.Common.{◌≡◌, ◌≤◌, ◌<◌, ◌*◌, inl, inr, ℕ, Bool, List, ◌++◌, ap, ◌∙◌, append_assoc, Option}
 use Rattle.std.specs.Io.KnownBytes.{Keeps, append_known}
 use Rattle.raster_core.specs.Packed.{Held}
 use Rattle.t85_core.specs.Steps.Buffers.{known_length}

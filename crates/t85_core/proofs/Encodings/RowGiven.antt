@@ -1,5 +1,5 @@
 -- A row that is given in bytes.
-use Rattle.std.proofs.Common.{◌≡◌, ◌≤◌, ◌+◌, ◌-◌, ◌*◌, ◌<◌, ◌%◌, ◌^◌, ◌/◌, ℕ, zero, suc, List, ◌∷◌, length, map, refl, sym, ap, ◌∙◌, subst, arith, slice_index, slice_set, get_or-set_same, length-set}
+use Rattle.std.proofs.Common.{◌≡◌, ◌≤◌, ◌+◌, ◌-◌, ◌*◌, ◌<◌, ◌%◌, ◌^◌, ◌/◌, ℕ, zero, suc, List, length, map, refl, sym, ap, ◌∙◌, subst, arith, slice_index, slice_set, get_or-set_same, length-set}
 use Rattle.std.specs.Prelude.{◌==◌}
 use Rattle.std.proofs.Math.Nat.{mul-mod_right}
 use Rattle.std.proofs.lemmas.Nat.{pow_pos, one_shl}

@@ -1,10 +1,10 @@
 -- The bytes of a row, and of the end of a code, that a target accepted.
-use Rattle.std.proofs.Common.{◌≡◌, ℕ, List, ◌++◌, refl, sym, ap, ◌∙◌, subst, Option, Result, Ok, Err, arith, append_assoc}
+use Rattle.std.proofs.Common.{◌≡◌, ℕ, List, refl, ◌∙◌, Option, Result, Ok, Err, arith, append_assoc}
 use Rattle.std.specs.Prelude.{IfErr, OnErr, OnOk}
 use Rattle.std.specs.Io.KnownBytes.{Appends}
 use Rattle.qm_core.specs.Counts.{one_more}
-use Rattle.qm_core.specs.Place.{Place, State, Estimate, after}
-use Rattle.qm_core.specs.Encoder.{IsStuffedFront, Finish, encoder_state}
+use Rattle.qm_core.specs.Place.{Place, State, Estimate}
+use Rattle.qm_core.specs.Encoder.{Finish, encoder_state}
 use Rattle.qm_core.specs.Sink.{Took, Refused, sink_at}
 use Rattle.qm_core.specs.declared.encoder.Encoder.{Encoder}
 use Rattle.qm_core.specs.declared.sink.CodeSink.{Ghosts}

@@ -1,5 +1,5 @@
 -- No row more came: what was pushed is a beginning of the code of each stripe that begins with the rows before.
-use Rattle.std.proofs.Common.{◌≡◌, ℕ, ◌+◌, Bool, List, [], ◌∷◌, ◌++◌, length, refl, sym, ◌∙◌, ap, subst, Option, append_assoc}
+use Rattle.std.proofs.Common.{◌≡◌, ℕ, ◌+◌, Bool, List, [], ◌∷◌, ◌++◌, length, refl, sym, ◌∙◌, ap, Option, append_assoc}
 use Rattle.qm_core.specs.Place.{Event, State, IsPlace, after, step}
 use Rattle.qm_core.specs.Code.{code_of, stuffed}
 use Rattle.qm_core.specs.Encoder.{EncoderIsAt, IsStuffedFront}

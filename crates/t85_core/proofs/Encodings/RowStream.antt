@@ -1,6 +1,6 @@
 -- The output for each raster that is still possible.
-use Rattle.std.proofs.Common.{◌≡◌, ℕ, zero, suc, ◌+◌, ◌-◌, ◌*◌, ◌<◌, ◌≤◌, ◌⊎◌, inl, inr, nat_lt, true, false, Bool, List, [], ◌++◌, length, take, map, refl, sym, ◌∙◌, ap, subst, arith, Option, None, Some, append_assoc, append-nil, length-append, option_to_list}
-use Rattle.std.specs.Prelude.{min, unwrap_or, flat_map, slice_index_or, option_map}
+use Rattle.std.proofs.Common.{◌≡◌, ℕ, zero, suc, ◌+◌, ◌-◌, ◌*◌, ◌<◌, ◌≤◌, ◌⊎◌, inl, inr, nat_lt, true, false, Bool, List, [], ◌++◌, length, refl, sym, ◌∙◌, ap, subst, arith, Option, None, Some, append_assoc, append-nil, length-append}
+use Rattle.std.specs.Prelude.{min, unwrap_or, option_map}
 use Rattle.std.proofs.lemmas.Grind.{div_ceil_times}
 use Rattle.std.proofs.lemmas.Bool.Decides.{nat_tests}
 use Rattle.std.proofs.lemmas.List.{take-take}
@@ -10,12 +10,10 @@ use Rattle.raster_core.specs.Offset.{chosen_offset}
 use Rattle.t85_core.specs.Coding.{mode_of}
 use Rattle.t85_core.specs.Steps.State.{first_row_start, next_stripe_start}
 use Rattle.raster_core.specs.Raster.{Raster, height, white_row}
-use Rattle.t85_core.specs.Header.{header_bytes}
-use Rattle.t85_core.specs.Grammar.{Comment, Stripe, segment_bytes, stripe_bytes, stripe_count}
-use Rattle.t85_core.specs.Jbg.{Settings, moved_to, move_segments, coding_of, coded_stripe, head_of, stripes_up_to, jbg_up_to, jbg, ending, written_options}
+use Rattle.t85_core.specs.Grammar.{Stripe, stripe_bytes, stripe_count}
+use Rattle.t85_core.specs.Jbg.{Settings, moved_to, move_segments, coding_of, coded_stripe, head_of, stripes_up_to, jbg_up_to, jbg, ending}
 use Rattle.t85_core.specs.Encode.{IsBeginning}
 use Rattle.t85_core.specs.Steps.Written.{EncoderStart, after_rows, lines_down, first_encoder_start, next_stripe, next_encoder_start}
-use Rattle.t85_core.specs.Steps.Looked.{CourseAt}
 use Rattle.t85_core.specs.Steps.RowStream.{FrontStands, StripesWhole}
 use Rattle.t85_core.specs.RowImage.{MayCome, Image, SameNames, naming}
 use Rattle.t85_core.proofs.Encodings.EncoderStarts.{CourseGoes, course_begins, course_step, stripes_more}

@@ -1,6 +1,6 @@
 -- The rows of a stripe, where the first rows of the image are known.
 use Rattle.std.proofs.Common.{◌≡◌, ℕ, ◌+◌, ◌-◌, ◌≤◌, List, ◌++◌, length, take, drop, sym, ◌∙◌, ap, arith, append_assoc, length-append}
-use Rattle.std.specs.Prelude.{slice_index_or, min}
+use Rattle.std.specs.Prelude.{min}
 use Rattle.std.proofs.lemmas.List.{length-take, length-drop}
 use Rattle.t85_core.proofs.Bytes.Elements.{Continues, get_left, get_right, split_at}
 

@@ -1,19 +1,18 @@
 -- A stripe is encoded without output, and its bytes are counted.
-use Rattle.std.proofs.Common.{◌≡◌, ℕ, suc, ◌+◌, ◌-◌, ◌*◌, ◌%◌, ◌^◌, ◌<◌, Bool, true, false, not, cond, List, [], ◌∷◌, ◌++◌, length, map, refl, sym, ◌∙◌, ap, subst, arith, append-nil, length-append, Option, Result, Ok, Err}
+use Rattle.std.proofs.Common.{◌≡◌, ℕ, suc, ◌+◌, ◌-◌, ◌*◌, ◌%◌, ◌^◌, ◌<◌, Bool, true, false, not, cond, List, [], ◌∷◌, ◌++◌, length, map, refl, sym, ◌∙◌, ap, arith, append-nil, length-append, Option, Result, Ok, Err}
 use Rattle.std.specs.Prelude.{OnOk, OnErr, slice_range}
 use Rattle.std.proofs.lemmas.List.{length-map, map-append}
 use Rattle.std.proofs.lemmas.List.Elements.{filter-append}
 use Rattle.std.proofs.lemmas.List.Sums.{count_by-le-length, length-filter}
 use Rattle.pbm_core.specs.Image.{pixels_of}
 use Rattle.pbm_core.specs.Pbm.{bytes_of_row}
-use Rattle.qm_core.specs.Code.{stuffed}
 use Rattle.qm_core.specs.Counts.{one_more}
-use Rattle.qm_core.specs.Encoder.{EncoderIsAt, Finish, encoder_state}
+use Rattle.qm_core.specs.Encoder.{Finish, encoder_state}
 use Rattle.qm_core.specs.Place.{after}
 use Rattle.qm_core.specs.Sink.{Took, sink_at}
 use Rattle.qm_core.specs.declared.encoder.CoderFault.{CoderFault}
 use Rattle.qm_core.specs.declared.sink.CodeSink.{Ghosts}
-use Rattle.raster_core.specs.Lines.{Lines, Mode, may_be_typical, numbers_from, row_events}
+use Rattle.raster_core.specs.Lines.{Lines, Mode, may_be_typical, numbers_from}
 use Rattle.raster_core.specs.Packed.{Held, HasLines}
 use Rattle.raster_core.specs.Row.{RowCoded, canonical_events, row_task}
 use Rattle.raster_core.specs.Tally.{CountsLines, is_two_line, most_of}
@@ -21,10 +20,9 @@ use Rattle.raster_core.specs.Window.{shape_mode}
 use Rattle.raster_core.specs.declared.shape.Shape.{Shape}
 use Rattle.t85_core.specs.declared.encoding.by_row.trial.ByteCount.{ByteCount}
 use Rattle.t85_core.specs.declared.encoding.by_row.trial.Trial.{Trial}
-use Rattle.t85_core.specs.BestOffset.{plain_lines}
-use Rattle.t85_core.specs.Steps.ByRow.{IsBelow, IsHeldBy}
+use Rattle.t85_core.specs.Steps.ByRow.{IsBelow}
 use Rattle.t85_core.specs.Steps.CoderLaws.{WritingLaws}
-use Rattle.t85_core.specs.Steps.State.{RowStart, StripeStart, first_row_start, offset_at, lines_with, after_row}
+use Rattle.t85_core.specs.Steps.State.{RowStart, StripeStart, first_row_start, lines_with, after_row}
 use Rattle.t85_core.specs.Steps.Trial.{TrialOf, IsTried, trial_of, tried_to, tried_code, plain_down, named_move, packed_rows}
 use Rattle.t85_core.specs.Steps.Written.{next_flag, after_rows, lines_down}
 use Rattle.t85_core.proofs.Encodings.RowShort.{rows_place}

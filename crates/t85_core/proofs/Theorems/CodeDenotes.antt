@@ -18,7 +18,6 @@ use Rattle.t85_core.specs.Header.{Fields, HeaderOf, IsAccepted, header_bytes}
 use Rattle.t85_core.specs.Grammar.{Segment, NewLength, Stripe, IsBegun, AreStripes, GiveOnly, segment_bytes, marker_bytes, lengths, all_segments, stripe_bytes, stripe_count}
 use Rattle.t85_core.specs.Coding.{Coding, HasLegalFlags, has_bit, mode_of, move_of, rows_of, lines_of, learned_at, begun, events_of, place_of}
 use Rattle.t85_core.specs.Denotes.{Denotes, EachLies, coding_in}
-use Rattle.t85_core.specs.declared.fault.Fault.TheVariants.{Changed}
 use Rattle.t85_core.specs.Height.{GivesHeight, IsHeight}
 use Rattle.t85_core.specs.Jbg.{Settings, AreSettings, IsAnnounced, written_options, header_of, ending, cut, coding_of, canonical_flags, named_for, first_choice, choice_after, current_offset, move_before, move_segments, coded_stripe, stripes_of, jbg}
 use Rattle.t85_core.specs.Steps.CoderLaws.{WritingLaws}

@@ -10,7 +10,7 @@ use Rattle.t85_core.specs.Header.{Fields}
 use Rattle.t85_core.specs.Grammar.{Segment, segment_bytes, is_move, is_nil, lengths, all_segments, Stripe, stripe_bytes, marker_bytes, stripe_count, IsLegal, IsBegun, AreStripes, GiveOnly, Parts}
 use Rattle.t85_core.specs.Refusal.{rest_fault, StripesFault}
 use Rattle.t85_core.specs.Steps.HeightWalk.{moved_behind, IsAlone, SkipFault, SkipsStripes, SkipsFault, Sought, search_place, search_end, segment_counts}
-use Rattle.t85_core.specs.Failures.{Ends, counted_as}
+use Rattle.t85_core.specs.Failures.{Ends}
 use Rattle.t85_core.specs.Info.{IsWalkFault}
 use Rattle.t85_core.specs.Steps.Buffers.{reading}
 use Rattle.t85_core.proofs.Grammar.Faults.{rest_faults, uncounted}

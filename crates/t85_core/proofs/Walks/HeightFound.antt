@@ -3,7 +3,7 @@ use Rattle.std.proofs.Common.{cond, ◌≡◌, ◌≢◌, inl, inr, ◌<◌, ◌
 use Rattle.std.specs.Prelude.{flat_map}
 use Rattle.std.specs.Io.KnownBytes.{Consumes, IsAtEnd}
 use Rattle.t85_core.specs.declared.fault.Fault.{Fault}
-use Rattle.t85_core.specs.declared.fault.Fault.TheVariants.{Truncated, Changed, Read}
+use Rattle.t85_core.specs.declared.fault.Fault.TheVariants.{Truncated, Read}
 use Rattle.t85_core.specs.declared.header.Header.{Header}
 use Rattle.t85_core.specs.Options.{fields_of}
 use Rattle.t85_core.specs.Header.{Fields, IsAccepted, is_variable}

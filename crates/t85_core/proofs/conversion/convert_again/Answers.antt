@@ -1,6 +1,5 @@
-use Rattle.std.proofs.Common.{inl, inr, refl, subst}
+use Rattle.std.proofs.Common.{inl, inr, refl}
 use Rattle.t85_core.specs.Options.{fields_of}
-use Rattle.t85_core.specs.ToPbm.{TakesHeader}
 use Rattle.t85_core.proofs.Bytes.Held.{Keeps-same}
 use Rattle.t85_core.proofs.Decodings.Converted.{same_fields, other_fields}
 use Rattle.t85_core.proofs.conversion.convert_again.Goals as goal

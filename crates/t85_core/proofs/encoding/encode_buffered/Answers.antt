@@ -1,6 +1,5 @@
-use Rattle.std.proofs.Common.{◌≡◌, ◌∙◌, sym, subst, ap, arith}
+use Rattle.std.proofs.Common.{◌≡◌, ◌∙◌, sym, ap, arith}
 use Rattle.t85_core.specs.Failures.{writes_after}
-use Rattle.t85_core.specs.Encode.{IsEncodeFault}
 use Rattle.t85_core.specs.declared.fault.Fault.TheVariants.{Write, Pbm}
 use Rattle.t85_core.proofs.Bytes.Ends.{on_ok, always}
 use Rattle.t85_core.proofs.Decodings.BufferDecoded.{all_handed, counts_any, counts_written, no_failed_write}

@@ -1,6 +1,6 @@
-use Rattle.std.proofs.Common.{rules, ◌≤◌, ◌∙◌, sym, ap, subst}
+use Rattle.std.proofs.Common.{rules, ◌∙◌, sym, ap}
 use Rattle.t85_core.specs.Options.{settings_of}
-use Rattle.t85_core.specs.Steps.Buffers.{held_of, known_length}
+use Rattle.t85_core.specs.Steps.Buffers.{held_of}
 use Rattle.t85_core.proofs.Decodings.BufferDecoded.{text_unheld}
 use Rattle.t85_core.proofs.Encodings.Encoded.{are_settings, encoded, encodes_at, told_low}
 use Rattle.t85_core.proofs.encoding.encode_by.Goals as goal

@@ -5,7 +5,6 @@ use Rattle.raster_core.specs.Window.{held}
 use Rattle.t85_core.specs.declared.fault.Fault.{Fault}
 use Rattle.t85_core.specs.declared.fault.Fault.TheVariants.{Pbm}
 use Rattle.t85_core.specs.Options.{settings_of}
-use Rattle.t85_core.specs.Steps.EncodeRows.{EndsInRow}
 use Rattle.t85_core.specs.Steps.ByRow.{view_of}
 use Rattle.t85_core.specs.RowImage.{image_of}
 use Rattle.t85_core.proofs.Bytes.Ends.{map_ok, exit_of, err_of}

@@ -1,7 +1,5 @@
-use Rattle.std.proofs.Common.{◌≡◌, length, refl, subst, sym, rules}
+use Rattle.std.proofs.Common.{◌≡◌, length, refl, rules}
 use Rattle.std.specs.Int.{div_ceil}
-use Rattle.raster_core.specs.Window.{held}
-use Rattle.t85_core.specs.Steps.EncodeRows.{RowTaken}
 use Rattle.t85_core.proofs.Encodings.RowsTaken.{row_taken, put_current}
 use Rattle.t85_core.proofs.encoding.read_next_row.Goals as goal
 

@@ -1,5 +1,4 @@
 use Rattle.std.proofs.Common.{◌≢◌, [], ◌∷◌, refl, arith}
-use Rattle.t85_core.specs.declared.fault.Fault.TheVariants.{Aborted, BadEscape}
 use Rattle.t85_core.proofs.Bytes.Ends.{Ends-at}
 use Rattle.t85_core.proofs.Walks.Pieces.{escape_taken, escape_in_code}
 use Rattle.t85_core.proofs.segments.any_code.Goals as goal

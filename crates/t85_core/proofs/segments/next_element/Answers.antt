@@ -1,6 +1,5 @@
 use Rattle.std.proofs.Common.{◌≢◌, [], ◌∷◌, refl, cond, arith}
 use Rattle.t85_core.specs.Options.{fields_of}
-use Rattle.t85_core.specs.declared.fault.Fault.TheVariants.{Aborted, BadEscape, SecondMove}
 use Rattle.t85_core.proofs.Bytes.Streams.{Consumes-more}
 use Rattle.t85_core.proofs.Bytes.Ends.{exit, Ends-at, Ends-after}
 use Rattle.t85_core.proofs.Walks.Pieces.{escape_taken, unknown_escape}

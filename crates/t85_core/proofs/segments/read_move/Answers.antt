@@ -1,7 +1,6 @@
 use Rattle.std.proofs.Common.{[], ◌∷◌, ◌++◌, arith, refl, inl, inr}
 use Rattle.byteorder.specs.Endian.{big_bytes}
 use Rattle.t85_core.specs.Options.{fields_of}
-use Rattle.t85_core.specs.declared.fault.Fault.TheVariants.{MoveRefused}
 use Rattle.t85_core.proofs.Bytes.Streams.{Consumes-more}
 use Rattle.t85_core.proofs.Bytes.Ends.{Ends-after, Ends-at, exit}
 use Rattle.t85_core.proofs.Walks.Segments.{move_refused}

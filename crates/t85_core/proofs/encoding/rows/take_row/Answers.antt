@@ -1,8 +1,6 @@
-use Rattle.std.proofs.Common.{◌≡◌, length, subst, sym, rules}
+use Rattle.std.proofs.Common.{◌≡◌, length, rules}
 use Rattle.std.specs.Int.{div_ceil}
-use Rattle.pbm_core.specs.Image.{pixels_of}
 use Rattle.raster_core.specs.Window.{held}
-use Rattle.t85_core.specs.Steps.ByRow.{IsBelow}
 use Rattle.t85_core.proofs.Encodings.RowGiven.{row_below}
 use Rattle.t85_core.proofs.Encodings.RowsTaken.{put_current}
 use Rattle.t85_core.proofs.encoding.rows.take_row.Goals as goal

@@ -1,5 +1,4 @@
 use Rattle.std.proofs.Common.{arith}
-use Rattle.t85_core.specs.Grammar.{Move, segment_bytes}
 use Rattle.t85_core.proofs.Encodings.FewAppended.{beginning_few}
 use Rattle.t85_core.proofs.encoding.steps.move_pixel.Goals as goal
 

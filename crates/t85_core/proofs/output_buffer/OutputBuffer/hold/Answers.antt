@@ -1,9 +1,8 @@
-use Rattle.std.proofs.Common.{◌≡◌, ◌≤◌, ◌-◌, length, take, drop, sym, ap, refl, le_trans, ◌∙◌, take-append-drop, length-drop, length-take, arith}
+use Rattle.std.proofs.Common.{◌≡◌, ◌≤◌, ◌-◌, length, take, drop, sym, refl, le_trans, ◌∙◌, take-append-drop, length-drop, length-take, arith}
 use Rattle.std.proofs.lemmas.List.{take_rest}
 use Rattle.std.proofs.Math.Seq.{take-add}
 use Rattle.std.specs.Io.KnownBytes.{Keeps, append_known}
 use Rattle.t85_core.specs.Steps.Buffers.{PutsBytes, held_of, known_length}
-use Rattle.t85_core.specs.Failures.{writes_after}
 use Rattle.t85_core.specs.Steps.Views.{writer_of}
 use Rattle.t85_core.proofs.Bytes.Streams.{Appends-more, Appends-keeps}
 use Rattle.t85_core.proofs.Bytes.Held.{Keeps-same}

@@ -1,4 +1,3 @@
-use Rattle.t85_core.specs.Steps.ByRow.{view_of}
 use Rattle.t85_core.proofs.Bytes.Ends.{map_ok, on_err}
 use Rattle.t85_core.proofs.Encodings.RowSteps.{stream_ended, ending_cut}
 use Rattle.qm_core.specs.Encoder.{waiting_bytes}

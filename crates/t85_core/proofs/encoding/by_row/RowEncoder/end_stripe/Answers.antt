@@ -1,12 +1,9 @@
-use Rattle.std.specs.Prelude.{OnErr, List, Bool, None, [], ◌+◌, ◌*◌}
-use Rattle.std.proofs.Common.{refl, sym, subst}
-use Rattle.qm_core.specs.Place.{start}
-use Rattle.qm_core.specs.Encoder.{EncoderIsAt, waiting_bytes}
+use Rattle.std.specs.Prelude.{OnErr, List, Bool, []}
+use Rattle.std.proofs.Common.{refl}
 use Rattle.raster_core.specs.Window.{held}
-use Rattle.t85_core.specs.Steps.State.{first_row_start, next_stripe_start}
 use Rattle.t85_core.specs.Steps.Written.{row_start_in}
 use Rattle.t85_core.specs.Steps.Sent.{Origin}
-use Rattle.t85_core.specs.Steps.ByRow.{Runs, IsHeldBy, view_of}
+use Rattle.t85_core.specs.Steps.ByRow.{Runs, view_of}
 use Rattle.t85_core.specs.RowImage.{Image}
 use Rattle.t85_core.specs.Steps.RowSteps.{StripeBegun}
 use Rattle.t85_core.proofs.Walks.InfoEnds.{exit_all}

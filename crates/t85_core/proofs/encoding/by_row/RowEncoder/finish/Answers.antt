@@ -1,11 +1,11 @@
-use Rattle.std.proofs.Common.{rules, ◌≡◌, ◌≤◌, ◌∙◌, sym, ap, subst, arith}
+use Rattle.std.proofs.Common.{rules, ◌≡◌, ◌≤◌, subst, arith}
 use Rattle.t85_core.specs.Encode.{raster_of}
 use Rattle.raster_core.specs.Window.{held}
 use Rattle.t85_core.specs.Jbg.{jbg}
 use Rattle.t85_core.specs.Steps.Buffers.{held_of, known_length}
 use Rattle.t85_core.specs.Steps.Views.{text_taken}
 use Rattle.t85_core.specs.Steps.Sent.{Sends, SendsBeginning}
-use Rattle.t85_core.specs.Steps.ByRow.{Stands, view_of}
+use Rattle.t85_core.specs.Steps.ByRow.{view_of}
 use Rattle.t85_core.proofs.Bytes.Sendings.{beginning_sent}
 use Rattle.t85_core.proofs.Bytes.Ends.{map_ok, on_err}
 use Rattle.t85_core.proofs.Decodings.BufferDecoded.{text_unheld}

@@ -7,7 +7,6 @@ use Rattle.t85_core.proofs.Encodings.Encoded.{are_settings}
 use Rattle.t85_core.proofs.Theorems.CodeDenotes.{written_bits}
 use Rattle.t85_core.proofs.Encodings.RowSteps.{none_stand}
 use Rattle.t85_core.proofs.encoding.by_row.RowEncoder.new.Goals as goal
-use Rattle.t85_core.specs.RowImage.{image_of}
 
 pub returns-clause-plan : goal.returns-clause-plan
 returns-clause-plan c =

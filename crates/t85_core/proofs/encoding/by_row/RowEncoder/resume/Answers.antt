@@ -1,8 +1,6 @@
 use Rattle.std.proofs.Common.{◌≡◌, refl, ap}
-use Rattle.t85_core.specs.Options.{settings_of}
 use Rattle.t85_core.proofs.Encodings.RowNumbers.{one_view}
 use Rattle.t85_core.proofs.encoding.by_row.RowEncoder.resume.Goals as goal
-use Rattle.t85_core.specs.RowImage.{image_of}
 
 pub returns-in_err-encoder-clause-resumes : goal.returns-in_err-encoder-clause-resumes
 returns-in_err-encoder-clause-resumes c e low plan ready same =

@@ -1,10 +1,10 @@
-use Rattle.std.proofs.Common.{◌≡◌, ◌≤◌, ◌<◌, ◌+◌, ◌-◌, ◌*◌, ◌/◌, ◌^◌, ◌++◌, ◌∷◌, [], ap, sym, subst, ◌∙◌, arith, length}
+use Rattle.std.proofs.Common.{◌≡◌, ◌≤◌, ◌<◌, ◌+◌, ◌-◌, ◌*◌, ◌/◌, ◌^◌, ap, ◌∙◌, arith, length}
 use Rattle.std.specs.Prelude.{slice_range}
 use Rattle.std.proofs.Math.Nat.{add-mul, mul-le-mul_right}
 use Rattle.pbm_core.specs.Image.{pixels_of}
 use Rattle.pbm_core.specs.Pbm.{bytes_of_row}
-use Rattle.raster_core.specs.Window.{held, shape_mode}
-use Rattle.t85_core.specs.Steps.Trial.{IsTried, trial_of, packed_rows}
+use Rattle.raster_core.specs.Window.{held}
+use Rattle.t85_core.specs.Steps.Trial.{packed_rows}
 use Rattle.t85_core.proofs.Encodings.Trials.{length-packed_rows, packed_rows_more}
 use Rattle.t85_core.proofs.encoding.by_row.trial.Trial.code_rows.Goals as goal
 
