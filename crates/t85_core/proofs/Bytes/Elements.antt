@@ -50,7 +50,8 @@ same_list d (x ∷ a) (y ∷ b) l h =
     ap (λ u. u ∷ a) first ∙ ap (λ u. y ∷ u) rest
 
 -- a longer list with the same first elements
-pub longer_is : {X : Type 0} (d : X) (a b : List X) → length a < length b → ((i : ℕ) → i < length a → slice_index_or a i d ≡ slice_index_or b i d) → (x : X) × (rest : List X) × (b ≡ a ++ x ∷ rest)
+pub longer_is : {X : Type 0} (d : X) (a b : List X) → length a < length b → ((i : ℕ) → i < length a → slice_index_or a i d ≡ slice_index_or b i d) →
+    (x : X) × (rest : List X) × (b ≡ a ++ x ∷ rest)
 longer_is d [] [] l h = absurd (omega arith)
 longer_is d [] (y ∷ b) l h = (y, b, refl)
 longer_is d (x ∷ a) [] l h = absurd (omega arith)

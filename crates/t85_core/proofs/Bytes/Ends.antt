@@ -18,7 +18,8 @@ Ends-after {ending} {a} {b} {c} {P} {Q} {f} front taken widen e = record {
 }
 
 -- a fault that the bytes so far have, and that is reported at once
-pub Ends-at : {ending f : Fault} {a b : Option (List ℕ)} {Q : List ℕ → Fault → Type 0} (given : List ℕ) → Consumes a b given → counted_as ending f ≡ f → f ≢ ending → Q given f → Ends ending a b Q f
+pub Ends-at : {ending f : Fault} {a b : Option (List ℕ)} {Q : List ℕ → Fault → Type 0} (given : List ℕ) → Consumes a b given → counted_as ending f ≡ f → f ≢ ending → Q given f →
+    Ends ending a b Q f
 Ends-at {ending} {a} {b} {Q} given taken same other q = record {
   given = given;
   taken = taken;

@@ -36,7 +36,8 @@ held_after bytes at count end h =
 pub none_held : {at end : ℕ} (bytes : List ℕ) → at ≡ end → take (end - at) (drop at bytes) ≡ []
 none_held {at} {end} bytes e = let n : end - at ≡ 0 = omega arith in ap (λ k. take k (drop at bytes)) n
 
-pub keeps_refilled : {held : List ℕ} (a b : Option (List ℕ)) (buf : List ℕ) (n : ℕ) → held ≡ [] → Consumes a b (take n buf) → Keeps (prepend_known held a) (prepend_known (take (n - 0) buf) b)
+pub keeps_refilled : {held : List ℕ} (a b : Option (List ℕ)) (buf : List ℕ) (n : ℕ) → held ≡ [] → Consumes a b (take n buf) →
+    Keeps (prepend_known held a) (prepend_known (take (n - 0) buf) b)
 keeps_refilled {held} a b buf n e p =
     let same : n ≡ n - 0 = omega arith in
     subst (λ k. Keeps (prepend_known held a) (prepend_known (take k buf) b)) same (keeps_refill a b (take n buf) e p)
@@ -87,7 +88,8 @@ kept_last {most} bytes at end a within most_is front back is long =
     )
 
 -- bytes were read behind the first ones
-pub behind_read : {E : Type 0} (r : Result ℕ E) (held : ℕ) (bytes buf : List ℕ) (a b : Option (List ℕ)) → held ≤ length bytes → IfOk r (λ n. n ≤ length buf) → ReadConsumes a b r buf →
+pub behind_read : {E : Type 0} (r : Result ℕ E) (held : ℕ) (bytes buf : List ℕ) (a b : Option (List ℕ)) → held ≤ length bytes → IfOk r (λ n. n ≤ length buf) →
+    ReadConsumes a b r buf →
     IfOk r (λ n. (more : List ℕ) × (take (held + n) (put_mid held (length bytes - held) bytes buf) ≡ take held bytes ++ more) × Consumes a b more)
 behind_read (Ok n) held bytes buf a b within few p = (take n buf, take-put_part held (length bytes - held) n bytes buf within few, p.0)
 behind_read (Err e) held bytes buf a b within few p = tt

@@ -8,7 +8,8 @@ use Rattle.pbm_core.specs.Device.{AppendsBeginning}
 use Rattle.t85_core.specs.Steps.Buffers.{held_of, known_length}
 
 -- a front of those that are held was written
-pub keeps_written : {rest : List ℕ} (a b c : Option (List ℕ)) (whole front back : List ℕ) → Keeps (append_known a whole) (append_known b rest) → Appends b c front → rest ≡ front ++ back →
+pub keeps_written : {rest : List ℕ} (a b c : Option (List ℕ)) (whole front back : List ℕ) → Keeps (append_known a whole) (append_known b rest) → Appends b c front →
+    rest ≡ front ++ back →
     Keeps (append_known a whole) (append_known c back)
 keeps_written None b c whole front back k p e = tt
 keeps_written (Some a) None c whole front back k p e = absurd k
@@ -71,7 +72,8 @@ held_is bytes at end h =
     sym (ap (λ k. drop at (take k bytes)) e ∙ drop-take at (end - at) bytes)
 
 -- bytes that were put after those that are held
-pub held_grows : {n : ℕ} (bytes more : List ℕ) (at end k : ℕ) → n ≡ end + length more → at ≤ end → end ≤ length bytes → held_of (put_mid end k bytes more) at n ≡ held_of bytes at end ++ more
+pub held_grows : {n : ℕ} (bytes more : List ℕ) (at end k : ℕ) → n ≡ end + length more → at ≤ end → end ≤ length bytes →
+    held_of (put_mid end k bytes more) at n ≡ held_of bytes at end ++ more
 held_grows {n} bytes more at end k e h within =
     let long = length-take-le end bytes within in
     held_is (put_mid end k bytes more) at n (omega arith)

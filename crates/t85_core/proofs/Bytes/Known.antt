@@ -76,7 +76,8 @@ legal-append h bytes more long =
     let last = byte-append bytes more 5 (omega arith) in
     rw (row, offset, last) refl
 
-stable_first : {f : Fault} (h : Fields) (bytes more : List ℕ) → (length bytes < 6) ⊎ (6 ≤ length bytes) → move_fault h 0 bytes ≡ Some f → (f ≡ Truncated) ⊎ (move_fault h 0 (bytes ++ more) ≡ Some f)
+stable_first : {f : Fault} (h : Fields) (bytes more : List ℕ) → (length bytes < 6) ⊎ (6 ≤ length bytes) → move_fault h 0 bytes ≡ Some f →
+    (f ≡ Truncated) ⊎ (move_fault h 0 (bytes ++ more) ≡ Some f)
 stable_first {f} h bytes more (inl short) e =
     let t : nat_lt (length bytes) 6 ≡ true = grind (arith, nat_tests) in
     let cut : Some Truncated ≡ Some f = ap (λ b. cond b (Some Truncated) (cond (is_legal_move h bytes) None (Some MoveRefused))) (sym t) ∙ e in

@@ -34,7 +34,8 @@ pub line_text_step : (numbers : List ℕ) (i : ℕ) (last : Bool) → i < length
 line_text_step numbers i last h e =
     let left = length-drop (i + 1) numbers in
     ap line_text (drop_more numbers i 0 h) ∙ line_text_cons (get_or numbers i 0) (drop (i + 1) numbers) last (at_end (length numbers) (length (drop (i + 1) numbers)) h left e) where
-      at_end : (n m : ℕ) → i < n → m ≡ n - (i + 1) → ((i + 1 ≡ n) × (last ≡ true)) ⊎ ((i + 1 ≢ n) × (last ≡ false)) → ((m ≡ 0) × (last ≡ true)) ⊎ ((m ≢ 0) × (last ≡ false))
+      at_end : (n m : ℕ) → i < n → m ≡ n - (i + 1) → ((i + 1 ≡ n) × (last ≡ true)) ⊎ ((i + 1 ≢ n) × (last ≡ false)) →
+          ((m ≡ 0) × (last ≡ true)) ⊎ ((m ≢ 0) × (last ≡ false))
       at_end n m b e (inl h) = inl (omega arith, h.1)
       at_end n m b e (inr h) = let more : m ≢ 0 = let c : i + 1 ≢ n = h.0 in omega arith in inr (more, h.1)
 

@@ -39,7 +39,8 @@ pub sends_grows : {o : Origin} {b : Option (List ℕ)} {xs : List ℕ} → Sends
 sends_grows {o} {b} p = grows_with o.text b p.more p.appended
 
 -- what was written of what was sent
-pub sends_handed : {o : Origin} {out : Option (List ℕ)} {xs : List ℕ} (held : List ℕ) → known_length o.text ≤ known_length out → Sends o (append_known out held) xs → SendsBeginning o out xs
+pub sends_handed : {o : Origin} {out : Option (List ℕ)} {xs : List ℕ} (held : List ℕ) → known_length o.text ≤ known_length out → Sends o (append_known out held) xs →
+    SendsBeginning o out xs
 sends_handed {o} {out} held grows p =
     let q = beginning_handed out held grows (beginning_all p.appended) in
     record {
@@ -49,7 +50,8 @@ sends_handed {o} {out} held grows p =
       sends = record { more = q.front; appended = q.appends; all = refl };
     }
 
-pub beginning_sent : {o : Origin} {out : Option (List ℕ)} {xs : List ℕ} (held : List ℕ) → known_length o.text ≤ known_length out → SendsBeginning o (append_known out held) xs → SendsBeginning o out xs
+pub beginning_sent : {o : Origin} {out : Option (List ℕ)} {xs : List ℕ} (held : List ℕ) → known_length o.text ≤ known_length out → SendsBeginning o (append_known out held) xs →
+    SendsBeginning o out xs
 beginning_sent held grows p =
     let q = sends_handed held grows p.sends in
     record { front = q.front; rest = q.rest ++ p.rest; text_is = p.text_is ∙ ap (λ z. z ++ p.rest) q.text_is ∙ append_assoc q.front q.rest p.rest; sends = q.sends }

@@ -129,7 +129,8 @@ module _ (cost : ℕ → ℕ) where
         let s = two_shortest h in
         record { among = s.among; no_worse = (as_good _ _ s.no_worse.0, (as_good _ _ s.no_worse.1.0, tt)) }
 
-    pub three_best : (current lag : ℕ) (second best : Choice) → Chooses cost current 0 second → Chooses cost second.offset lag best → IsShortest other (current ∷ 0 ∷ lag ∷ []) best.offset
+    pub three_best : (current lag : ℕ) (second best : Choice) → Chooses cost current 0 second → Chooses cost second.offset lag best →
+        IsShortest other (current ∷ 0 ∷ lag ∷ []) best.offset
     three_best current lag second best h k =
         let s = three_shortest h k in
         record { among = s.among; no_worse = (as_good _ _ s.no_worse.0, (as_good _ _ s.no_worse.1.0, (as_good _ _ s.no_worse.1.1.0, tt))) }
@@ -253,6 +254,7 @@ module _ {image : Image} {rows : List (List Bool)} {window : Held} {origin : Ori
       IsBestFor s raster (length rows / l) second.offset
   found_two {second} none is h = found (sym none ∙ is) (two_best (trial_length e c part) (stripe_length s raster w.i) length_is e.kept.offset second h)
 
-  pub found_three : {lag : Option ℕ} {u : ℕ} {second best : Choice} → lag ≡ Some u → lag ≡ tried_lag (trial_from e c e.kept.offset) part → Chooses (trial_length e c part) e.kept.offset 0 second →
+  pub found_three : {lag : Option ℕ} {u : ℕ} {second best : Choice} → lag ≡ Some u → lag ≡ tried_lag (trial_from e c e.kept.offset) part →
+      Chooses (trial_length e c part) e.kept.offset 0 second →
       Chooses (trial_length e c part) second.offset u best → IsBestFor s raster (length rows / l) best.offset
   found_three {u} {second} {best} some is h k = found (sym some ∙ is) (three_best (trial_length e c part) (stripe_length s raster w.i) length_is e.kept.offset u second best h k)

@@ -22,10 +22,12 @@ use Rattle.t85_core.proofs.Bytes.Streams.{Appends-keeps}
 use Rattle.t85_core.specs.Steps.Passage.{passage}
 
 module _ {form : Form} (width height' : ℕ) (whole : Raster → List ℕ) (known known' text old new : Option (List ℕ)) where
-  pub coded_handed : ImageCoded (layout_of form width height') whole (passage known known' text old) → Keeps old new → ImageCoded (layout_of form width height') whole (passage known known' text new)
+  pub coded_handed : ImageCoded (layout_of form width height') whole (passage known known' text old) → Keeps old new →
+      ImageCoded (layout_of form width height') whole (passage known known' text new)
   coded_handed i k = record { rows = i.rows; many = i.many; read = i.read; appended = Appends-keeps text old new _ i.appended k }
 
-  pub short_handed : {s : Settings} {up_to : Raster → ℕ → List ℕ} {fault : PbmFault} → ImageShort s (layout_of form width height') up_to whole (passage known known' text old) fault → Keeps old new →
+  pub short_handed : {s : Settings} {up_to : Raster → ℕ → List ℕ} {fault : PbmFault} →
+      ImageShort s (layout_of form width height') up_to whole (passage known known' text old) fault → Keeps old new →
       ImageShort s (layout_of form width height') up_to whole (passage known known' text new) fault
   short_handed i k = record {
     rows = i.rows;
@@ -39,7 +41,8 @@ module _ {form : Form} (width height' : ℕ) (whole : Raster → List ℕ) (know
     appended = Appends-keeps text old new _ i.appended k;
   }
 
-  pub front_handed : ImageFront (layout_of form width height') whole (passage known known' text old) → Keeps old new → ImageFront (layout_of form width height') whole (passage known known' text new)
+  pub front_handed : ImageFront (layout_of form width height') whole (passage known known' text old) → Keeps old new →
+      ImageFront (layout_of form width height') whole (passage known known' text new)
   front_handed i k = record {
     rows = i.rows;
     few = i.few;
@@ -78,7 +81,8 @@ module _ {form : Form} (width height' : ℕ) (whole : Raster → List ℕ) (know
   }
 
   -- all rows were read
-  pub coded_front : 1 ≤ width → ImageCoded (layout_of form width height') whole (passage known known' text text') → ImageFront (layout_of form width height') whole (passage known known' text text')
+  pub coded_front : 1 ≤ width → ImageCoded (layout_of form width height') whole (passage known known' text text') →
+      ImageFront (layout_of form width height') whole (passage known known' text text')
   coded_front some i = refused_front some (record {
     rows = i.rows;
     few = (let many = i.many in omega arith);

@@ -166,7 +166,8 @@ module _ (s : Settings) (form : Form) (width height' : ℕ) (in_old in_new out_o
         },
       )
 
-  pub encoded : {r : Result (Unit {0}) Fault} (held : List ℕ) → CodeDenotes → AreSettings s → is_low s height' ≡ false → IsSize width height' → (reads_old reads_new writes_old writes_new : ℕ) →
+  pub encoded : {r : Result (Unit {0}) Fault} (held : List ℕ) → CodeDenotes → AreSettings s → is_low s height' ≡ false → IsSize width height' →
+      (reads_old reads_new writes_old writes_new : ℕ) →
       OnOk r (ImageCoded (layout_of form width height') (λ raster. jbg s raster) (passage in_old in_new out_old out_new)) →
       ((fault : PbmFault) → IsErrOf r (Pbm fault) → ImageShort s (layout_of form width height') (λ raster n. jbg_up_to s raster n) (λ raster. jbg s raster)
       (passage in_old in_new out_old out_new) fault) →
@@ -188,7 +189,8 @@ module _ (s : Settings) (form : Form) (width height' : ℕ) (in_old in_new out_o
   }
 
 -- the output before its loan, and at the loan's end
-pub encodes_at : {W : Type 0} {s : Settings} {before : Option (List ℕ)} {count : ℕ} {output output' : W} {r : Result (Unit {0}) Fault} {layout : Layout} {input : Change} (contents : W → Option (List ℕ)) (failures : W → ℕ) (start : W) → before ≡ contents start → count ≡ failures start → output ≡ output' →
+pub encodes_at : {W : Type 0} {s : Settings} {before : Option (List ℕ)} {count : ℕ} {output output' : W} {r : Result (Unit {0}) Fault} {layout : Layout} {input : Change}
+    (contents : W → Option (List ℕ)) (failures : W → ℕ) (start : W) → before ≡ contents start → count ≡ failures start → output ≡ output' →
     Encode s layout input (between before (contents output) count (failures output)) r → Encode s layout input (between (contents start) (contents output') (failures start) (failures output')) r
 encodes_at {s} {before} {output} {r} contents failures start text n same e =
     rw (← same, ← text, ← n) e

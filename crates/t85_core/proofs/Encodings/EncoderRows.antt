@@ -56,7 +56,8 @@ module _ (s : Settings) (raster : Raster) where
       ∙ moved_later choice r h
 
   -- the offset of a stripe
-  pub offset_after : (choice : Option ℕ) (rows : List (List Bool)) (b : RowStart) → 0 < length rows → (after_rows c.mode (option_map (λ t. (0, t)) choice) 0 b rows).offset ≡ unwrap_or choice b.offset
+  pub offset_after : (choice : Option ℕ) (rows : List (List Bool)) (b : RowStart) → 0 < length rows →
+      (after_rows c.mode (option_map (λ t. (0, t)) choice) 0 b rows).offset ≡ unwrap_or choice b.offset
   offset_after choice [] b h = absurd (omega arith)
   offset_after choice (row ∷ rows) b h =
       rows_later choice rows (0 + 1) (after_row c.mode (option_map (λ t. (0, t)) choice) 0 b row (next_flag c.mode b row)) (omega arith)

@@ -123,7 +123,8 @@ offset_ends s raster (suc i) last h = went s.reset where
   went false = h
 
 module _ {s : Settings} {raster : Raster} {i : ℕ} {at : EncoderStart} (rows : List (List Bool)) (some : 1 ≤ s.stripe_rows) (inside : i < stripe_count (height raster) s.stripe_rows)
-    (h : CourseAt s raster i at) (rows_at : Continues (white_row raster.width) raster.rows (i * s.stripe_rows) rows) (many : length rows ≡ min s.stripe_rows (height raster - i * s.stripe_rows)) where
+    (h : CourseAt s raster i at) (rows_at : Continues (white_row raster.width) raster.rows (i * s.stripe_rows) rows)
+    (many : length rows ≡ min s.stripe_rows (height raster - i * s.stripe_rows)) where
   within : i * s.stripe_rows < height raster
   within = stripe_within (height raster) s.stripe_rows i some inside
 

@@ -41,7 +41,8 @@ pub kept_few : {others most : ℕ} {old mid new : Option (List ℕ)} → Appends
 kept_few {old} {mid} {new} a kept = record { bytes = a.bytes; appended = Appends-keeps old mid new a.bytes a.appended kept; few = a.few }
 
 -- of what was appended and is held back in part, that part which was written
-pub handed_few : (most : ℕ) (old new : Option (List ℕ)) (held : List ℕ) → known_length old ≤ known_length new → AppendsAtMost most old (append_known new held) → AppendsAtMost most old new
+pub handed_few : (most : ℕ) (old new : Option (List ℕ)) (held : List ℕ) → known_length old ≤ known_length new → AppendsAtMost most old (append_known new held) →
+    AppendsAtMost most old new
 handed_few most old new held grows a = (let few = a.few in beginning_few most (omega arith) (beginning_handed new held grows (beginning_all a.appended)))
 
 pub joined_few : {others between most : ℕ} {old mid new : Option (List ℕ)} → AppendsBeside between most old mid → AppendsBeside others between mid new → AppendsBeside others most old new
@@ -54,7 +55,8 @@ joined_few {old} {mid} {new} a b =
       few = omega (arith, length-append a.bytes b.bytes);
     }
 
-pub eased_few : {others most : ℕ} {old new : Option (List ℕ)} (others' most' : ℕ) → most + others' ≤ most' + others → AppendsBeside others most old new → AppendsBeside others' most' old new
+pub eased_few : {others most : ℕ} {old new : Option (List ℕ)} (others' most' : ℕ) → most + others' ≤ most' + others → AppendsBeside others most old new →
+    AppendsBeside others' most' old new
 eased_few others' most' within a = (let few = a.few in record { bytes = a.bytes; appended = a.appended; few = omega arith })
 
 -- ---- a row, and the end of a code
@@ -76,7 +78,8 @@ module _ (laws : WritingLaws) (e : Encoder) (p : Place) (learned : List Estimate
       let few = laws.few_pushed e e' (record { place = p; learned = learned }) (canonical_events shape kept lines) pushed put.more at put.codes in
       record { bytes = put.more; appended = put.appended; few = omega arith }
 
-  pub row_cut_few : {n : ℕ} (shape : Shape) (kept : Kept) (lines : Lines) → length lines.row ≡ n → RowCut (record { place = p; learned = learned }) pushed (canonical_events shape kept lines) old new →
+  pub row_cut_few : {n : ℕ} (shape : Shape) (kept : Kept) (lines : Lines) → length lines.row ≡ n →
+      RowCut (record { place = p; learned = learned }) pushed (canonical_events shape kept lines) old new →
       AppendsAtMost (2 * waiting_bytes e + 4 * (n + 1)) old new
   row_cut_few shape kept lines wide cut =
       let all = events_few shape kept lines wide in
@@ -92,7 +95,8 @@ module _ (laws : WritingLaws) (e : Encoder) (p : Place) (learned : List Estimate
       written_few (2 * waiting_bytes e + 2) old new ended.more answer (omega arith) ended.ok ended.cut
 
 -- a move, a row and the end of its stripe
-pub row_few : {waits was n n' : ℕ} {b c : Option (List ℕ)} (waits' : ℕ) (a d : Option (List ℕ)) → was ≡ waits → n' ≡ n → AppendsAtMost 8 a b → AppendsBeside (2 * waits') (2 * was + 4 * (n' + 1)) b c →
+pub row_few : {waits was n n' : ℕ} {b c : Option (List ℕ)} (waits' : ℕ) (a d : Option (List ℕ)) → was ≡ waits → n' ≡ n → AppendsAtMost 8 a b →
+    AppendsBeside (2 * waits') (2 * was + 4 * (n' + 1)) b c →
     AppendsAtMost (2 * waits' + 2) c d → AppendsAtMost (2 * waits + 4 * (n + 1) + 10) a d
 row_few {waits} {was} {n} {n'} waits' a d same width first row last =
     let front = joined_few
@@ -113,7 +117,8 @@ row_begun_few {waits} {was} {n} {n'} a b c same width first row =
 pub end_few : (waits : ℕ) (a b c : Option (List ℕ)) → AppendsAtMost (2 * waits + 2) a b → AppendsAtMost 8 b c → AppendsAtMost (2 * waits + 10) a c
 end_few waits a b c first last = joined_few (eased_few 8 (2 * waits + 10) (omega arith) first) last
 
-pub ending_few : (announced : ℕ) (reset : Bool) (height' : ℕ) (old new : Option (List ℕ)) (answer : Result (Unit {0}) Fault) → OnOk answer (Appends old new (ending_of announced reset height')) →
+pub ending_few : (announced : ℕ) (reset : Bool) (height' : ℕ) (old new : Option (List ℕ)) (answer : Result (Unit {0}) Fault) →
+    OnOk answer (Appends old new (ending_of announced reset height')) →
     OnErr answer (AppendsBeginning old new (ending_of announced reset height')) →
     AppendsAtMost 8 old new
 ending_few announced reset height' old new answer whole cut = written_few 8 old new (ending_of announced reset height') answer (ending_short announced reset height') whole cut

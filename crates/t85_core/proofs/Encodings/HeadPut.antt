@@ -24,13 +24,15 @@ abbrev comment_of : Option (List ℕ) → List ℕ
 comment_of comment = flat_map segment_bytes (map Comment (option_to_list comment))
 
 -- the header was written, and there is no comment
-pub head_plain : {bytes : List ℕ} (s : Settings) (width height' : ℕ) (a b : Option (List ℕ)) → bytes ≡ header_bytes (header_of s width height') → s.comment ≡ None → Appends a b bytes →
+pub head_plain : {bytes : List ℕ} (s : Settings) (width height' : ℕ) (a b : Option (List ℕ)) → bytes ≡ header_bytes (header_of s width height') → s.comment ≡ None →
+    Appends a b bytes →
     Appends a b (head_of s width height')
 head_plain s width height' a b is none put =
     rw (none, append-nil (header_bytes (header_of s width height')), ← is) put
 
 -- the header was written, and the comment after it
-pub head_commented : {bytes text : List ℕ} (s : Settings) (width height' : ℕ) (a b c : Option (List ℕ)) → bytes ≡ header_bytes (header_of s width height') → s.comment ≡ Some text → Appends a b bytes →
+pub head_commented : {bytes text : List ℕ} (s : Settings) (width height' : ℕ) (a b c : Option (List ℕ)) → bytes ≡ header_bytes (header_of s width height') →
+    s.comment ≡ Some text → Appends a b bytes →
     Appends b c (segment_bytes (Comment text)) → Appends a c (head_of s width height')
 head_commented {bytes} {text} s width height' a b c is some put more =
     subst (λ z. Appends a c (z ++ comment_of s.comment)) is
@@ -38,7 +40,8 @@ head_commented {bytes} {text} s width height' a b c is some put more =
     (subst (λ z. Appends b c z) (sym (append-nil (segment_bytes (Comment text))) ∙ ap comment_of (sym some)) more))
 
 -- the head of each image that is meant
-same_head : {width height' : ℕ} {rows : List (List Bool)} {raster : Raster} (s : Settings) → BeginsWith width height' rows raster → head_of s width height' ≡ head_of s raster.width (height raster)
+same_head : {width height' : ℕ} {rows : List (List Bool)} {raster : Raster} (s : Settings) → BeginsWith width height' rows raster →
+    head_of s width height' ≡ head_of s raster.width (height raster)
 same_head {height'} {raster} s b = ap (λ n. head_of s n height') (sym b.width_is) ∙ ap (head_of s raster.width) (sym b.height_is)
 
 -- the target took no more of the head
@@ -64,7 +67,8 @@ header_cut {a} {b} s width height' is p =
     subst (λ z. AppendsBeginning a b (z ++ comment_of s.comment)) is (beginning_longer (comment_of s.comment) p)
 
 -- of the comment
-pub comment_cut : {a b c : Option (List ℕ)} {bytes text : List ℕ} (s : Settings) (width height' : ℕ) → bytes ≡ header_bytes (header_of s width height') → s.comment ≡ Some text → Appends a b bytes →
+pub comment_cut : {a b c : Option (List ℕ)} {bytes text : List ℕ} (s : Settings) (width height' : ℕ) → bytes ≡ header_bytes (header_of s width height') → s.comment ≡ Some text →
+    Appends a b bytes →
     AppendsBeginning b c (segment_bytes (Comment text)) → AppendsBeginning a c (head_of s width height')
 comment_cut {a} {b} {c} {bytes} {text} s width height' is some put more =
     subst (λ z. AppendsBeginning a c (z ++ comment_of s.comment)) is

@@ -74,7 +74,8 @@ module _ (image : Image) (rows : List (List Bool)) (v : RowView) (window : Held)
   stands_grown so = sends_grows (sends_of so)
 
   -- the state also holds behind the bytes sent
-  pub stands_elsewhere : Stands image rows v window origin text → (bytes : List ℕ) × Sends origin text bytes × ((text' : Option (List ℕ)) → Stands image rows v window (behind bytes text') text')
+  pub stands_elsewhere : Stands image rows v window origin text → (bytes : List ℕ) × Sends origin text bytes
+      × ((text' : Option (List ℕ)) → Stands image rows v window (behind bytes text') text')
   stands_elsewhere so = (bytes_of so, sends_of so, λ text'. resent so (sent_behind (bytes_of so) (appends_none text')))
 
 module _ (image : Image) (rows : List (List Bool)) (origin : Origin) (mid text' : Option (List ℕ)) where

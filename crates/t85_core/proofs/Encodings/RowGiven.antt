@@ -59,5 +59,6 @@ row_below {width} {row} bytes old some whole keeps packed row_is small mid_is wi
   packed_is : row ≡ pbm.packed_row (pixels_of width bytes)
   packed_is =
       row_is
-      ∙ sym (packed width (masked_row width bytes) (length-set bytes (bytes_of_row width - 1) _ ∙ whole) (masked_is width bytes some whole) (subst (λ r. (k : ℕ) → slice_index r k < 256) row_is small))
+      ∙ sym (packed width (masked_row width bytes) (length-set bytes (bytes_of_row width - 1) _ ∙ whole) (masked_is width bytes some whole)
+      (subst (λ r. (k : ℕ) → slice_index r k < 256) row_is small))
       ∙ ap pbm.packed_row same_pixels

@@ -56,7 +56,8 @@ whole_rows {n} {i} l some is =
     (ap (λ z. z / l) sum ∙ stripe_at l i 0 (omega arith), ap (λ z. z % l) is ∙ Rattle.std.proofs.Math.Nat.mul-mod_left i l)
 
 -- the stripes before stay
-pub offset_named : (t : ℕ) (image : Image) (rows : List (List Bool)) (v : RowView) (window : Held) (origin : Origin) (text : Option (List ℕ)) → v.in_stripe ≡ 0 → Stands image rows v window origin text
+pub offset_named : (t : ℕ) (image : Image) (rows : List (List Bool)) (v : RowView) (window : Held) (origin : Origin) (text : Option (List ℕ)) → v.in_stripe ≡ 0 →
+    Stands image rows v window origin text
     → (length rows % image.settings.stripe_rows ≡ 0) × Stands (named_after t (length rows) image) rows (record v { named = Some t }) window origin text
 offset_named t image rows v window origin text none so =
     let w = stands_waiting image rows v window origin text none so in

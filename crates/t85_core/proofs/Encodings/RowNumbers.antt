@@ -26,7 +26,8 @@ one_plan p q =
     }
 
 -- of one plan, and with the same of all else
-pub one_view : {image : Image} {v w : RowView} → IsPlan image v.plan → IsPlan image w.plan → (v.kept.offset ≡ w.kept.offset) × (v.kept.previous_typical ≡ w.kept.previous_typical) → v.learned ≡ w.learned →
+pub one_view : {image : Image} {v w : RowView} → IsPlan image v.plan → IsPlan image w.plan →
+    (v.kept.offset ≡ w.kept.offset) × (v.kept.previous_typical ≡ w.kept.previous_typical) → v.learned ≡ w.learned →
     v.tally ≡ w.tally → v.encoder ≡ w.encoder → v.rows ≡ w.rows → v.in_stripe ≡ w.in_stripe → v.is_counted ≡ w.is_counted → v.named ≡ w.named → v ≡ w
 one_view p q kept learned tally encoder rows in_stripe is_counted named =
     λ i. record {

@@ -20,7 +20,8 @@ after_append : (s : State) (xs ys : List Event) → after s (xs ++ ys) ≡ after
 after_append s [] ys = refl
 after_append s (x ∷ xs) ys = after_append (step s x.context x.pixel) xs ys
 
-pub state_down : (mode : Mode) (move : Option (ℕ × ℕ)) (r : ℕ) (b : RowStart) (rows : List (List Bool)) → (after_rows mode move r b rows).state ≡ after b.state (events_down mode move r b rows)
+pub state_down : (mode : Mode) (move : Option (ℕ × ℕ)) (r : ℕ) (b : RowStart) (rows : List (List Bool)) →
+    (after_rows mode move r b rows).state ≡ after b.state (events_down mode move r b rows)
 state_down mode move r b [] = refl
 state_down mode move r b (row ∷ rows) =
     let next = after_row mode move r b row (next_flag mode b row) in
@@ -32,7 +33,8 @@ module _ (laws : WritingLaws) (mode : Mode) (move : Option (ℕ × ℕ)) where
   rows_place r b rows is = rw state_down (laws.events_keep_place (events_down mode move r b rows) b.state is)
 
   -- what was pushed begins each code of rows that go on so
-  pub pushed_begins : (c : StripeStart) (rows : List (List Bool)) (count : ℕ) (e : Encoder) (pushed : List ℕ) → EncoderIsAt e (after_rows mode move 0 (first_row_start c) rows).state.place pushed →
+  pub pushed_begins : (c : StripeStart) (rows : List (List Bool)) (count : ℕ) (e : Encoder) (pushed : List ℕ) →
+      EncoderIsAt e (after_rows mode move 0 (first_row_start c) rows).state.place pushed →
       BeginsCode mode move c count rows pushed
   pushed_begins c rows count e pushed codes later many =
       let b = after_rows mode move 0 (first_row_start c) rows in

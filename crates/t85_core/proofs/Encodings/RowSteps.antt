@@ -68,7 +68,8 @@ none_counted width (Some current) tally h = h width current
 
 -- ---- a stripe begins
 
-module _ {image : Image} {rows : List (List Bool)} {v : RowView} {before : Held} {origin : Origin} {mid : Option (List ℕ)} (text' : Option (List ℕ)) (w : Waits image rows v before origin mid) where
+module _ {image : Image} {rows : List (List Bool)} {v : RowView} {before : Held} {origin : Origin} {mid : Option (List ℕ)} (text' : Option (List ℕ))
+    (w : Waits image rows v before origin mid) where
   -- where rows may still come
   waits_within : v.rows < v.plan.limit → w.i * image.settings.stripe_rows < image.limit
   waits_within left = omega arith
@@ -122,7 +123,8 @@ module _ {image : Image} {rows : List (List Bool)} {v : RowView} {before : Held}
 
   -- a beginning of the move was written
   pub move_cut : v.rows < v.plan.limit → (row : List Bool)
-      → ((s' : Settings) (width' : ℕ) (at : EncoderStart) → v.kept.offset ≡ at.carry.offset → v.named ≡ named_for s' at.stripe → IsTallied s' width' at v.tally → MoveCut s' width' at mid text')
+      → ((s' : Settings) (width' : ℕ) (at : EncoderStart) → v.kept.offset ≡ at.carry.offset → v.named ≡ named_for s' at.stripe → IsTallied s' width' at v.tally →
+      MoveCut s' width' at mid text')
       → StreamCut image (rows ++ row ∷ []) origin text'
   move_cut left row cuts = record {
     bytes = w.front ++ p.front;
@@ -147,7 +149,8 @@ pub length-lines_down : (above second : List Bool) (rows : List (List Bool)) →
 length-lines_down above second [] = refl
 length-lines_down above second (row ∷ rows) = rw (length-lines_down row above rows)
 
-all_more : {width : ℕ} (rows : List (List Bool)) (row : List Bool) → AllByRecursion (λ r. length r ≡ width) rows → length row ≡ width → AllByRecursion (λ r. length r ≡ width) (rows ++ row ∷ [])
+all_more : {width : ℕ} (rows : List (List Bool)) (row : List Bool) → AllByRecursion (λ r. length r ≡ width) rows → length row ≡ width →
+    AllByRecursion (λ r. length r ≡ width) (rows ++ row ∷ [])
 all_more [] row all is = (is, tt)
 all_more (first ∷ rows) row all is = (all.0, all_more rows row all.1 is)
 
@@ -369,7 +372,8 @@ module _ {image : Image} {rows : List (List Bool)} {v : RowView} {window : Held}
       lines_are = λ some'. absurd (let e : false ≡ true = counts some' in let bot : ⊥ = cc in bot);
     }
 
-  pub stripe_ended : {in_stripe : ℕ} {code : List ℕ} (laws : WritingLaws) (e : Encoder) (kept : Kept) (learned : List Estimate) (window' : Held) (text'' : Option (List ℕ)) → in_stripe ≡ 0 →
+  pub stripe_ended : {in_stripe : ℕ} {code : List ℕ} (laws : WritingLaws) (e : Encoder) (kept : Kept) (learned : List Estimate) (window' : Held) (text'' : Option (List ℕ)) →
+      in_stripe ≡ 0 →
       EncoderIsAt e start [] →
       ((last' : RowStart) → IsHeldBy None 0 last' v.kept v.learned window → IsHeldBy None 0 (first_row_start (next_stripe_start v.plan.width v.plan.reset last')) kept learned window') →
       (more : List ℕ) → Rattle.qm_core.specs.Code.IsCode last.state.place code → r.pushed ++ more ≡ stuffed code ++ marker_bytes v.plan.reset → Appends mid text' more →

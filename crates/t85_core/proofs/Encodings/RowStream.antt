@@ -156,7 +156,8 @@ module _ {image : Image} {i : ℕ} {whole : List (List Bool)} {at : EncoderStart
 
   -- a beginning of each stripe that begins with these rows, after those that are whole
   pub part_begins : {raster : Raster} (part : List (List Bool)) (bytes : List ℕ) → length part ≤ l →
-      ((later : List (List Bool)) → IsBeginning bytes (stripe_bytes (next_stripe image.settings image.width at (part ++ later)))) → MayCome image (whole ++ part) raster → i * l < height raster →
+      ((later : List (List Bool)) → IsBeginning bytes (stripe_bytes (next_stripe image.settings image.width at (part ++ later)))) → MayCome image (whole ++ part) raster →
+      i * l < height raster →
       IsBeginning (front ++ bytes) (jbg image.settings raster)
   part_begins {raster} part bytes few begins b within =
       front_begins image.settings raster (i + 1) (let inside = inside_of (height raster) l i some within in omega arith) (record {
@@ -220,7 +221,8 @@ module _ {image : Image} {i : ℕ} {whole : List (List Bool)} {at : EncoderStart
   }
 
   move_named : Option ℕ → Option (ℕ × ℕ)
-  move_named name = option_map (λ t. (0, t)) (moved_to name at.carry.offset (chosen_offset (mode_of image.settings.options).two_line image.settings.most_offset image.width at.counted at.carry.offset))
+  move_named name = option_map (λ t. (0, t)) (moved_to name at.carry.offset
+      (chosen_offset (mode_of image.settings.options).two_line image.settings.most_offset image.width at.counted at.carry.offset))
 
   -- with all its rows, whatever is named for the stripes after it
   pub whole_more : StripesWhole image (i + 1) (whole ++ part) (next_encoder_start image.settings image.width at part) (front ++ stripe_bytes (next_stripe image.settings image.width at part))

@@ -6,7 +6,8 @@ use Rattle.pbm_core.specs.Image.{AreRows}
 use Rattle.t85_core.specs.Steps.EncodeRows.{ReadsRows}
 use Rattle.t85_core.proofs.Bytes.Streams.{Consumes-more}
 
-rows_append : (form : Form) (width : ℕ) (xs ys : List ℕ) (rows more : List (List Bool)) → AreRows form width xs rows → AreRows form width ys more → AreRows form width (xs ++ ys) (rows ++ more)
+rows_append : (form : Form) (width : ℕ) (xs ys : List ℕ) (rows more : List (List Bool)) → AreRows form width xs rows → AreRows form width ys more →
+    AreRows form width (xs ++ ys) (rows ++ more)
 rows_append form width xs ys [] more p q = rw p q
 rows_append form width xs ys (row ∷ rows) more p q = (p.0, p.1 ++ ys, ap (λ z. z ++ ys) p.2 ∙ append_assoc p.0 p.1 ys, p.3, rows_append form width p.1 ys rows more p.4 q)
 

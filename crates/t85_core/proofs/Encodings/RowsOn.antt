@@ -24,7 +24,8 @@ pub record RowsGoOn {X : Type 0} (d : X) (all : List X) (n l : ℕ) (part : List
   pub many : length part + length later ≡ min l (length all - n)
   pub continues : Continues d all n (part ++ later)
 
-pub rows_go_on : {X : Type 0} {n l : ℕ} {d : X} {all part : List X} (first : List X) → take (length (first ++ part)) all ≡ first ++ part → length first ≡ n → length part ≤ min l (length all - n) →
+pub rows_go_on : {X : Type 0} {n l : ℕ} {d : X} {all part : List X} (first : List X) → take (length (first ++ part)) all ≡ first ++ part → length first ≡ n →
+    length part ≤ min l (length all - n) →
     RowsGoOn d all n l part
 rows_go_on {X} {n} {l} {d} {all} {part} first is many few = record {
   later = later;

@@ -14,7 +14,8 @@ use Rattle.raster_core.specs.Window.{turned}
 use Rattle.t85_core.specs.Steps.EncodeRows.{RowTaken}
 
 -- The current row of a window is written, with a given place and width.
-pub put_current : {told place told_width width : ℕ} (start end : ℕ) (bytes row : List ℕ) → told ≡ place → told_width ≡ width → length bytes ≡ 3 * div_ceil width 8 → length row ≡ div_ceil width 8 →
+pub put_current : {told place told_width width : ℕ} (start end : ℕ) (bytes row : List ℕ) → told ≡ place → told_width ≡ width → length bytes ≡ 3 * div_ceil width 8 →
+    length row ≡ div_ceil width 8 →
     ((bytes row : List ℕ) → length bytes ≡ 3 * div_ceil told_width 8 → length row ≡ div_ceil told_width 8 →
     rows_at told told_width (with_part start end bytes row) ≡ with_current (rows_at told told_width bytes) row) →
     rows_at place width (with_part start end bytes row) ≡ with_current (rows_at place width bytes) row
@@ -36,7 +37,8 @@ pub row_wide : {width : ℕ} (form : Form) (given : List ℕ) (row : List Bool) 
 row_wide Raw given row p = rw p.1 (pixels_many given)
 row_wide Plain given row p = p.0
 
-pub row_taken : {form : Form} {width : ℕ} {mid old : Held} {given row : List ℕ} {known known' : Option (List ℕ)} → mid ≡ turned old → old.width ≡ width → IsRowOf form width given row →
+pub row_taken : {form : Form} {width : ℕ} {mid old : Held} {given row : List ℕ} {known known' : Option (List ℕ)} → mid ≡ turned old → old.width ≡ width →
+    IsRowOf form width given row →
     Consumes known known' given → RowTaken form width known known' old (record { width = mid.width; current = row; above = mid.above; second = mid.second })
 row_taken {form} {width} {given} {row} mid_is wide is taken = record {
   row = is.pixels;

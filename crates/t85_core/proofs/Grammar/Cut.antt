@@ -78,8 +78,10 @@ module _ {h : Fields} (ok : IsAccepted h) (Fits : List Segment → Type 0) (clos
   no_segment_before {c = (b ∷ c)} {x} y t legal fits ends e = no_segment_in_code b (stuffed c ++ x) y t (sym (stuffed_cons b c x) ∙ e)
 
   -- the cut of a stripe is the only one
-  pub one_cut : {c d x y : List ℕ} (before ss ts : List Segment) → flat_map segment_bytes ss ++ (stuffed c ++ x) ≡ flat_map segment_bytes ts ++ (stuffed d ++ y) → AllByRecursion (IsLegal h) ss →
-      AllByRecursion (IsLegal h) ts → Fits (before ++ ss) → Fits (before ++ ts) → EndsPieces h Fits (before ++ ss) c x → EndsPieces h Fits (before ++ ts) d y → (ss ≡ ts) × (c ≡ d) × (x ≡ y)
+  pub one_cut : {c d x y : List ℕ} (before ss ts : List Segment) → flat_map segment_bytes ss ++ (stuffed c ++ x) ≡ flat_map segment_bytes ts ++ (stuffed d ++ y) →
+      AllByRecursion (IsLegal h) ss →
+      AllByRecursion (IsLegal h) ts → Fits (before ++ ss) → Fits (before ++ ts) → EndsPieces h Fits (before ++ ss) c x → EndsPieces h Fits (before ++ ts) d y →
+      (ss ≡ ts) × (c ≡ d) × (x ≡ y)
   one_cut {c} {d} {x} {y} before [] [] e p q f g ends ends' = let k = one_code c d x y e ends.no_code ends'.no_code in (refl, k.0, k.1)
   one_cut {c} {d} {x} {y} before [] (t ∷ ts) e p q f g ends ends' =
       let fits : Fits (before ++ t ∷ []) = closed (before ++ t ∷ []) ts (subst Fits (sym (append_assoc before (t ∷ []) ts)) g) in
@@ -231,7 +233,8 @@ module _ {h : Fields} (ok : IsAccepted h) (height k n : ℕ) (suits : Suits h he
   left_ends q = fault_ends q.segments q.code q.rest q.rest_has
 
   -- a stripe that isn't whole is no stripe
-  no_stripe_in_fault : {tail : List ℕ} {f : Fault} (s : Stripe) (x : List ℕ) → IsStripe h s → GiveOnly height n s.segments → StripeFault h (spot_of height k n) tail f → stripe_bytes s ++ x ≡ tail → ⊥
+  no_stripe_in_fault : {tail : List ℕ} {f : Fault} (s : Stripe) (x : List ℕ) → IsStripe h s → GiveOnly height n s.segments → StripeFault h (spot_of height k n) tail f →
+      stripe_bytes s ++ x ≡ tail → ⊥
   no_stripe_in_fault {f} s x p g q e =
       let cut = one_cut ok Fits fits_closed [] s.segments q.segments (sym (cut_at_marker s x) ∙ e ∙ q.bytes_are)
       p.legal q.begun.legal (record { one_move = p.one_move; gives = g }) (left_fits q) (marker_ends h Fits s.segments s.code s.reset x) (left_ends q) in
@@ -288,7 +291,8 @@ module _ {h : Fields} (ok : IsAccepted h) (height most : ℕ) (suits : (k : ℕ)
   rest_gives {n} s ss g = gives_right height n s.segments (all_segments ss) g
 
   -- whole stripes, or fewer and one that isn't whole
-  pub never_both : {tail : List ℕ} {f : Fault} (k n : ℕ) (ss ts : List Stripe) (x : List ℕ) → AllByRecursion (IsStripe h) ss → AllByRecursion (IsStripe h) ts → GiveOnly height n (all_segments ss) →
+  pub never_both : {tail : List ℕ} {f : Fault} (k n : ℕ) (ss ts : List Stripe) (x : List ℕ) → AllByRecursion (IsStripe h) ss → AllByRecursion (IsStripe h) ts →
+      GiveOnly height n (all_segments ss) →
       k + length ts ≤ most → length ts < length ss → StripeFault h (spot_on height k n ts) tail f → flat_map stripe_bytes ss ++ x ≡ flat_map stripe_bytes ts ++ tail → ⊥
   never_both k n [] ts x p q g le less w e = omega arith
   never_both {tail} {f} k n (s ∷ ss) [] x p q g le less w e =
@@ -330,7 +334,8 @@ module _ {h : Fields} (ok : IsAccepted h) (height most : ℕ) (suits : (k : ℕ)
       ap (λ u. spot_of height u (length (lengths (all_segments ss)))) a ∙ ap (spot_of height (0 + length ss)) b
 
   -- a body has its parts, or it is broken
-  pub parts_or_fault : {tail : List ℕ} {f : Fault} (ss ts : List Stripe) (x : List ℕ) → AllByRecursion (IsStripe h) ss → AllByRecursion (IsStripe h) ts → GiveOnly height 0 (all_segments ss) →
+  pub parts_or_fault : {tail : List ℕ} {f : Fault} (ss ts : List Stripe) (x : List ℕ) → AllByRecursion (IsStripe h) ss → AllByRecursion (IsStripe h) ts →
+      GiveOnly height 0 (all_segments ss) →
       length ts ≤ most →
       length ts < length ss → StripeFault h (spot_after height ts) tail f → flat_map stripe_bytes ss ++ x ≡ flat_map stripe_bytes ts ++ tail → ⊥
   parts_or_fault {tail} {f} ss ts x p q g le less w e =
@@ -365,8 +370,10 @@ code_front (b ∷ c) (b' ∷ d) x y e q =
     (rest.0, ap (λ z. z ∷ d) (sym first.0) ∙ ap (λ z. b ∷ z) rest.1)
 
 -- a code that has begun goes on in the same stripe
-begun_cut : {h : Fields} {Fits : List Segment → Type 0} {d y : List ℕ} → IsAccepted h → ((ss ts : List Segment) → Fits (ss ++ ts) → Fits ss) → (before ss ts : List Segment) (b : ℕ) (c x : List ℕ) →
-    flat_map segment_bytes ss ++ (stuffed (b ∷ c) ++ x) ≡ flat_map segment_bytes ts ++ (stuffed d ++ y) → AllByRecursion (IsLegal h) ss → AllByRecursion (IsLegal h) ts → Fits (before ++ ss) →
+begun_cut : {h : Fields} {Fits : List Segment → Type 0} {d y : List ℕ} → IsAccepted h → ((ss ts : List Segment) → Fits (ss ++ ts) → Fits ss) →
+    (before ss ts : List Segment) (b : ℕ) (c x : List ℕ) →
+    flat_map segment_bytes ss ++ (stuffed (b ∷ c) ++ x) ≡ flat_map segment_bytes ts ++ (stuffed d ++ y) → AllByRecursion (IsLegal h) ss → AllByRecursion (IsLegal h) ts →
+    Fits (before ++ ss) →
     EndsPieces h Fits (before ++ ts) d y → (ss ≡ ts) × (more : List ℕ) × (d ≡ (b ∷ c) ++ more)
 begun_cut {Fits} {d} {y} ok closed before [] [] b c x e p q f ends = let k = code_front (b ∷ c) d x y e ends.no_code in (refl, k.0, k.1)
 begun_cut {Fits} {d} {y} ok closed before [] (t ∷ ts) b c x e p q f ends =
@@ -391,7 +398,8 @@ begun_in_stripe {h} {ss} {b} {c} ok x t y p q e =
     begun_cut ok (λ _ _ _. tt) [] ss t.segments b c x (e ∙ cut_at_marker t y) p.legal q.legal tt (marker_ends h Any t.segments t.code t.reset y)
 
 -- in one that isn't whole
-pub begun_in_fault : {h : Fields} {height n b : ℕ} {ss : List Segment} {c tail : List ℕ} {f : Fault} → IsAccepted h → (k : ℕ) → Suits h height k → (x : List ℕ) → IsBegun h ss (b ∷ c) →
+pub begun_in_fault : {h : Fields} {height n b : ℕ} {ss : List Segment} {c tail : List ℕ} {f : Fault} → IsAccepted h → (k : ℕ) → Suits h height k → (x : List ℕ) →
+    IsBegun h ss (b ∷ c) →
     GiveOnly height n ss →
     (w : StripeFault h (spot_of height k n) tail f) → flat_map segment_bytes ss ++ (stuffed (b ∷ c) ++ x) ≡ tail → (ss ≡ w.segments) × (more : List ℕ) × (w.code ≡ (b ∷ c) ++ more)
 begun_in_fault {height} {n} {b} {ss} {c} ok k suits x p g w e =
@@ -399,12 +407,14 @@ begun_in_fault {height} {n} {b} {ss} {c} ok k suits x p g w e =
     (record { one_move = p.one_move; gives = g }) (left_ends ok height k n suits w)
 
 -- a whole stripe that is at the front of one that isn't
-pub stripe_in_fault : {h : Fields} {height n : ℕ} {tail : List ℕ} {f : Fault} → IsAccepted h → (k : ℕ) → Suits h height k → (s : Stripe) (x : List ℕ) → IsStripe h s → GiveOnly height n s.segments →
+pub stripe_in_fault : {h : Fields} {height n : ℕ} {tail : List ℕ} {f : Fault} → IsAccepted h → (k : ℕ) → Suits h height k → (s : Stripe) (x : List ℕ) → IsStripe h s →
+    GiveOnly height n s.segments →
     StripeFault h (spot_of height k n) tail f → stripe_bytes s ++ x ≡ tail → ⊥
 stripe_in_fault {height} {n} ok k suits s x p g q e = no_stripe_in_fault ok height k n suits s x p g q e
 
 module _ {h : Fields} (ok : IsAccepted h) (height most : ℕ) (suits : (k : ℕ) → k ≤ most → Suits h height k) where
-  first_on : (k n : ℕ) (ss ts : List Stripe) (x y : List ℕ) → AllByRecursion (IsStripe h) ss → AllByRecursion (IsStripe h) ts → GiveOnly height n (all_segments ss) → k + length ts ≤ most →
+  first_on : (k n : ℕ) (ss ts : List Stripe) (x y : List ℕ) → AllByRecursion (IsStripe h) ss → AllByRecursion (IsStripe h) ts → GiveOnly height n (all_segments ss) →
+      k + length ts ≤ most →
       (length ss ≤ length ts) ⊎ ((f : Fault) × StripeFault h (spot_on height k n ts) y f) → flat_map stripe_bytes ss ++ x ≡ flat_map stripe_bytes ts ++ y →
       (later : List Stripe) × (ts ≡ ss ++ later) × (x ≡ flat_map stripe_bytes later ++ y)
   first_on k n [] ts x y p q g le w e = (ts, refl, e)

@@ -58,7 +58,8 @@ module _ (h : Fields) (spot : Spot) (moves : ℕ) where
     none : spot.heights ≡ 0
     none = grind (arith, nat_tests)
 
-    went : (xs : List ℕ) → AreBytes xs → 4 ≤ length xs → big_number 4 xs ≡ spot.height → not (is_valid_length h spot.entities (big_number 4 xs)) ≡ false → SegmentAt (255 ∷ 5 ∷ xs)
+    went : (xs : List ℕ) → AreBytes xs → 4 ≤ length xs → big_number 4 xs ≡ spot.height → not (is_valid_length h spot.entities (big_number 4 xs)) ≡ false →
+        SegmentAt (255 ∷ 5 ∷ xs)
     went (x ∷ y ∷ z ∷ w ∷ xs) a long g v =
         let valid = valid_parts h spot.entities (big_number 4 (x ∷ y ∷ z ∷ w ∷ xs)) (not_false _ v) in
         record {

@@ -50,7 +50,8 @@ pub never_suits : (h : Fields) (most k : ℕ) → k ≤ most → Suits h 0 k
 never_suits h most k le one = absurd (omega arith)
 
 module _ {h : Fields} (ok : IsAccepted h) (body : List ℕ) where
-  pub changed : {m : ℕ} (n k : ℕ) (rest : List ℕ) → is_variable h ≡ true → is_valid_length h k n ≡ true → m ≡ 0 → length_fault h (spot_of 0 k m) (big_bytes 4 n ++ rest) ≡ Some Changed
+  pub changed : {m : ℕ} (n k : ℕ) (rest : List ℕ) → is_variable h ≡ true → is_valid_length h k n ≡ true → m ≡ 0 →
+      length_fault h (spot_of 0 k m) (big_bytes 4 n ++ rest) ≡ Some Changed
   changed n k rest variable valid none =
       let w = valid_parts h k n valid in
       rw none (length_changed h 0 k variable n rest (omega arith) valid (let other : n ≢ 0 = omega arith in other))

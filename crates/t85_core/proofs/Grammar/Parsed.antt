@@ -57,7 +57,8 @@ module _ (h : Fields) (height : ℕ) where
         look (fault_of segments code rest) refl (λ ss c r less b g a is. parse_stripe fuel ss c r less b g a is)
       where
         look : (o : Option Fault) → fault_of segments code rest ≡ o →
-            ((ss : List Segment) (c r : List ℕ) → length r ≤ fuel → IsBegun h ss c → GiveOnly height n ss → AreBytes r → tail ≡ flat_map segment_bytes ss ++ (stuffed c ++ r) → Parsed k n tail) →
+            ((ss : List Segment) (c r : List ℕ) → length r ≤ fuel → IsBegun h ss c → GiveOnly height n ss → AreBytes r → tail ≡ flat_map segment_bytes ss ++ (stuffed c ++ r) →
+            Parsed k n tail) →
             Parsed k n tail
         look (Some f) q further = broken f (record { segments = segments; code = code; rest = rest; bytes_are = e; begun = begun; gives = gives; rest_has = q })
         look None q further = take_piece (front_of h (spot_of height k (n + length (lengths segments))) (count_by is_move segments) (not (is_nil code)) rest all begun.one_move gives.one q) where

@@ -163,7 +163,8 @@ module _ {h : Fields} (ok : IsAccepted h) where
   header_height body never = (h.yd, inr (refl, never))
 
   -- No height is given where the look after the last stripe ended.
-  pub never_behind : {body rest : List ℕ} {n : ℕ} (ss : List Stripe) (cs : List Segment) (last : List ℕ) → length ss ≡ stripe_count h.yd h.l0 → AreStripes h ss → GiveOnly 0 0 (all_segments ss) →
+  pub never_behind : {body rest : List ℕ} {n : ℕ} (ss : List Stripe) (cs : List Segment) (last : List ℕ) → length ss ≡ stripe_count h.yd h.l0 → AreStripes h ss →
+      GiveOnly 0 0 (all_segments ss) →
       body ≡ flat_map stripe_bytes ss ++ rest → AllByRecursion (λ s. IsTrue (is_comment s)) cs → AllByRecursion (IsLegal h) cs →
       ((n : ℕ) (more : List ℕ) → is_valid_length h (length ss) n ≡ true → last ≡ segment_bytes (NewLength n) ++ more → ⊥) →
       ((text more : List ℕ) → length text < 2 ^ 32 → last ≡ segment_bytes (Comment text) ++ more → ⊥) → rest ≡ flat_map segment_bytes cs ++ last → GivesHeight h body n → ⊥
@@ -178,7 +179,8 @@ module _ {h : Fields} (ok : IsAccepted h) where
         no_look (length ss) n cs g.segments last g.rest c l (g.behind (sym same ∙ many)) g.begun.legal (rw same g.valid) no_height no_comment (sym e ∙ front.1)
 
   -- and the header's is that of the image
-  pub height_of_ended : {body rest : List ℕ} (ss : List Stripe) (cs : List Segment) (last : List ℕ) → length ss ≡ stripe_count h.yd h.l0 → AreStripes h ss → GiveOnly 0 0 (all_segments ss) →
+  pub height_of_ended : {body rest : List ℕ} (ss : List Stripe) (cs : List Segment) (last : List ℕ) → length ss ≡ stripe_count h.yd h.l0 → AreStripes h ss →
+      GiveOnly 0 0 (all_segments ss) →
       body ≡ flat_map stripe_bytes ss ++ rest → AllByRecursion (λ s. IsTrue (is_comment s)) cs → AllByRecursion (IsLegal h) cs →
       ((n : ℕ) (more : List ℕ) → is_valid_length h (length ss) n ≡ true → last ≡ segment_bytes (NewLength n) ++ more → ⊥) →
       ((text more : List ℕ) → length text < 2 ^ 32 → last ≡ segment_bytes (Comment text) ++ more → ⊥) → rest ≡ flat_map segment_bytes cs ++ last → IsHeight h body h.yd
@@ -194,7 +196,8 @@ module _ {h : Fields} (ok : IsAccepted h) where
         other cut.broken.fault
 
   module _ (body : List ℕ) (all : AreBytes body) (variable : is_variable h ≡ true) where
-    enough_there : (ss : List Stripe) (rest : List ℕ) → length ss ≡ stripe_count h.yd h.l0 → AreStripes h ss → GiveOnly 0 0 (all_segments ss) → body ≡ flat_map stripe_bytes ss ++ rest →
+    enough_there : (ss : List Stripe) (rest : List ℕ) → length ss ≡ stripe_count h.yd h.l0 → AreStripes h ss → GiveOnly 0 0 (all_segments ss) →
+        body ≡ flat_map stripe_bytes ss ++ rest →
         (n : ℕ) × IsHeight h body n
     enough_there ss rest many each gives is = went (look_at (length rest) (length ss) rest (omega arith) (all_right (λ x. x < 256) (flat_map stripe_bytes ss) rest (rw (← is) all))) where
       went : Look (length ss) rest → (n : ℕ) × IsHeight h body n
