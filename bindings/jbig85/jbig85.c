@@ -15,8 +15,10 @@ enum { NOT_BEGUN, BEGUN, ENDED };
 
 /* The state of libt85 fits exactly into the space that the header reserves for it. */
 #define ENCODER_SIZE sizeof(((struct jbg85_enc_state *)0)->encoder)
+#define CHOICE_SIZE sizeof(((struct jbg85_enc_state *)0)->choice)
 #define DECODER_SIZE sizeof(((struct jbg85_dec_state *)0)->decoder)
 typedef char encoder_fits[ENCODER_SIZE == T85_ENCODER_LEAST ? 1 : -1];
+typedef char choice_fits[CHOICE_SIZE == sizeof(t85_choice) ? 1 : -1];
 typedef char decoder_fits[DECODER_SIZE == sizeof(t85_decoder) ? 1 : -1];
 
 /* With longs of 64 bits, the public fields are at JBIG-KIT's places. */
@@ -33,6 +35,11 @@ typedef char dec_fits[sizeof(long) != 8 || (sizeof(struct jbg85_dec_state) == 43
 static t85_encoder *encoder_of(struct jbg85_enc_state *s)
 {
     return (t85_encoder *)(void *)s->encoder;
+}
+
+static t85_choice *choice_of(struct jbg85_enc_state *s)
+{
+    return (t85_choice *)(void *)s->choice;
 }
 
 static t85_decoder *decoder_of(struct jbg85_dec_state *s)
@@ -178,6 +185,7 @@ static bool take(struct jbg85_enc_state *s, step what, const unsigned char *line
         status = t85_encode_start(encoder_of(s), ENCODER_SIZE, width, word(s->y0), &options,
                                   s->comment, s->comment ? s->comment_len : 0, window, window_len,
                                   stream, room, &written);
+        t85_choice_start(choice_of(s), CHOICE_SIZE, width, &options);
     } else {
         put_rows(window, width, s->y, above, second);
         if (what == ROW)
@@ -202,6 +210,15 @@ static void finish(struct jbg85_enc_state *s)
     stop(s);
 }
 
+/* Moves the adaptive pixel as libjbig does, if a stripe begins with the next row: within a stripe, libt85 rejects the
+   offset. */
+static void move(struct jbg85_enc_state *s)
+{
+    if (s->y > 0 && t85_encode_offset(encoder_of(s), s->offset) == T85_OK &&
+        t85_choice_offset(choice_of(s), s->offset, &s->offset) == T85_OK)
+        t85_encode_offset(encoder_of(s), s->offset);
+}
+
 /* Writes the head of the stream, if this was not done, and returns whether it is written. */
 static bool begin(struct jbg85_enc_state *s)
 {
@@ -224,8 +241,13 @@ void jbg85_enc_lineout(struct jbg85_enc_state *s, unsigned char *line, unsigned 
 {
     if (s->stage == ENDED || s->y >= s->y0)
         return;
-    if (!begin(s) || !take(s, ROW, line, prevline, prevprevline))
+    if (!begin(s))
         return;
+    move(s);
+    if (!take(s, ROW, line, prevline, prevprevline))
+        return;
+    t85_choice_row(choice_of(s), line, t85_row_bytes(word(s->x0)), s->y > 0 ? prevline : NULL,
+                   s->y > 0 && prevline ? t85_row_bytes(word(s->x0)) : 0);
     s->y++;
     if (s->y == s->y0)
         finish(s);

@@ -40,6 +40,7 @@ extern "C" {
 
 /* The sizes of libt85's states, in longs. */
 #define JBG85_ENCODER_LONGS (4664 / sizeof(unsigned long))
+#define JBG85_CHOICE_LONGS (528 / sizeof(unsigned long))
 #define JBG85_DECODER_LONGS (1280 / sizeof(unsigned long))
 
 struct jbg85_enc_state {
@@ -50,10 +51,11 @@ struct jbg85_enc_state {
     unsigned mx;     /* greatest offset of the adaptive template pixel */
     unsigned long y; /* number of rows encoded */
     /* Fields of our own, in the place of libjbig's: */
-    int stage;  /* 0 before the first row, 1 after it, 2 if nothing more is written */
-    int status; /* 0, or the status of t85.h because of which nothing more is written */
+    unsigned char stage;  /* 0 before the first row, 1 after it, 2 if nothing more is written */
+    unsigned char offset; /* of the adaptive template pixel */
+    int status;           /* 0, or the status of t85.h because of which nothing more is written */
     unsigned long encoder[JBG85_ENCODER_LONGS];
-    unsigned long unused[528 / sizeof(unsigned long)];
+    unsigned long choice[JBG85_CHOICE_LONGS];
     /* As in JBIG-KIT's header again: */
     void (*data_out)(unsigned char *start, size_t len, void *file);
     void *file;
