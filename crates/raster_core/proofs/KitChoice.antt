@@ -5,7 +5,7 @@ use Rattle.std.specs.List.{list_all}
 use Rattle.std.proofs.Math.Bool.{and-false}
 use Rattle.std.proofs.lemmas.Bool.Decides.{nat_tests}
 use Rattle.raster_core.specs.Lines.{numbers_from}
-use Rattle.raster_core.specs.Choice.{Counting, Counts, first_best, greatest_of, is_worth, least_of, offset_by}
+use Rattle.raster_core.specs.Choice.{Counting, PixelCounts, first_best, greatest_of, is_worth, least_of, offset_by}
 use Rattle.raster_core.specs.Counting.{HasCounts, counting_of, counts_in, is_offered}
 use Rattle.raster_core.specs.Offset.{candidates}
 use Rattle.raster_core.specs.Tally.{least_lag}
@@ -64,7 +64,7 @@ least_more at limit least lag h = rw (next_count least lag h, min_last at limit 
 -- ---- the first offset with the greatest count
 
 -- what the counts say of it
-pub record IsFirstBest (n : Counts) (least end best : ℕ) : Type 0 where
+pub record IsFirstBest (n : PixelCounts) (least end best : ℕ) : Type 0 where
   pub place : (best ≡ 0) ⊎ ((least ≤ best) × (best < end))
   pub nominal : n.at 0 ≤ n.at best
   pub most : (u : ℕ) → least ≤ u → u < end → n.at u ≤ n.at best
@@ -72,7 +72,7 @@ pub record IsFirstBest (n : Counts) (least end best : ℕ) : Type 0 where
   pub first : (u : ℕ) → least ≤ u → u < best → n.at u < n.at best
 
 -- whether an offset has the greatest count
-abbrev is_best : Counts → ℕ → ℕ → ℕ → Bool
+abbrev is_best : PixelCounts → ℕ → ℕ → ℕ → Bool
 is_best n least count t = nat_le (n.at 0) (n.at t) && list_all (λ u. nat_le (n.at u) (n.at t)) (numbers_from least count)
 
 le_true : (a b : ℕ) → a ≤ b → nat_le a b ≡ true
@@ -81,16 +81,16 @@ le_true a b h = grind (arith, nat_tests)
 le_false : (a b : ℕ) → b < a → nat_le a b ≡ false
 le_false a b h = grind (arith, nat_tests)
 
-hit : (n : Counts) (least count end best : ℕ) → count ≡ end - least → IsFirstBest n least end best → is_best n least count best ≡ true
+hit : (n : PixelCounts) (least count end best : ℕ) → count ≡ end - least → IsFirstBest n least end best → is_best n least count best ≡ true
 hit n least count end best long h =
     rw (le_true (n.at 0) (n.at best) h.nominal)
     (all_true (λ u. nat_le (n.at u) (n.at best)) least count (λ u from to. le_true (n.at u) (n.at best) (h.most u from (omega arith))))
 
-miss : (n : Counts) (least count end best t : ℕ) → count ≡ end - least → least ≤ best → best < end → n.at t < n.at best → is_best n least count t ≡ false
+miss : (n : PixelCounts) (least count end best t : ℕ) → count ≡ end - least → least ≤ best → best < end → n.at t < n.at best → is_best n least count t ≡ false
 miss n least count end best t long low high less =
     rw (one_false (λ u. nat_le (n.at u) (n.at t)) least count best low (omega arith) (le_false (n.at best) (n.at t) less)) (and-false (nat_le (n.at 0) (n.at t)))
 
-pub first_best_is : (n : Counts) (least count end best : ℕ) → 1 ≤ least → count ≡ end - least → IsFirstBest n least end best →
+pub first_best_is : (n : PixelCounts) (least count end best : ℕ) → 1 ≤ least → count ≡ end - least → IsFirstBest n least end best →
     first_best n (0 ∷ numbers_from least count) ≡ Some best
 first_best_is n least count end best some long h =
     elim h.place [
@@ -132,7 +132,7 @@ is_offered_by c offset h =
     either true = refl
     either false = refl
 
-count_there : (t : Choice) (n : Counts) (current : ℕ) → HasCounts t n → Offered t current → slice_index t.counts current ≡ n.at current
+count_there : (t : Choice) (n : PixelCounts) (current : ℕ) → HasCounts t n → Offered t current → slice_index t.counts current ≡ n.at current
 count_there t n current h offered =
     elim offered [
       | inl e ↦ rw e h.nominal
@@ -147,16 +147,16 @@ small t current offered =
     ]
 
 -- the test is that of the counts
-pub worth_of : (t : Choice) (n : Counts) (best worst current : ℕ) → HasCounts t n → Offered t current →
+pub worth_of : (t : Choice) (n : PixelCounts) (best worst current : ℕ) → HasCounts t n → Offered t current →
     best ≡ greatest_of (map n.at (lags_of t)) → worst ≡ least_of n.pixels (map n.at (lags_of t)) →
     is_worth (counts_in t) best worst current ≡ is_worth n (greatest_of (map n.at (lags_of t))) (least_of n.pixels (map n.at (lags_of t))) current
 worth_of t n best worst current h offered e f =
     rw (h.pixels, count_there t n current h offered, e, f) refl
 
-pub moved : (n : Counts) (lags : List ℕ) (current unmoved best : ℕ) → is_worth n (greatest_of (map n.at lags)) (least_of n.pixels (map n.at lags)) current ≡ true → first_best n (0 ∷ lags) ≡ Some best →
+pub moved : (n : PixelCounts) (lags : List ℕ) (current unmoved best : ℕ) → is_worth n (greatest_of (map n.at lags)) (least_of n.pixels (map n.at lags)) current ≡ true → first_best n (0 ∷ lags) ≡ Some best →
     best ≡ offset_by n lags current unmoved
 moved n lags current unmoved best e f = rw (e, f) refl
 
-pub stays : (n : Counts) (lags : List ℕ) (current unmoved : ℕ) → is_worth n (greatest_of (map n.at lags)) (least_of n.pixels (map n.at lags)) current ≡ false →
+pub stays : (n : PixelCounts) (lags : List ℕ) (current unmoved : ℕ) → is_worth n (greatest_of (map n.at lags)) (least_of n.pixels (map n.at lags)) current ≡ false →
     unmoved ≡ offset_by n lags current unmoved
 stays n lags current unmoved e = rw e refl

@@ -11,7 +11,7 @@ use Rattle.std.proofs.lemmas.List.Sums.{count_by-le-length, sum_by-cons, sum_by_
 use Rattle.qm_core.specs.Place.{same}
 use Rattle.raster_core.specs.Raster.{pixel_at, pixel_left}
 use Rattle.raster_core.specs.Lines.{Lines, adaptive, may_be_typical, numbers_from}
-use Rattle.raster_core.specs.Choice.{Counting, Counts, column_agreement, column_count, counted_rows, counts_of, is_plain}
+use Rattle.raster_core.specs.Choice.{Counting, PixelCounts, column_agreement, column_count, counted_rows, counts_of, is_plain}
 use Rattle.raster_core.specs.Counting.{AddsAt, AreLines, HasCounted, HasCounts, counting_of, fit_lines, fit_row}
 use Rattle.raster_core.specs.Tally.{least_lag}
 use Rattle.raster_core.specs.declared.columns.Columns.{Columns}
@@ -65,7 +65,7 @@ one_typical : (c : Counting) (lines : Lines) → is_plain c lines ≡ false → 
 one_typical c lines e = rw e refl
 
 -- the counts are those of the counted rows
-abbrev by_rows : Counting → List Lines → Counts
+abbrev by_rows : Counting → List Lines → PixelCounts
 by_rows c rows = record { pixels = column_count c * length rows; at = λ offset. sum_by (column_agreement c offset) rows }
 
 pub counts_full : (c : Counting) (stripe : List Lines) (lines : Lines) → 2048 < (counts_of c stripe).pixels → counts_of c (stripe ++ lines ∷ []) ≡ counts_of c stripe
@@ -91,7 +91,7 @@ pub none_counted : (t : Choice) → t.pixels ≡ 0 → t.counts ≡ replicate 12
 none_counted t e f =
     let c = counting_of t in
     let none : counts_of c [] ≡ by_rows c [] = ap (by_rows c) (take_all (2048 / column_count c + 1) [] (omega arith)) in
-    let P : Counts → Type 0 = λ n. HasCounts t n in
+    let P : PixelCounts → Type 0 = λ n. HasCounts t n in
     subst P (sym none) (record {
       pixels = e ∙ (omega arith);
       nominal = rw f refl;
@@ -187,7 +187,7 @@ row_counted old new columns row above stripe lines adds k are few plain =
     let rows : List Lines = counted_rows c stripe in
     let counted : column_count c * length rows ≤ 2048 = omega (arith, k.pixels) in
     let P : Counting → Type 0 = λ d. HasCounts new (counts_of d (stripe ++ fit ∷ [])) in
-    let Q : Counts → Type 0 = λ n. HasCounts new n in
+    let Q : PixelCounts → Type 0 = λ n. HasCounts new n in
     subst P (sym adds.same)
     (subst Q (sym (counts_more c stripe fit (rw plain refl) (omega arith) counted))
     (record {

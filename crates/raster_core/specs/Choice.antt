@@ -12,6 +12,9 @@ pub record Counting : Type 0 where
   pub most : ℕ
   pub width : ℕ
 
+abbrev pub counting_with : Mode → ℕ → ℕ → Counting
+counting_with mode most width = record { mode = mode; most = most; width = width }
+
 -- ---- what is counted
 
 -- the number of columns that are counted
@@ -35,11 +38,11 @@ abbrev pub column_agreement : Counting → ℕ → Lines → ℕ
 column_agreement c offset lines = count_by (λ x. same (pixel_at lines.row x) (adaptive lines offset x)) (counted_columns c)
 
 -- the number of pixels counted in a stripe, and at each offset the number of those that equal the adaptive pixel
-pub record Counts : Type 0 where
+pub record PixelCounts : Type 0 where
   pub pixels : ℕ
   pub at : ℕ → ℕ
 
-abbrev pub counts_of : Counting → List Lines → Counts
+abbrev pub counts_of : Counting → List Lines → PixelCounts
 counts_of c stripe = record {
   pixels = column_count c * length (counted_rows c stripe);
   at = λ offset. sum_by (column_agreement c offset) (counted_rows c stripe);
@@ -63,9 +66,9 @@ leads pixels best other = nat_lt best other || (nat_lt (pixels - best) (best - o
 
 -- Whether the adaptive pixel moves away from the current offset, if these are the best and the worst count of a lag: more than
 -- 2,048 pixels were counted; the best count misses less than an eighth of them; it leads that of the current offset, and that of
--- its inverse; and the worst count is more than a quarter below it. Away from the nominal position, JBIG-KIT also wants the best
--- and the worst of all counts to be more than an eighth apart, as they then are.
-abbrev pub is_worth : Counts → ℕ → ℕ → ℕ → Bool
+-- its inverse; and the worst count is more than a quarter below it. Away from the nominal position, JBIG-KIT also requires that the
+-- best and the worst of all counts are more than an eighth apart, as they then are.
+abbrev pub is_worth : PixelCounts → ℕ → ℕ → ℕ → Bool
 is_worth n best worst current =
     nat_lt 2048 n.pixels
     && nat_lt (n.pixels - best) (n.pixels / 8)
@@ -74,11 +77,11 @@ is_worth n best worst current =
     && nat_lt (n.pixels / 4) (best - worst)
 
 -- the first of these offsets with the greatest count
-abbrev pub first_best : Counts → List ℕ → Option ℕ
+abbrev pub first_best : PixelCounts → List ℕ → Option ℕ
 first_best n offsets = find (λ t. list_all (λ u. nat_le (n.at u) (n.at t)) offsets) offsets
 
 -- The offset for the next stripe, by the counts of the lags. The nominal position is the best offset if no lag has a greater count.
-abbrev pub offset_by : Counts → List ℕ → ℕ → ℕ → ℕ
+abbrev pub offset_by : PixelCounts → List ℕ → ℕ → ℕ → ℕ
 offset_by n lags current unmoved =
     if is_worth n (greatest_of (map n.at lags)) (least_of n.pixels (map n.at lags)) current then unwrap_or (first_best n (0 ∷ lags)) unmoved else unmoved
 

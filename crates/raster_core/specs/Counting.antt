@@ -2,7 +2,7 @@
 use Rattle.std.specs.Int.{div_ceil}
 use Rattle.std.specs.Prelude.{ℕ, ◌+◌, ◌%◌, ◌*◌, ◌^◌, ◌≡◌, ◌≤◌, ◌==◌, ◌&&◌, ◌||◌, nat_le, not, min, Bool, List, map, slice_index}
 use Rattle.raster_core.specs.Lines.{Lines, numbers_from}
-use Rattle.raster_core.specs.Choice.{Counting, Counts, counts_of}
+use Rattle.raster_core.specs.Choice.{Counting, PixelCounts, counts_of}
 use Rattle.raster_core.specs.Packed.{packed_row}
 use Rattle.raster_core.specs.Raster.{pixel_at}
 use Rattle.raster_core.specs.Tally.{least_lag}
@@ -27,11 +27,11 @@ abbrev pub is_offered : Counting → ℕ → Bool
 is_offered c offset = (offset == 0) || (nat_le (least_lag c.mode.two_line) offset && nat_le offset c.most)
 
 -- the stored counts
-abbrev pub counts_in : Choice → Counts
+abbrev pub counts_in : Choice → PixelCounts
 counts_in c = record { pixels = c.pixels; at = slice_index c.counts }
 
 -- it has these counts, for the nominal position and for each lag
-pub record HasCounts (c : Choice) (n : Counts) : Type 0 where
+pub record HasCounts (c : Choice) (n : PixelCounts) : Type 0 where
   pub pixels : c.pixels ≡ n.pixels
   pub nominal : slice_index c.counts 0 ≡ n.at 0
   pub lags : (lag : ℕ) → least_lag (not (c.two_line == 0)) ≤ lag → lag ≤ min c.most 127 → slice_index c.counts lag ≡ n.at lag
