@@ -109,6 +109,12 @@ static uint8_t see_best_offset(const t85_encoder *encoder, const uint8_t *rows, 
     return in_order ? see(rows, window, scratch, NULL) : 255;
 }
 
+static uint8_t see_choice_row(t85_choice *choice, const uint8_t *row, size_t row_len,
+                              const uint8_t *above, size_t above_len)
+{
+    return choice && row_len == 1 && above_len == 2 ? see(row, above, NULL, NULL) : 255;
+}
+
 static uint8_t see_encode_end(t85_encoder *encoder, uint8_t *window, size_t window_len,
                               uint8_t *stream, size_t stream_room, size_t *written)
 {
@@ -149,6 +155,7 @@ typedef struct {
                               size_t, size_t *);
     uint8_t (*t85_best_offset)(const t85_encoder *, const uint8_t *, size_t, uint8_t *, size_t,
                                uint8_t *, size_t, uint8_t *);
+    uint8_t (*t85_choice_row)(t85_choice *, const uint8_t *, size_t, const uint8_t *, size_t);
     uint8_t (*t85_encode_end)(t85_encoder *, uint8_t *, size_t, uint8_t *, size_t, size_t *);
     uint8_t (*t85_pbm_header)(t85_pbm *, const uint8_t *, size_t, size_t *);
     uint8_t (*t85_pbm_row)(t85_pbm *, const uint8_t *, size_t, uint8_t *, size_t, size_t *);
@@ -173,8 +180,8 @@ static void passed(uint8_t *a)
     static const calls seen = {see_header,       see_info,        see_encode,
                                see_decode,       see_decode_rows, see_message,
                                see_encode_start, see_encode_row,  see_best_offset,
-                               see_encode_end,   see_pbm_header,  see_pbm_row,
-                               see_raw_header,   see_set_unused_fields,
+                               see_choice_row,   see_encode_end,  see_pbm_header,
+                               see_pbm_row,      see_raw_header,  see_set_unused_fields,
                                see_set_height,   see_encode_abort};
     uint8_t *b = a ? a + 1 : NULL, *c = a ? a + 2 : NULL, *d = a ? a + 3 : NULL;
     t85_header_fields fields = {8, 0, 0, 0, 0};
@@ -182,6 +189,7 @@ static void passed(uint8_t *a)
     t85_summary summary = {8, 0, 0, 0, 0, 0, 0, 0, 0};
     t85_options options = T85_OPTIONS;
     t85_encoder encoder;
+    t85_choice choice;
     t85_pbm pbm;
     size_t written = 8;
     uint32_t rows_written = 6;
@@ -201,6 +209,7 @@ static void passed(uint8_t *a)
               seen.t85_encode_start(&encoder, 1, 2, 3, &options, a, 4, b, 5, c, 6, &written), 3, a);
     have_come("t85_encode_row", seen.t85_encode_row(&encoder, a, 1, b, 2, c, 3, &written), 3, a);
     have_come("t85_best_offset", seen.t85_best_offset(&encoder, a, 1, b, 2, c, 3, &offset), 3, a);
+    have_come("t85_choice_row", seen.t85_choice_row(&choice, a, 1, b, 2), 2, a);
     have_come("t85_encode_end", seen.t85_encode_end(&encoder, a, 1, b, 2, &written), 2, a);
     have_come("t85_pbm_header", seen.t85_pbm_header(&pbm, a, 1, &written), 1, a);
     have_come("t85_pbm_row", seen.t85_pbm_row(&pbm, a, 1, b, 2, &written), 2, a);
@@ -419,11 +428,12 @@ static void by_address(buffer stream)
     static const calls table = {&t85_header,       &t85_info,        &t85_encode,
                                 &t85_decode,       &t85_decode_rows, &t85_message,
                                 &t85_encode_start, &t85_encode_row,  &t85_best_offset,
-                                &t85_encode_end,   &t85_pbm_header,  &t85_pbm_row,
-                                &t85_raw_header,   &t85_set_unused_fields,
+                                &t85_choice_row,   &t85_encode_end,  &t85_pbm_header,
+                                &t85_pbm_row,      &t85_raw_header,  &t85_set_unused_fields,
                                 &t85_set_height,   &t85_encode_abort};
     t85_options options = T85_OPTIONS;
     t85_encoder encoder;
+    t85_choice choice;
     t85_header_fields fields, same;
     t85_summary summary;
     size_t written = 77;
@@ -448,6 +458,10 @@ static void by_address(buffer stream)
             T85_SHORT_HEADER)
         fail("t85_decode or t85_decode_rows in parentheses");
     memset(&encoder, 0, sizeof encoder);
+    memset(&choice, 0, sizeof choice);
+    if ((t85_choice_row)(&choice, T85_NOTHING, 0, T85_NOTHING, 0) != T85_NOT_BEGUN ||
+        (*table.t85_choice_row)(&choice, T85_NOTHING, 0, T85_NOTHING, 0) != T85_NOT_BEGUN)
+        fail("t85_choice_row in parentheses");
     if ((t85_encode_start)(&encoder, sizeof encoder, 8, 1, &options, T85_NOTHING, 0, T85_NOTHING, 0,
                            T85_NOTHING, 0, &written) != T85_SHORT_WINDOW ||
         (*table.t85_encode_row)(&encoder, T85_NOTHING, 0, T85_NOTHING, 0, T85_NOTHING, 0,

@@ -92,30 +92,100 @@ static uint8_t best(writer *by, const uint8_t *rows, size_t rows_len, uint8_t wa
     return offset;
 }
 
-/* Encodes an image with these offsets, or with the best ones; the stream must decode to the image.
- */
-static size_t encode_with(chooser choose, uint32_t width, uint32_t height, buffer rows,
-                          const t85_options *options)
+/* Checks a status, and that a rejected call changes nothing. */
+static void has_status(const char *call, uint8_t status, uint8_t wanted, const t85_choice *kept,
+                       const t85_choice *choice)
+{
+    if (status != wanted || (wanted && memcmp(kept, choice, sizeof *kept)))
+        fail("%s: status %d, expected %d, or the choice has changed", call, status, wanted);
+}
+
+static void pass(t85_choice *choice, const uint8_t *row, size_t row_len, const uint8_t *above,
+                 size_t above_len, uint8_t wanted)
+{
+    t85_choice kept = *choice;
+    has_status("t85_choice_row", t85_choice_row(choice, row, row_len, above, above_len), wanted,
+               &kept, choice);
+}
+
+/* Returns the offset for the next stripe, or 77. */
+static uint8_t next_offset(t85_choice *choice, unsigned current, uint8_t wanted)
+{
+    t85_choice kept = *choice;
+    uint8_t offset = 77;
+    has_status("t85_choice_offset", t85_choice_offset(choice, (uint8_t)current, &offset), wanted,
+               &kept, choice);
+    if (wanted && offset != 77)
+        fail("t85_choice_offset: an offset with status %d", wanted);
+    return offset;
+}
+
+static void start(t85_choice *choice, size_t size, uint32_t width, const t85_options *options,
+                  uint8_t wanted)
+{
+    t85_choice kept = *choice;
+    has_status("t85_choice_start", t85_choice_start(choice, size, width, options), wanted, &kept,
+               choice);
+}
+
+/* Starts a choice, and checks the calls that are rejected. */
+static t85_choice chosen_for(uint32_t width, const t85_options *options)
+{
+    t85_choice choice;
+    t85_options other = *options;
+    uint8_t byte = 0;
+    unsigned least = options->options & T85_TWO_LINES ? 5 : 3, offset;
+    memset(&choice, 0, sizeof choice);
+    pass(&choice, &byte, 1, &byte, 1, T85_NOT_BEGUN);
+    next_offset(&choice, 0, T85_NOT_BEGUN);
+    other.version = 2;
+    other.most_offset = 128;
+    start(&choice, sizeof choice, 0, &other, T85_OTHER_VERSION);
+    other.version = options->version;
+    start(&choice, sizeof choice, 0, &other, T85_OFFSET_LARGE);
+    start(&choice, sizeof choice - 1, width, options, T85_OTHER_VERSION);
+    start(&choice, sizeof choice + 1, width, options, T85_OTHER_VERSION);
+    start(&choice, sizeof choice, 0, options, T85_NO_PIXELS);
+    start(&choice, sizeof choice, T85_MOST_WIDTH + 1, options, T85_IMAGE_WIDE);
+    start(&choice, sizeof choice, width, options, T85_OK);
+    pass(&choice, &byte, 0, &byte, 1, T85_SHORT_ROW);
+    if (width > 8)
+        pass(&choice, &byte, 1, NULL, 0, T85_SHORT_ROW);
+    for (offset = 1; offset < 256; offset++)
+        if (offset < least || offset > options->most_offset)
+            next_offset(&choice, offset, T85_OFFSET_LARGE);
+    return choice;
+}
+
+/* Encodes an image with these offsets, with JBIG-KIT's, or with the best ones; the stream must decode to
+   the image. */
+static size_t encode_with(chooser choose, t85_choice *choice, uint32_t width, uint32_t height,
+                          buffer rows, const t85_options *options)
 {
     size_t row = t85_row_bytes(width), len;
     writer by = begun(width, height, options);
     buffer again = filled(rows.len);
     uint32_t y, count = 0;
+    uint8_t offset = 0;
     for (y = 0; y < height; y++) {
         const uint8_t *next = rows.bytes + y * row;
         size_t left = rows.len - y * row;
-        uint8_t offset;
+        bool top = y == 0 || (options->reset && y % options->stripe_rows == 0);
         if (y % options->stripe_rows) {
             rejected(T85_IN_STRIPE, &by, 0);
             best(&by, next, left, T85_IN_STRIPE);
         } else {
             allowed_only(&by, options);
             best(&by, next, row - 1, T85_ROWS_MISSING);
-            offset = choose ? choose(y, options) : best(&by, next, left, T85_OK);
+            offset = choose   ? choose(y, options)
+                     : choice ? next_offset(choice, offset, T85_OK)
+                              : best(&by, next, left, T85_OK);
             if (t85_encode_offset(&by.encoder, offset))
                 fail("t85_encode_offset: %u is not accepted", offset);
         }
         put(&by, next, row);
+        if (choice)
+            pass(choice, next, row, top ? NULL : next - row, top ? 0 : row, T85_OK);
     }
     rejected(T85_NO_MORE_ROWS, &by, 0);
     best(&by, rows.bytes, rows.len, T85_NO_MORE_ROWS);
@@ -137,6 +207,7 @@ void offsets(buffer rows, uint32_t width, uint32_t height)
     static const uint32_t kinds[] = {0, T85_TYPICAL, T85_TYPICAL | T85_TWO_LINES};
     t85_options options = T85_OPTIONS;
     writer zeros;
+    t85_choice choice;
     unsigned kind, reset;
     memset(&zeros, 0, sizeof zeros);
     rejected(T85_NOT_BEGUN, &zeros, 0);
@@ -146,8 +217,10 @@ void offsets(buffer rows, uint32_t width, uint32_t height)
             options.options = kinds[kind];
             options.reset = reset;
             options.stripe_rows = height / 5 + 1;
-            encode_with(nominal, width, height, rows, &options);
-            encode_with(in_turn, width, height, rows, &options);
-            encode_with(NULL, width, height, rows, &options);
+            encode_with(nominal, NULL, width, height, rows, &options);
+            encode_with(in_turn, NULL, width, height, rows, &options);
+            encode_with(NULL, NULL, width, height, rows, &options);
+            choice = chosen_for(width, &options);
+            encode_with(NULL, &choice, width, height, rows, &options);
         }
 }

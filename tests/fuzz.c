@@ -284,8 +284,8 @@ static void encoder_of_any_bytes(uint32_t width, uint32_t height, const t85_opti
     }
 }
 
-/* Chooses the offset before row y, at random or by t85_best_offset, or neither. */
-static void choose(t85_encoder *encoder, uint32_t y, uint32_t height, const t85_options *options)
+/* Chooses the offset before row y, at random, by t85_best_offset, by t85_choice_offset, or not at all. */
+static void choose(t85_encoder *encoder, t85_choice *choice, uint32_t y, uint32_t height, const t85_options *options)
 {
     size_t row = lines.len / 3;
     uint32_t least = options->options & T85_TWO_LINES ? 5 : 3, offset = roll(2) ? roll(256) : 0;
@@ -299,6 +299,11 @@ static void choose(t85_encoder *encoder, uint32_t y, uint32_t height, const t85_
                               again.len, &best) == wanted);
         CHECK(wanted ? best == 200 : t85_encode_offset(encoder, best) == T85_OK);
     }
+    if (roll(3) == 0) {
+        best = 200;
+        CHECK(t85_choice_offset(choice, (uint8_t)offset, &best) == (allowed ? T85_OK : T85_OFFSET_LARGE));
+        CHECK(allowed ? t85_encode_offset(encoder, best) == wanted : best == 200);
+    }
 }
 
 /* Encodes the same image with offsets that the caller chooses; it is decoded again. */
@@ -307,14 +312,19 @@ static void by_choice(uint32_t width, uint32_t height, const t85_options *option
     static uint8_t chosen[2 * PLACE];
     size_t row = t85_row_bytes(width), at, more;
     t85_encoder *encoder;
+    t85_choice choice;
     uint32_t y;
     lend(&state, sizeof *encoder);
     encoder = (t85_encoder *)state.bytes;
+    CHECK(t85_choice_start(&choice, sizeof choice, width, options) == T85_OK);
     lend(&lines, 3 * row);
     CHECK(t85_encode_start(encoder, sizeof *encoder, width, height, options, comment.bytes, comment.len, lines.bytes,
                            lines.len, chosen, sizeof chosen, &at) == T85_OK);
     for (y = 0; y <= height; y++) {
-        choose(encoder, y, height, options);
+        choose(encoder, &choice, y, height, options);
+        if (y < height)
+            CHECK(t85_choice_row(&choice, rows.bytes + y * row, row, y ? rows.bytes + (y - 1) * row : NULL, y ? row : 0) ==
+                  T85_OK);
         CHECK(put_row(encoder, y < height ? rows.bytes + y * row : NULL, row, (size_t)t85_encode_room(encoder), &more) ==
               T85_OK);
         CHECK(more <= sizeof chosen - at);

@@ -11,8 +11,9 @@ const KINDS = {
   t85_version: "", t85_window_bytes: "w", t85_message: "wpp", t85_header: "ppp", t85_info: "ppp", t85_stream_facts: "ppp", t85_next_part: "ppp",
   t85_encode: "wwppppppppppp", t85_encode_bound: "wwpp", t85_decode: "ppwppppp", t85_decode_rows: "ppwpppppp", t85_decode_start: "ppw",
   t85_decode_bytes: "ppppppp", t85_decode_end: "pppp", t85_decode_height: "p", t85_decode_certain: "p", t85_encode_start: "ppwwpppppppp",
-  t85_encode_row: "pppppppp", t85_encode_offset: "pw", t85_best_offset: "pppppppp", t85_encode_end: "pppppp", t85_encode_abort: "pppp", t85_encode_rows_left: "p",
-  t85_encode_room: "p", t85_pbm_start: "pp", t85_pbm_header: "pppp", t85_pbm_row: "pppppp", t85_pbm_end: "p",
+  t85_encode_row: "pppppppp", t85_encode_offset: "pw", t85_best_offset: "pppppppp", t85_choice_start: "ppwp", t85_choice_row: "ppppp",
+  t85_choice_offset: "pwp", t85_encode_end: "pppppp", t85_encode_abort: "pppp", t85_encode_rows_left: "p", t85_encode_room: "p",
+  t85_pbm_start: "pp", t85_pbm_header: "pppp", t85_pbm_row: "pppppp", t85_pbm_end: "p",
   t85_raw_header: "ppp", t85_set_unused_fields: "ppwww", t85_set_height: "pp",
 };
 let free = memory.buffer.byteLength;
@@ -122,6 +123,13 @@ assert.deepEqual([...body, ...bytes(room, word(written))], BLACK.slice(20));
 assert.equal(call("t85_encode_end", encoder, window, 300, room, 4096, written), 54);
 assert.deepEqual([start(5360, 8), call("t85_encode_abort", encoder, room, 1, written), call("t85_encode_abort", encoder, room, 2, written)], [0, 18, 0]);
 assert.deepEqual([word(written), ...bytes(room, 2)], [2, 0xff, 4]);
+
+const choice = place(528), above = place(1);
+assert.deepEqual([call("t85_choice_row", choice, rows, 1, above, 1), call("t85_choice_offset", choice, 0, taken)], [53, 53]);
+assert.deepEqual([call("t85_choice_start", choice, 527, 8, options()), call("t85_choice_start", choice, 528, 8, options())], [50, 0]);
+assert.deepEqual([call("t85_choice_row", choice, rows, 0, above, 1), call("t85_choice_row", choice, rows, 1, above, 1)], [55, 0]);
+bytes(taken, 1)[0] = 77;
+assert.deepEqual([call("t85_choice_offset", choice, 3, taken), bytes(taken, 1)[0], call("t85_choice_offset", choice, 0, taken), bytes(taken, 1)[0]], [22, 77, 0, 0]);
 
 const pbm = place(64), text = place(new TextEncoder().encode("P1 3 1 1 1 0"));
 assert.deepEqual([call("t85_pbm_header", pbm, text, 12, taken), call("t85_pbm_row", pbm, text, 12, room, 1, taken), call("t85_pbm_end", pbm)], [53, 53, 53]);

@@ -232,6 +232,50 @@ class RowByRow(unittest.TestCase):
         self.refused(56, encoder.best_offset, b"\xff\xff")
         self.assertEqual(t85.Encoder(8, 4, stripe_rows=2, announced_height=4).best_offset(b"\xff"), 0)
 
+    def test_choice(self):
+        # A black pixel in each four: 2,049 pixels are counted, which all equal the pixel 4 to their left.
+        row = b"\x88" * 257
+        choice = t85.Choice(2055, most_offset=4)
+        choice.row(row)
+        for wrong in (2, 5, 255):
+            self.refused(22, choice.offset, wrong)
+        for wrong in (-1, 256):
+            with self.assertRaises(OverflowError):
+                choice.offset(wrong)
+        self.assertEqual(choice.offset(0), 4)
+        # The next stripe has only a typical row.
+        choice.row(row, bytearray(row))
+        self.assertEqual(choice.offset(4), 4)
+        self.refused(55, choice.row, row[1:])
+        self.refused(55, choice.row, row, b"\0")
+        with self.assertRaises(TypeError):
+            choice.row("text")
+        reset = t85.Choice(2055, most_offset=4, reset=True)
+        self.assertEqual(reset.offset(4), 0)
+        plain = t85.Choice(2054, most_offset=4, typical=False)
+        for above in (b"", row):
+            plain.row(row, above)
+        self.assertEqual(plain.offset(0), 4)
+        self.assertEqual(t85.Choice(2054, most_offset=4).offset(0), 0)
+        self.refused(22, t85.Choice(8, most_offset=4, two_lines=True).offset, 4)
+        for number, wrong in ((33, {"width": 0}), (34, {"width": (1 << 20) + 1}), (22, {"width": 8, "most_offset": 128})):
+            self.refused(number, lambda wrong=wrong: t85.Choice(**wrong))
+
+    def test_choice_encoded(self):
+        for stripe_rows, reset in ((20, False), (20, True), (7, False)):
+            names = {"most_offset": 127, "reset": reset}
+            choice, encoder = t85.Choice(416, **names), t85.Encoder(416, 160, stripe_rows=stripe_rows, **names)
+            offset, stream = 0, b""
+            for y in range(160):
+                at = 52 * y
+                if y and y % stripe_rows == 0:
+                    offset = choice.offset(offset)
+                    encoder.offset(offset)
+                top = y % stripe_rows == 0 if reset else y == 0
+                choice.row(ROWS[at : at + 52], b"" if top else ROWS[at - 52 : at])
+                stream += encoder.row(ROWS[at : at + 52])
+            self.assertEqual(t85.decode_rows(stream + encoder.end()).data, ROWS)
+
     def test_best_encoded(self):
         rows = [ROWS[at : at + 52] for at in range(0, len(ROWS), 52)]
         for names in ({}, dict(two_lines=True), dict(reset=True, stripe_rows=20), dict(announced_height=200, comment=b"said")):

@@ -36,6 +36,9 @@ with t85.Encoder(8, 2, announced_height=2, comment=b"said") as encoder:
     encoder.offset(encoder.best_offset(bytearray(2)))
     pieces: list[bytes] = [encoder.row(bytearray(1)), encoder.end()]
     left: int = encoder.rows_left
+choice = t85.Choice(8, most_offset=127)
+choice.row(bytearray(1), memoryview(b""))
+offset: int = choice.offset(0)
 length: int = t85.encode_file(pathlib.Path("a.pbm"), sys.stdout.buffer, most_offset=127)
 height: int = t85.decode_file(open("a.jbg", "rb"), "a.pbm", max_rows=9) + t85.decode_file(sys.stdin.buffer, io.BytesIO())
 try:

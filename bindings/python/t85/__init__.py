@@ -53,6 +53,7 @@ from ._rows import row_bytes as _row_bytes
 __all__ = [
     "MAX_BYTES",
     "BrokenPart",
+    "Choice",
     "Decoder",
     "Encoder",
     "Error",
@@ -173,6 +174,10 @@ class _Encoder(ctypes.Structure):
     _fields_ = [("opaque", c_uint64 * 670)]
 
 
+class _Choice(ctypes.Structure):
+    _fields_ = [("opaque", c_uint32 * 132)]
+
+
 def _named() -> str:
     """The library's name, for the loader."""
     beside = os.path.join(os.path.dirname(os.path.abspath(__file__)), _SONAME)
@@ -219,6 +224,9 @@ def _load() -> ctypes.CDLL:
         "t85_encode_row": (c_uint8, [POINTER(_Encoder), *read, *write, *write, POINTER(size)]),
         "t85_encode_offset": (c_uint8, [POINTER(_Encoder), c_uint8]),
         "t85_best_offset": (c_uint8, [POINTER(_Encoder), *read, *write, *write, write[0]]),
+        "t85_choice_start": (c_uint8, [POINTER(_Choice), size, word, POINTER(_Options)]),
+        "t85_choice_row": (c_uint8, [POINTER(_Choice), *read, *read]),
+        "t85_choice_offset": (c_uint8, [POINTER(_Choice), c_uint8, write[0]]),
         "t85_encode_end": (c_uint8, [POINTER(_Encoder), *write, *write, POINTER(size)]),
         "t85_encode_rows_left": (word, [POINTER(_Encoder)]),
         "t85_encode_room": (c_uint64, [POINTER(_Encoder)]),
@@ -810,6 +818,53 @@ class Encoder:
             raise Error(status)
         found, self._head = self._head + ctypes.string_at(self._output, written.value), b""
         return found
+
+
+class Choice:
+    """Chooses the offsets of the adaptive template pixel by JBIG-KIT's rule, for an Encoder with the same width and options.
+
+        >>> encoder = Encoder(1728, 2200, stripe_rows=128, most_offset=127)
+        >>> choice, offset, above = Choice(1728, most_offset=127), 0, b""
+        >>> for y, row in enumerate(rows):
+        ...     if y and y % 128 == 0:
+        ...         offset = choice.offset(offset)
+        ...         encoder.offset(offset)
+        ...     choice.row(row, above)
+        ...     send(encoder.row(row))
+        ...     above = row
+
+    The encoder then moves the pixel as JBIG-KIT's jbg85_enc_lineout does. jbg_enc_out does not use the last row of a stripe:
+    for its moves, do not pass that row.
+
+    An Error is raised, and the choice is unchanged, if a row is too short (number 55), or if no stripe can have been encoded
+    with the current offset (22).
+    """
+
+    def __init__(
+        self, width: int, *, most_offset: int = 0, two_lines: bool = False, typical: bool = True, reset: bool = False
+    ) -> None:
+        chosen = _chosen(128, most_offset, two_lines, typical, False, None, reset, False)
+        self.width = _word("width", width)
+        self._state = _Choice()
+        self._call(_LIBRARY.t85_choice_start, ctypes.sizeof(self._state), width, byref(chosen))
+
+    def row(self, data: Buffer, above: Buffer = b"") -> None:
+        """Counts the next packed row of a stripe. Above the first row, and above that of each stripe with reset, is none."""
+        _refuse_pixels(data, self.width, 1, None)
+        if _size(above):
+            _refuse_pixels(above, self.width, 1, None)
+        self._call(_LIBRARY.t85_choice_row, *_lent(data), *_lent(above))
+
+    def offset(self, current: int) -> int:
+        """Returns the offset for the next stripe, after one that was encoded with the current offset, and begins it."""
+        offset = ctypes.create_string_buffer(1)
+        self._call(_LIBRARY.t85_choice_offset, _byte("current", current), offset)
+        return offset.raw[0]
+
+    def _call(self, call: Callable[..., int], *words: Any) -> None:
+        status = call(byref(self._state), *words)
+        if status:
+            raise Error(status)
 
 
 def encode(

@@ -1,7 +1,6 @@
 //! JBIG-KIT's choice of the adaptive pixel's offset, on rows whose counts are worked out by hand.
 
 use raster_core::{Choice, Shape};
-use std::process::Abort;
 
 /// A stripe of rows that repeat one byte, the choice, and what it returns.
 struct Case {
@@ -155,9 +154,8 @@ fn offset_of(case: &Case, choice: &mut Choice) -> u8 {
 }
 
 /// A choice with the shape of a case.
-fn choice_for(rt: &impl Abort, case: &Case, reset: bool) -> Choice {
+fn choice_for(case: &Case, reset: bool) -> Choice {
     let (width, two_line, typical) = case.shape;
-    assert!(rt; width <= 1 << 20 && case.most <= 127);
     let shape = Shape {
         width,
         two_line,
@@ -169,7 +167,7 @@ fn choice_for(rt: &impl Abort, case: &Case, reset: bool) -> Choice {
 #[test]
 fn choices_by_hand(rt: HostRuntime) {
     for case in &CASES {
-        let mut choice = choice_for(&rt, case, false);
+        let mut choice = choice_for(case, false);
         let found = offset_of(case, &mut choice);
         assert!(rt; found == case.offset, "{:?}", case.rows);
         // After a restart nothing is counted: the pixel stays.
@@ -182,15 +180,15 @@ fn choices_by_hand(rt: HostRuntime) {
 /// After a reset the pixel is in its nominal position, unless it moves.
 #[test]
 fn choices_after_a_reset(rt: HostRuntime) {
-    let mut choice = choice_for(&rt, &CASES[8], true);
+    let mut choice = choice_for(&CASES[8], true);
     assert!(rt; choice.offset(3) == 0);
     assert!(rt; offset_of(&CASES[8], &mut choice) == 4);
 }
 
 #[test]
 fn offered_offsets(rt: HostRuntime) {
-    let three = choice_for(&rt, &CASES[5], false);
-    let two = choice_for(&rt, &CASES[6], false);
+    let three = choice_for(&CASES[5], false);
+    let two = choice_for(&CASES[6], false);
     assert!(rt; three.width() == 2059);
     let offered = [0, 1, 2, 3, 4, 5, 8, 9].map(|offset| (three.offers(offset), two.offers(offset)));
     let (no, yes) = (false, true);
