@@ -109,7 +109,7 @@ static t85_options options_of(const struct jbg_enc_state *s)
 typedef struct {
     t85_encoder encoder;
     t85_choice choice;
-    unsigned char *window, *stream;
+    unsigned char *window, *stream; /* the window, and as much memory behind it */
     size_t window_len, room, len;
     uint8_t offset;
 } encoding;
@@ -123,8 +123,20 @@ static int start(const struct jbg_enc_state *s, encoding *it)
                             s->comment ? s->comment_len : 0, it->window, it->window_len, it->stream, it->room, &it->len);
 }
 
-/* Encodes the rows. Before the first row of a stripe, the adaptive pixel moves as libjbig moves it with JBG_DELAY_AT: that
-   depends on all rows of the stripe before but the last. Within a stripe, libt85 rejects the offset. */
+/* Moves the adaptive pixel before a stripe: with JBG_DELAY_AT to the offset to which libjbig moves, otherwise to the best
+   offset for the stripe, since libjbig then moves within stripes, which T.85 does not allow. */
+static void move(const struct jbg_enc_state *s, encoding *it, const unsigned char *rows, size_t len)
+{
+    if (s->options & JBG_DELAY_AT)
+        t85_choice_offset(&it->choice, it->offset, &it->offset);
+    else if (s->mx > 0)
+        t85_best_offset(&it->encoder, rows, len, it->window, it->window_len, it->window + it->window_len, it->window_len,
+                        &it->offset);
+    t85_encode_offset(&it->encoder, it->offset);
+}
+
+/* Encodes the rows. libjbig's moves depend on all rows of the stripe before but its last. Within a stripe, libt85 rejects
+   the offset. */
 static int put_rows(const struct jbg_enc_state *s, encoding *it)
 {
     const unsigned char *row = s->lhp[0][0], *last = NULL, *above_last = NULL;
@@ -135,9 +147,8 @@ static int put_rows(const struct jbg_enc_state *s, encoding *it)
         if (t85_encode_offset(&it->encoder, it->offset) != T85_OK) {
             t85_choice_row(&it->choice, last, len, above_last, above_last ? len : 0);
             above_last = last;
-        } else if (last) {
-            t85_choice_offset(&it->choice, it->offset, &it->offset);
-            t85_encode_offset(&it->encoder, it->offset);
+        } else {
+            move(s, it, row, (s->yd - y) * len);
             above_last = s->options & JBG_SDRST ? NULL : last;
         }
         status = t85_encode_row(&it->encoder, row, len, it->window, it->window_len, it->stream + it->len,
@@ -155,7 +166,7 @@ static int encode(const struct jbg_enc_state *s, unsigned char *stream, size_t r
     encoding it = {.stream = stream, .room = room, .window_len = t85_window_bytes(t85jbig_word(s->xd))};
     size_t written = 0;
     int status;
-    it.window = malloc(it.window_len);
+    it.window = malloc(2 * it.window_len);
     if (!it.window)
         return T85_SHORT_WINDOW;
     status = start(s, &it);
@@ -213,7 +224,7 @@ static void pass_on_parts(const struct jbg_enc_state *s, unsigned char *stream, 
     t85_part part = T85_PART;
     size_t passed = 0, end = 0;
     while (t85_next_part(stream, len, &part) == T85_OK) {
-        if (part.kind != T85_PART_MOVE) {
+        if (part.kind != T85_PART_MOVE || part.stripe == 0) {
             pass_on(s, stream + passed, end - passed, JBG_BUFSIZE);
             passed = end;
         }
