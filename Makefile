@@ -15,11 +15,12 @@
 # make wheel         builds a wheel of the Python module with the library inside, for `pip install`, in dist/
 # make manuals       checks the manual pages
 # make debian        builds the packages of packaging/debian into dist/, and runs lintian on them
-# make jbig85        builds bin/libjbig85.a: the library with JBIG-KIT's functions on top
-# make jbig          builds bin/libjbig.so.0 and bin/libjbig.a: JBIG-KIT's other functions on the library, for one plane
+# make jbig85        builds bin/libjbig85.a and bin/libjbig85.so.0: JBIG-KIT's functions for T.85 on the library
+# make jbig          builds these, bin/libjbig.a and bin/libjbig.so.0: also JBIG-KIT's other functions, for one plane
 #                    without layers
 # make interop       exchanges streams with JBIG-KIT's programs and library, and compares the images; runs JBIG-KIT's own
 #                    programs on the library (fetches JBIG-KIT's source with `apt-get`)
+# make clients       runs Debian's printer drivers, TIFF tools and image programs on JBIG-KIT's library and on bin/libjbig.so.0
 # make charts        encodes and decodes the CCITT test charts with programs and library, and compares with JBIG-KIT's
 #                    programs (fetches the charts with `apt-get`)
 # make libtiff       builds Debian's libtiff with the library instead of JBIG-KIT's, and exchanges TIFF files with Debian's
@@ -66,7 +67,7 @@ BUILT = $(PROGRAMS:%=bin/%)
 LIBRARY = bin/libt85.a bin/$(SHARED) bin/$(SONAME) bin/libt85.so
 # The targets that first build the programs, and those that first build the library.
 OF_PROGRAMS = show static turns library-test interop charts libtiff fuzz-python against bench pictures rust-test targets-test
-OF_LIBRARY = library-test interop charts libtiff fuzz fuzz-python bench wheel pictures jbig85 jbig rust-test targets-test
+OF_LIBRARY = library-test interop clients charts libtiff fuzz fuzz-python bench wheel pictures jbig85 jbig rust-test targets-test
 
 # quoted TEXT: TEXT as one shell word, with its spaces
 quoted = '$(subst ','\'',$(1))'
@@ -125,25 +126,28 @@ bin/$(SONAME) bin/libt85.so: bin/$(SHARED)
 	cp $< $@.$$$$ && mv -f $@.$$$$ $@
 
 # JBIG-KIT's functions, in C, together with the library: a program linked with it needs nothing else.
-jbig85: bin/libjbig85.a
+jbig85: bin/libjbig85.so.0 bin/libjbig85.a
 
-bin/libjbig85.a: bin/libt85.a $(wildcard bindings/jbig85/jbig85.*) include/t85.h
+bin/libjbig85.a: bin/libt85.a $(wildcard bindings/jbig85/jbig85.[ch]) include/t85.h
 	made=bin/jbig85.$$$$ && mkdir $$made && \
 		$(CC) -std=c99 -O2 -fPIC -Wall -Wextra -Wpedantic $(CFLAGS) -I include -c bindings/jbig85/jbig85.c -o $$made/jbig85.o && \
 		cp bin/libt85.a $$made && $(AR) rs $$made/libt85.a $$made/jbig85.o && mv -f $$made/libt85.a $@ && rm -r $$made
 
-# The functions of JBIG-KIT's jbig.h, in C, together with the library.
-jbig: bin/libjbig.so.0 bin/libjbig.a
+# The functions of both headers of JBIG-KIT, in C, together with the library.
+jbig: bin/libjbig.so.0 bin/libjbig.a jbig85
 
-bin/libjbig.a: bin/libt85.a $(wildcard bindings/jbig/*.[ch]) include/t85.h
-	made=bin/jbig.$$$$ && mkdir $$made && cp bin/libt85.a $$made && for file in bindings/jbig/*.c; do \
+bin/libjbig.a: bin/libt85.a $(wildcard bindings/jbig/*.[ch] bindings/jbig85/jbig85.[ch]) include/t85.h
+	made=bin/jbig.$$$$ && mkdir $$made && cp bin/libt85.a $$made && for file in bindings/jbig/*.c bindings/jbig85/jbig85.c; do \
 		$(CC) -std=c99 -O2 -fPIC -Wall -Wextra -Wpedantic $(CFLAGS) -D_GNU_SOURCE -I include -c $$file \
 			-o $$made/$$(basename $$file .c).o || exit 1; done && \
 		$(AR) rs $$made/libt85.a $$made/*.o && mv -f $$made/libt85.a $@ && rm -r $$made
 
-bin/libjbig.so.0: bin/libjbig.a bindings/jbig/jbig.map
-	$(CC) $(LDFLAGS) -shared -Wl,-soname,libjbig.so.0 -Wl,--version-script=bindings/jbig/jbig.map \
-		-Wl,--no-undefined-version -Wl,-z,defs -Wl,-z,relro -Wl,-z,now -Wl,--whole-archive bin/libjbig.a \
+# Each name has a version script in a folder of its own.
+bin/libjbig.so.0: bindings/jbig/jbig.map
+bin/libjbig85.so.0: bindings/jbig85/jbig85.map
+bin/libjbig.so.0 bin/libjbig85.so.0: bin/%.so.0: bin/%.a
+	$(CC) $(LDFLAGS) -shared -Wl,-soname,$*.so.0 -Wl,--version-script=$(filter %.map,$^) \
+		-Wl,--no-undefined-version -Wl,-z,defs -Wl,-z,relro -Wl,-z,now -Wl,--whole-archive bin/$*.a \
 		-Wl,--no-whole-archive -o $@.$$$$ && mv -f $@.$$$$ $@
 
 # The same source without its contracts, with what cargo needs beside it. The archive has the same bytes each time.
@@ -256,10 +260,14 @@ manuals:
 debian:
 	tests/debian dist
 
-interop: bin/libjbig85.a jbig
+interop: jbig
 	tests/interop bin
 	tests/jbig85 bin
 	tests/jbig bin
+
+# Runs the programs that are installed.
+clients: jbig
+	tests/clients bin
 
 # The charts are fetched, since they may not be redistributed.
 bin/charts:
@@ -344,14 +352,16 @@ ifeq ($(DESTDIR),)
 endif
 
 # In folders of its own, since JBIG-KIT's files have the same names. A program uses them only if it gets their path.
-install-jbig: bin/libjbig.so.0 bin/libjbig.a
-	install -D -m 644 bin/libjbig.so.0 $(call at,$(LIBDIR))/t85-jbig/libjbig.so.0
-	ln -sf libjbig.so.0 $(call at,$(LIBDIR))/t85-jbig/libjbig.so
-	install -D -m 644 bin/libjbig.a $(call at,$(LIBDIR))/t85-jbig/libjbig.a
-	install -D -m 644 bindings/jbig/jbig.h $(call at,$(INCLUDEDIR))/t85-jbig/jbig.h
-	new=$$(mktemp) && sed -e 's|@PREFIX@|'$(call written,$(PREFIX))'|; s|@LIBDIR@|'$(call written,$(LIBDIR))'|' \
-		-e 's|@INCLUDEDIR@|'$(call written,$(INCLUDEDIR))'|; s|@VERSION@|$(VERSION)|' bindings/jbig/t85-jbig.pc.in > "$$new" && \
-		install -D -m 644 "$$new" $(call at,$(LIBDIR))/t85-jbig/pkgconfig/t85-jbig.pc && rm "$$new"
+install-jbig: jbig
+	for name in jbig jbig85; do \
+		install -D -m 644 bin/lib$$name.so.0 $(call at,$(LIBDIR))/t85-jbig/lib$$name.so.0 && \
+		ln -sf lib$$name.so.0 $(call at,$(LIBDIR))/t85-jbig/lib$$name.so && \
+		install -D -m 644 bin/lib$$name.a $(call at,$(LIBDIR))/t85-jbig/lib$$name.a && \
+		install -D -m 644 bindings/$$name/$$name.h $(call at,$(INCLUDEDIR))/t85-jbig/$$name.h && \
+		new=$$(mktemp) && sed -e 's|@PREFIX@|'$(call written,$(PREFIX))'|; s|@LIBDIR@|'$(call written,$(LIBDIR))'|' \
+			-e 's|@INCLUDEDIR@|'$(call written,$(INCLUDEDIR))'|; s|@VERSION@|$(VERSION)|' \
+			bindings/$$name/t85-$$name.pc.in > "$$new" && \
+		install -D -m 644 "$$new" $(call at,$(LIBDIR))/t85-jbig/pkgconfig/t85-$$name.pc && rm "$$new" || exit 1; done
 
 uninstall:
 	for program in $(PROGRAMS); do \
@@ -361,9 +371,10 @@ uninstall:
 	done
 	rm -f $(call at,$(LIBDIR))/libt85.a $(call at,$(LIBDIR))/libt85.so $(call at,$(LIBDIR))/$(SONAME) \
 		$(call at,$(LIBDIR))/$(SHARED) $(call at,$(LIBDIR))/pkgconfig/t85.pc $(call at,$(INCLUDEDIR))/t85.h
-	rm -f $(call at,$(LIBDIR))/t85-jbig/libjbig.so.0 $(call at,$(LIBDIR))/t85-jbig/libjbig.so \
-		$(call at,$(LIBDIR))/t85-jbig/libjbig.a $(call at,$(LIBDIR))/t85-jbig/pkgconfig/t85-jbig.pc \
-		$(call at,$(INCLUDEDIR))/t85-jbig/jbig.h
+	for name in jbig jbig85; do \
+		rm -f $(call at,$(LIBDIR))/t85-jbig/lib$$name.so.0 $(call at,$(LIBDIR))/t85-jbig/lib$$name.so \
+			$(call at,$(LIBDIR))/t85-jbig/lib$$name.a $(call at,$(LIBDIR))/t85-jbig/pkgconfig/t85-$$name.pc \
+			$(call at,$(INCLUDEDIR))/t85-jbig/$$name.h || exit 1; done
 	for folder in $(call at,$(LIBDIR))/t85-jbig/pkgconfig $(call at,$(LIBDIR))/t85-jbig $(call at,$(INCLUDEDIR))/t85-jbig; do \
 		[ ! -d "$$folder" ] || rmdir --ignore-fail-on-non-empty "$$folder"; done
 	for page in t85 $(CALLS); do rm -f $(call at,$(MANDIR))/man3/$$page.3 || exit 1; done
@@ -377,4 +388,4 @@ clean:
 	rm -rf bin dist crates/*/out
 
 .PHONY: show build library rust rust-test wasm arm page targets-test static processor documents proofs test turns library-test wheel pictures manuals debian jbig85 jbig \
-	interop charts libtiff fuzz fuzz-python against bench install install-programs install-library install-jbig uninstall clean
+	interop clients charts libtiff fuzz fuzz-python against bench install install-programs install-library install-jbig uninstall clean

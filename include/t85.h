@@ -164,12 +164,27 @@ typedef struct {
    greatest height that the image may have.
 
    The low four bits of byte 18 (order) and the bits 0x10 (TPDON), 0x04 (DPON), 0x02 (DPPRIV) and
-   0x01 (DPLAST) of byte 19 have no meaning for one plane without layers, and are written as 0. A
-   driver may set them afterwards, if its printer expects that: decoding ignores them, but rejects
-   0x04 and 0x02 without 0x01, which announce a private table. */
+   0x01 (DPLAST) of byte 19 have no meaning for one plane without layers, and are written as 0.
+   t85_set_unused_fields sets most of them afterwards, if a printer expects that: decoding ignores
+   them, but rejects 0x04 and 0x02 without 0x01, which announce a private table. */
 typedef struct {
     uint32_t width, height, stripe_rows, most_offset, options;
 } t85_header_fields;
+
+/* All fields of the 20 bytes of a header (T.82, 6.2), whatever their values. */
+typedef struct {
+    uint32_t width;                /* XD */
+    uint32_t height;               /* YD */
+    uint32_t stripe_rows;          /* L0 */
+    uint32_t first_layer;          /* DL */
+    uint32_t last_layer;           /* D */
+    uint32_t planes;               /* P */
+    uint32_t fill;                 /* the fourth byte */
+    uint32_t most_offset;          /* MX */
+    uint32_t most_vertical_offset; /* MY */
+    uint32_t order;
+    uint32_t options;
+} t85_raw_header_fields;
 
 /* The header's fields, and facts about the rest of the stream. */
 typedef struct {
@@ -261,6 +276,33 @@ size_t t85_window_bytes(uint32_t width);
    unchanged. */
 T85_NO_NULL((3))
 uint8_t t85_header(const uint8_t *stream, size_t len, t85_header_fields *fields);
+
+/* Returns all fields of a header, whether or not t85_header accepts it. Returns 0 and sets `fields`;
+   or returns 1 if there are fewer than 20 bytes, and leaves `fields` unchanged. */
+T85_NO_NULL((3))
+uint8_t t85_raw_header(const uint8_t *stream, size_t len, t85_raw_header_fields *fields);
+
+/* Sets the fields of a stream's header that have no effect on an image of one plane without layers,
+   although some printers compare them: MY (byte 17), the order (byte 18), and the bits 0x10 (TPDON)
+   and 0x04 (DPON) of the options (byte 19). The other bits of `options` are ignored.
+
+   Returns one of:
+   0: these fields are set, and no other byte has changed. t85_header accepts the header as before,
+     and the stream denotes the same image.
+   1 to 8: the header is rejected. Nothing is changed.
+   T85_RESERVED_BITS: `order` is above 15. Nothing is changed.
+   T85_PRIVATE_TABLE: `options` has 0x04, and the header has 0x02 (DPPRIV) without 0x01 (DPLAST).
+     Nothing is changed. */
+uint8_t t85_set_unused_fields(uint8_t *stream, size_t len, uint8_t my, uint8_t order,
+                              uint8_t options);
+
+/* Writes the actual height of a stream into its header (YD, bytes 8 to 11). With T85_VARIABLE_HEIGHT
+   this is the height that follows later in the stream, if it is valid and has arrived; otherwise the
+   header has it already. No other byte changes, and the stream denotes the same image. Other errors
+   of the stream are not reported.
+
+   Returns 0; or returns 1 to 8 if the header is rejected, and changes nothing. */
+uint8_t t85_set_height(uint8_t *stream, size_t len);
 
 /* Parses a stream without decoding its pixels. Returns 0 and sets `summary`, or returns 1 to 15 and
    leaves `summary` unchanged. */
@@ -547,6 +589,19 @@ T85_NO_NULL((1, 6))
 uint8_t t85_encode_end(t85_encoder *encoder, uint8_t *window, size_t window_len, uint8_t *stream,
                        size_t stream_room, size_t *written);
 
+/* Ends a stream that cannot be completed with the marker ABORT (T.82, 6.2.5). It may be called
+   instead of t85_encode_row or t85_encode_end. Unless all rows were passed, decoding the stream then
+   returns T85_ABORTED.
+
+   Returns one of:
+   0: the marker, FF 04, was written to `stream`, and *written is 2. The stream has ended.
+   Any other status: nothing is written or changed, and *written is 0. The checks are made in this
+     order: 53; 54 if the stream has been ended already; T85_NO_ROOM if stream_room is less than
+     2. */
+T85_NO_NULL((1, 4))
+uint8_t t85_encode_abort(t85_encoder *encoder, uint8_t *stream, size_t stream_room,
+                         size_t *written);
+
 /* Returns how many more rows are accepted: 0 if the encoder is not initialized or was ended. */
 T85_NO_NULL((1))
 uint32_t t85_encode_rows_left(const t85_encoder *encoder);
@@ -612,6 +667,14 @@ size_t t85_message(uint8_t status, uint8_t *text, size_t room);
    its address, or from a language that does not read this header, pass T85_NOTHING. */
 #define t85_header(stream, len, fields) t85_header(t85_bytes_or_nothing(stream), len, fields)
 
+#define t85_raw_header(stream, len, fields) \
+    t85_raw_header(t85_bytes_or_nothing(stream), len, fields)
+
+#define t85_set_unused_fields(stream, len, my, order, options) \
+    t85_set_unused_fields(t85_room_or_nothing(stream), len, my, order, options)
+
+#define t85_set_height(stream, len) t85_set_height(t85_room_or_nothing(stream), len)
+
 #define t85_info(stream, len, summary) t85_info(t85_bytes_or_nothing(stream), len, summary)
 
 #define t85_stream_facts(stream, len, facts) \
@@ -670,6 +733,9 @@ size_t t85_message(uint8_t status, uint8_t *text, size_t room);
 #define t85_encode_end(encoder, window, window_len, stream, stream_room, written) \
     t85_encode_end(encoder, t85_room_or_nothing(window), window_len,              \
                    t85_room_or_nothing(stream), stream_room, written)
+
+#define t85_encode_abort(encoder, stream, stream_room, written) \
+    t85_encode_abort(encoder, t85_room_or_nothing(stream), stream_room, written)
 
 #define t85_message(status, text, room) t85_message(status, t85_room_or_nothing(text), room)
 

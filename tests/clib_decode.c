@@ -211,6 +211,64 @@ static buffer made(uint8_t *status, const char *folder, size_t count, const char
     return whole;
 }
 
+static uint32_t number_at(const uint8_t *bytes)
+{
+    return (uint32_t)bytes[0] << 24 | (uint32_t)bytes[1] << 16 | (uint32_t)bytes[2] << 8 | bytes[3];
+}
+
+/* Compares the fields of a header with its bytes, as T.82, 6.2 lays them out. */
+static void is_raw(buffer stream)
+{
+    const uint8_t *b = stream.bytes;
+    t85_raw_header_fields raw, kept;
+    memset(&raw, FILL, sizeof raw);
+    kept = raw;
+    if (t85_raw_header(b, stream.len, &raw) != (stream.len < 20 ? T85_SHORT_HEADER : T85_OK))
+        fail("t85_raw_header: another status of %zu bytes", stream.len);
+    if (stream.len < 20 && memcmp(&raw, &kept, sizeof raw))
+        fail("t85_raw_header: fields of %zu bytes", stream.len);
+    if (stream.len >= 20 &&
+        (raw.first_layer != b[0] || raw.last_layer != b[1] || raw.planes != b[2] || raw.fill != b[3] ||
+         raw.width != number_at(b + 4) || raw.height != number_at(b + 8) ||
+         raw.stripe_rows != number_at(b + 12) || raw.most_offset != b[16] ||
+         raw.most_vertical_offset != b[17] || raw.order != b[18] || raw.options != b[19]))
+        fail("t85_raw_header: other fields");
+}
+
+/* Sets fields that have no effect, and the actual height: no other byte changes. */
+static void set_fields(buffer stream, uint8_t refused_as)
+{
+    buffer changed = copied(stream.bytes, stream.len), wanted = copied(stream.bytes, stream.len);
+    t85_facts facts = T85_FACTS, later = T85_FACTS;
+    uint8_t info = t85_stream_facts(stream.bytes, stream.len, &facts), status;
+    if (refused_as == T85_OK) {
+        wanted.bytes[17] = 200;
+        wanted.bytes[18] = 15;
+        wanted.bytes[19] = (uint8_t)((wanted.bytes[19] & 0xeb) | 0x14);
+    }
+    status = t85_set_unused_fields(changed.bytes, changed.len, 200, 15, 0xff);
+    if (status != refused_as || memcmp(changed.bytes, wanted.bytes, stream.len))
+        fail("t85_set_unused_fields: status %d, or other bytes", status);
+    if (refused_as == T85_OK &&
+        (t85_set_unused_fields(changed.bytes, changed.len, 1, 16, 0) != T85_RESERVED_BITS ||
+         memcmp(changed.bytes, wanted.bytes, stream.len)))
+        fail("t85_set_unused_fields: the order 16");
+    status = t85_set_height(changed.bytes, changed.len);
+    if (status != refused_as)
+        fail("t85_set_height: status %d", status);
+    if (info == T85_OK) {
+        unsigned n;
+        for (n = 0; n < 4; n++)
+            wanted.bytes[8 + n] = (uint8_t)(facts.image_height >> (24 - 8 * n));
+        if (memcmp(changed.bytes, wanted.bytes, stream.len) ||
+            t85_stream_facts(changed.bytes, changed.len, &later) != T85_OK ||
+            later.height != facts.image_height || later.image_height != facts.image_height)
+            fail("t85_set_height: other bytes");
+    }
+    give_back(wanted);
+    give_back(changed);
+}
+
 /* Compares a stream or a prefix of one with the command's output for it. */
 static void cut(buffer stream, const char *folder, size_t count)
 {
@@ -225,6 +283,8 @@ static void cut(buffer stream, const char *folder, size_t count)
     refused_as = wanted <= T85_PRIVATE_TABLE ? wanted : (uint8_t)T85_OK;
     if (status != refused_as)
         fail("t85_header: status %d of %zu bytes", status, count);
+    is_raw(lent);
+    set_fields(lent, refused_as);
     if (status != T85_OK) {
         decode_in(lent, 0, status, whole, 1000);
     } else {

@@ -373,6 +373,25 @@ static void lent_little(row_by_row *by, const uint8_t *row, size_t row_len, size
     unmoved(T85_NO_ROOM, by, row, row_len, three, told - 1);
 }
 
+/* Aborts a stream that has been started: the marker is written once, and nothing may follow. */
+static void is_aborted(row_by_row *by, const uint8_t *row)
+{
+    buffer room = room_of(by, 1);
+    size_t written = 77;
+    memset(room.bytes, FILL, room.len);
+    if (t85_encode_abort(encoder_of(by), room.bytes, room.len, &written) != T85_NO_ROOM || written)
+        fail("t85_encode_abort into one byte");
+    is_filled("t85_encode_abort", room);
+    room = room_of(by, 2);
+    if (t85_encode_abort(encoder_of(by), room.bytes, room.len, &written) != T85_OK || written != 2 ||
+        room.bytes[0] != 0xff || room.bytes[1] != 4)
+        fail("t85_encode_abort");
+    if (t85_encode_abort(encoder_of(by), room.bytes, 0, &written) != T85_NO_MORE_ROWS || written)
+        fail("t85_encode_abort after an abort");
+    unmoved(T85_NO_MORE_ROWS, by, row, 0, 0, 0);
+    unmoved(T85_NO_MORE_ROWS, by, NULL, 0, 0, 0);
+}
+
 /* Checks each call of an encoder of two rows. */
 static void row_encoder_states(buffer rows, uint32_t width)
 {
@@ -420,6 +439,7 @@ static void row_encoder_states(buffer rows, uint32_t width)
     unmoved(T85_ROWS_MISSING, &by, NULL, 0, 0, 0);
     if (t85_encode_rows_left(encoder_of(&by)) != 5)
         fail("t85_encode_rows_left: %u of 5", t85_encode_rows_left(encoder_of(&by)));
+    is_aborted(&by, rows.bytes);
     leave(&by);
 }
 

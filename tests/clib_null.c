@@ -29,6 +29,26 @@ static uint8_t see_header(const uint8_t *stream, size_t len, t85_header_fields *
     return fields->width == len ? see(stream, NULL, NULL, NULL) : 255;
 }
 
+static uint8_t see_raw_header(const uint8_t *stream, size_t len, t85_raw_header_fields *fields)
+{
+    return fields->width == len ? see(stream, NULL, NULL, NULL) : 255;
+}
+
+static uint8_t see_set_unused_fields(uint8_t *stream, size_t len, uint8_t my, uint8_t order, uint8_t options)
+{
+    return len == 1 && my == 2 && order == 3 && options == 4 ? see(stream, NULL, NULL, NULL) : 255;
+}
+
+static uint8_t see_set_height(uint8_t *stream, size_t len)
+{
+    return len == 1 ? see(stream, NULL, NULL, NULL) : 255;
+}
+
+static uint8_t see_encode_abort(t85_encoder *encoder, uint8_t *stream, size_t stream_room, size_t *written)
+{
+    return encoder && stream_room == 1 && *written == 7 ? see(stream, NULL, NULL, NULL) : 255;
+}
+
 static uint8_t see_info(const uint8_t *stream, size_t len, t85_summary *summary)
 {
     return summary->width == len ? see(stream, NULL, NULL, NULL) : 255;
@@ -139,6 +159,10 @@ typedef struct {
     uint8_t (*t85_encode_end)(t85_encoder *, uint8_t *, size_t, uint8_t *, size_t, size_t *);
     uint8_t (*t85_pbm_header)(t85_pbm *, const uint8_t *, size_t, size_t *);
     uint8_t (*t85_pbm_row)(t85_pbm *, const uint8_t *, size_t, uint8_t *, size_t, size_t *);
+    uint8_t (*t85_raw_header)(const uint8_t *, size_t, t85_raw_header_fields *);
+    uint8_t (*t85_set_unused_fields)(uint8_t *, size_t, uint8_t, uint8_t, uint8_t);
+    uint8_t (*t85_set_height)(uint8_t *, size_t);
+    uint8_t (*t85_encode_abort)(t85_encoder *, uint8_t *, size_t, size_t *);
 } calls;
 
 static void have_come(const char *call, size_t status, unsigned count, const uint8_t *wanted)
@@ -157,9 +181,11 @@ static void passed(uint8_t *a)
                                see_decode,       see_decode_rows, see_message,
                                see_encode_start, see_encode_row,  see_best_offset,
                                see_choice_row,   see_encode_end,  see_pbm_header,
-                               see_pbm_row};
+                               see_pbm_row,      see_raw_header,  see_set_unused_fields,
+                               see_set_height,   see_encode_abort};
     uint8_t *b = a ? a + 1 : NULL, *c = a ? a + 2 : NULL, *d = a ? a + 3 : NULL;
     t85_header_fields fields = {8, 0, 0, 0, 0};
+    t85_raw_header_fields raw = {8, 0, 0, 0, 0, 0, 0, 0, 0, 0, 0};
     t85_summary summary = {8, 0, 0, 0, 0, 0, 0, 0, 0};
     t85_options options = T85_OPTIONS;
     t85_encoder encoder;
@@ -187,6 +213,10 @@ static void passed(uint8_t *a)
     have_come("t85_encode_end", seen.t85_encode_end(&encoder, a, 1, b, 2, &written), 2, a);
     have_come("t85_pbm_header", seen.t85_pbm_header(&pbm, a, 1, &written), 1, a);
     have_come("t85_pbm_row", seen.t85_pbm_row(&pbm, a, 1, b, 2, &written), 2, a);
+    have_come("t85_raw_header", seen.t85_raw_header(a, 8, &raw), 1, a);
+    have_come("t85_set_unused_fields", seen.t85_set_unused_fields(a, 1, 2, 3, 4), 1, a);
+    have_come("t85_set_height", seen.t85_set_height(a, 1), 1, a);
+    have_come("t85_encode_abort", seen.t85_encode_abort(&encoder, a, 1, &written), 1, a);
 }
 
 /* Checks that each argument is evaluated once: each is increased by one. */
@@ -210,11 +240,17 @@ static void read_null(buffer stream, size_t window_len)
     size_t written = 77;
     uint32_t rows = 77;
     t85_header_fields fields = {77, 0, 0, 0, 0};
+    t85_raw_header_fields raw = {77, 0, 0, 0, 0, 0, 0, 0, 0, 0, 0};
     t85_summary summary = {77, 0, 0, 0, 0, 0, 0, 0, 0};
     if (t85_header(NULL, 0, &fields) != T85_SHORT_HEADER || fields.width != 77)
         fail("t85_header of a null pointer");
     if (t85_info(NULL, 0, &summary) != T85_SHORT_HEADER || summary.width != 77)
         fail("t85_info of a null pointer");
+    if (t85_raw_header(NULL, 0, &raw) != T85_SHORT_HEADER || raw.width != 77)
+        fail("t85_raw_header of a null pointer");
+    if (t85_set_unused_fields(NULL, 0, 0, 0, 0) != T85_SHORT_HEADER ||
+        t85_set_height(NULL, 0) != T85_SHORT_HEADER)
+        fail("t85_set_unused_fields or t85_set_height of a null pointer");
     if (t85_decode(NULL, 0, 9, NULL, 0, NULL, 0, &written) != T85_SHORT_HEADER || written != 0)
         fail("t85_decode of null pointers");
     if (t85_decode_rows(NULL, 0, 9, 9, NULL, 0, NULL, 0, &rows) != T85_SHORT_HEADER || rows != 0)
@@ -367,6 +403,9 @@ static void write_row_null(void)
              (unsigned long long)t85_encode_room(&encoder));
     if (t85_encode_row(&encoder, row.bytes, 1, window.bytes, 3, code[0] + 26, 174, &more) != T85_OK)
         fail("t85_encode_row");
+    if (t85_encode_abort(&encoder, NULL, 0, &last) != T85_NO_ROOM || last != 0)
+        fail("t85_encode_abort with no room");
+    last = 77;
     if (t85_encode_end(&encoder, NULL, 0, NULL, 0, &last) != T85_SHORT_WINDOW || last != 0)
         fail("t85_encode_end with no window");
     last = 77;
@@ -390,7 +429,8 @@ static void by_address(buffer stream)
                                 &t85_decode,       &t85_decode_rows, &t85_message,
                                 &t85_encode_start, &t85_encode_row,  &t85_best_offset,
                                 &t85_choice_row,   &t85_encode_end,  &t85_pbm_header,
-                                &t85_pbm_row};
+                                &t85_pbm_row,      &t85_raw_header,  &t85_set_unused_fields,
+                                &t85_set_height,   &t85_encode_abort};
     t85_options options = T85_OPTIONS;
     t85_encoder encoder;
     t85_choice choice;
@@ -428,8 +468,12 @@ static void by_address(buffer stream)
                                 &written) != T85_NOT_BEGUN ||
         (t85_best_offset)(&encoder, T85_NOTHING, 0, T85_NOTHING, 0, T85_NOTHING, 0, &offset) !=
             T85_NOT_BEGUN ||
+        (t85_encode_abort)(&encoder, T85_NOTHING, 0, &written) != T85_NOT_BEGUN ||
         (t85_encode_end)(&encoder, T85_NOTHING, 0, T85_NOTHING, 0, &written) != T85_NOT_BEGUN)
-        fail("t85_encode_start, t85_encode_row, t85_best_offset or t85_encode_end in parentheses");
+        fail("a call of an encoder in parentheses");
+    if ((t85_set_unused_fields)(T85_NOTHING, 0, 0, 0, 0) != T85_SHORT_HEADER ||
+        (*table.t85_set_height)(T85_NOTHING, 0) != T85_SHORT_HEADER)
+        fail("t85_set_unused_fields or t85_set_height in parentheses");
     if ((t85_message)(T85_OK, T85_NOTHING, 0) != 4)
         fail("t85_message in parentheses");
 }

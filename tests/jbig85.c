@@ -172,8 +172,8 @@ static void drop(image *of)
 static void put(byte *start, size_t len, void *file)
 {
     const text *before = file;
-    /* The header comes alone, unless the stream is aborted before it. */
-    CHECK(before->len > 0 || len == 20 || (len == 2 && start[1] == 4));
+    /* The header comes alone. */
+    CHECK(before->len > 0 || len == 20);
     add(file, start, len);
 }
 
@@ -310,9 +310,8 @@ static text next_stream(FILE *file)
 }
 
 typedef struct {
-    text all;     /* the header, the comments, the codes without zero bytes at their ends, and
-       the new height */
-    size_t still; /* the length of that up to the first move */
+    text all; /* the header, the comments, the moves, the codes without zero bytes at their ends,
+       and the new height */
     unsigned long moves, zeros, is_early; /* moves, omitted zero bytes, and whether a height
        precedes the last stripe */
 } parts;
@@ -324,7 +323,7 @@ static size_t length_at(const byte *at)
 
 static parts parts_of(const text *stream, const image *of)
 {
-    parts found = {{NULL, 0}, 0, 0, 0, 0};
+    parts found = {{NULL, 0}, 0, 0, 0};
     const byte *at = stream->bytes + 20, *end = stream->bytes + stream->len, *height = NULL;
     unsigned long stripes = (of->height - 1) / of->l0 + 1;
     add(&found.all, stream->bytes, 20);
@@ -336,9 +335,9 @@ static parts parts_of(const text *stream, const image *of)
             at += 6;
             found.is_early = stripes > 0;
         } else if (at[0] == 0xff && at[1] == 0x06) {
-            if (found.moves++ == 0)
-                found.still = found.all.len;
+            found.moves++;
             at += 8;
+            add(&found.all, from, 8);
         } else if (at[0] == 0xff && at[1] == 0x07) {
             at += 6 + length_at(at);
             add(&found.all, from, (size_t)(at - from));
@@ -362,8 +361,6 @@ static parts parts_of(const text *stream, const image *of)
         }
     }
     CHECK(at == end && stripes == 0);
-    if (found.moves == 0)
-        found.still = found.all.len;
     if (height)
         add(&found.all, height, 6);
     return found;
@@ -375,17 +372,13 @@ static void compare(const image *of, const text *ours, const text *theirs)
 {
     parts one = parts_of(ours, of), other = parts_of(theirs, of);
     CHECK(one.zeros == 0 && !one.is_early);
-    CHECK(!memcmp(one.all.bytes, other.all.bytes, one.still < other.still ? one.still : other.still));
-    if (one.moves || other.moves) {
-        moved++;
+    CHECK(one.all.len == other.all.len && !memcmp(one.all.bytes, other.all.bytes, one.all.len));
+    moved += one.moves > 0;
+    if (other.zeros) {
+        shorter++;
     } else {
-        CHECK(one.all.len == other.all.len && !memcmp(one.all.bytes, other.all.bytes, one.all.len));
-        if (other.zeros) {
-            shorter++;
-        } else {
-            equal++;
-            CHECK(other.is_early || (ours->len == theirs->len && !memcmp(ours->bytes, theirs->bytes, ours->len)));
-        }
+        equal++;
+        CHECK(other.is_early || (ours->len == theirs->len && !memcmp(ours->bytes, theirs->bytes, ours->len)));
     }
     free(one.all.bytes);
     free(other.all.bytes);
@@ -514,8 +507,9 @@ static void abort_after(const image *of, unsigned long rows)
     jbg85_enc_lineout(&s, of->rows, NULL, NULL);
     jbg85_enc_newlen(&s, 1);
     CHECK(stream.len == y);
-    if (rows > 0)
-        CHECK(decode(&now, &stream, 0, lines, 3 * of->row, &taken, &was_ended) == JBG_EABORT);
+    CHECK(decode(&now, &stream, 0, lines, 3 * of->row, &taken, &was_ended) == JBG_EABORT);
+    jbg85_enc_abort(&s);
+    CHECK(stream.len == y);
     CHECK(now.rows <= rows);
     free(stream.bytes);
     free(lines);
@@ -754,7 +748,7 @@ int main(int count, char **words)
     }
     CHECK(!file || !fclose(file));
     if (is_same)
-        printf("%lu streams are the same, %lu but for zero bytes at the end of a code, %lu have moves\n", equal, shorter, moved);
+        printf("%lu streams are the same, %lu but for zero bytes at the end of a code; %lu of these have moves\n", equal, shorter, moved);
     else
         printf("%s: %lu images\n", about, images);
     return 0;

@@ -12,7 +12,9 @@ const KINDS = {
   t85_encode: "wwppppppppppp", t85_encode_bound: "wwpp", t85_decode: "ppwppppp", t85_decode_rows: "ppwpppppp", t85_decode_start: "ppw",
   t85_decode_bytes: "ppppppp", t85_decode_end: "pppp", t85_decode_height: "p", t85_decode_certain: "p", t85_encode_start: "ppwwpppppppp",
   t85_encode_row: "pppppppp", t85_encode_offset: "pw", t85_best_offset: "pppppppp", t85_choice_start: "ppwp", t85_choice_row: "ppppp",
-  t85_choice_offset: "pwp", t85_encode_end: "pppppp", t85_encode_rows_left: "p", t85_encode_room: "p", t85_pbm_start: "pp", t85_pbm_header: "pppp", t85_pbm_row: "pppppp", t85_pbm_end: "p",
+  t85_choice_offset: "pwp", t85_encode_end: "pppppp", t85_encode_abort: "pppp", t85_encode_rows_left: "p", t85_encode_room: "p",
+  t85_pbm_start: "pp", t85_pbm_header: "pppp", t85_pbm_row: "pppppp", t85_pbm_end: "p",
+  t85_raw_header: "ppp", t85_set_unused_fields: "ppwww", t85_set_height: "pp",
 };
 let free = memory.buffer.byteLength;
 grow(4);
@@ -56,6 +58,13 @@ assert.deepEqual([call("t85_message", 9, room, 100), call("t85_message", 200, ro
 const fields = place(20);
 assert.deepEqual([call("t85_header", sound, 23, fields), word(fields), word(fields + 4)], [0, 8, 1]);
 assert.equal(call("t85_header", sound, 19, fields), 1);
+const raw = place(44), copy = place(BLACK);
+assert.deepEqual([call("t85_raw_header", sound, 20, raw), word(raw), word(raw + 20), word(raw + 40)], [0, 8, 1, 8]);
+assert.equal(call("t85_raw_header", sound, 19, raw), 1);
+assert.deepEqual([call("t85_set_unused_fields", copy, 23, 9, 3, 0x14), ...bytes(copy + 17, 3)], [0, 9, 3, 0x1c]);
+assert.equal(call("t85_set_unused_fields", copy, 23, 9, 16, 0), 2);
+assert.deepEqual([call("t85_set_height", copy, 23), ...bytes(copy + 8, 4)], [0, 0, 0, 0, 1]);
+assert.equal(call("t85_set_height", copy, 19), 1);
 const summary = place(56);
 assert.deepEqual([call("t85_info", sound, 23, summary), word(summary + 20)], [0, 1]);
 assert.equal(call("t85_info", sound, 22, summary), 9);
@@ -98,6 +107,7 @@ assert.equal(call("t85_encode_row", encoder, rows, 1, window, 300, room, 4096, w
 assert.equal(call("t85_encode_offset", encoder, 0), 53);
 assert.equal(call("t85_best_offset", encoder, rows, 1, window, 300, place(300), 300, taken), 53);
 assert.equal(call("t85_encode_end", encoder, window, 300, room, 4096, written), 53);
+assert.equal(call("t85_encode_abort", encoder, room, 4096, written), 53);
 assert.deepEqual([call("t85_encode_rows_left", encoder), call("t85_encode_room", encoder)], [0, 0]);
 const start = (size, width) => call("t85_encode_start", encoder, size, width, 1, options(), rows, 0, window, 300, room, 4096, written);
 assert.deepEqual([start(4663, 8), start(5361, 8), start(5360, 0)], [50, 50, 33]);
@@ -111,6 +121,8 @@ const body = [...bytes(room, word(written))];
 assert.equal(call("t85_encode_end", encoder, window, 300, room, 4096, written), 0);
 assert.deepEqual([...body, ...bytes(room, word(written))], BLACK.slice(20));
 assert.equal(call("t85_encode_end", encoder, window, 300, room, 4096, written), 54);
+assert.deepEqual([start(5360, 8), call("t85_encode_abort", encoder, room, 1, written), call("t85_encode_abort", encoder, room, 2, written)], [0, 18, 0]);
+assert.deepEqual([word(written), ...bytes(room, 2)], [2, 0xff, 4]);
 
 const choice = place(528), above = place(1);
 assert.deepEqual([call("t85_choice_row", choice, rows, 1, above, 1), call("t85_choice_offset", choice, 0, taken)], [53, 53]);

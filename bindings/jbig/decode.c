@@ -38,6 +38,7 @@ static int create(struct jbg_dec_state *s, uint32_t width)
 static int begin(struct jbg_dec_state *s)
 {
     t85_header_fields fields;
+    t85_raw_header_fields raw;
     int status = t85_header(s->buffer, sizeof s->buffer, &fields);
     bool is_second = t85jbig_decoding(s) != NULL;
     const kit_calls *kit = t85jbig_is_outside(status) && !is_second ? t85jbig_kit() : NULL;
@@ -47,17 +48,20 @@ static int begin(struct jbg_dec_state *s)
         return t85jbig_code(status);
     if (is_second)
         return JBG_ENOCONT;
-    s->d = s->dl = 0;
-    s->xd = fields.width;
-    s->yd = fields.height;
-    s->l0 = fields.stripe_rows;
-    s->planes = 1;
+    if (t85_raw_header(s->buffer, sizeof s->buffer, &raw) != T85_OK)
+        return JBG_EINVAL;
+    s->dl = (int)raw.first_layer;
+    s->d = (int)raw.last_layer;
+    s->planes = (int)raw.planes;
+    s->xd = raw.width;
+    s->yd = raw.height;
+    s->l0 = raw.stripe_rows;
     s->stripes = jbg_stripes(s->l0, s->yd, 0);
-    s->mx = s->buffer[16];
-    s->my = s->buffer[17];
-    s->order = s->buffer[18];
-    s->options = s->buffer[19];
-    return create(s, fields.width);
+    s->mx = (int)raw.most_offset;
+    s->my = (int)raw.most_vertical_offset;
+    s->order = (int)raw.order;
+    s->options = (int)raw.options;
+    return create(s, raw.width);
 }
 
 /* Returns whether the image is complete if no more bytes follow, and adds its last rows. The interface has no call that

@@ -105,21 +105,66 @@ static t85_options options_of(const struct jbg_enc_state *s)
     return options;
 }
 
-/* Encodes the image into `room` bytes of `stream`, and returns a status of t85.h. */
-static int encode(const struct jbg_enc_state *s, unsigned char *stream, size_t room,
-                  size_t *written)
+/* The state of an encoding: its memory, and the offset of the adaptive pixel. */
+typedef struct {
+    t85_encoder encoder;
+    t85_choice choice;
+    unsigned char *window, *stream;
+    size_t window_len, room, len;
+    uint8_t offset;
+} encoding;
+
+static int start(const struct jbg_enc_state *s, encoding *it)
 {
-    uint32_t width = t85jbig_word(s->xd), height = t85jbig_word(s->yd);
-    size_t row = t85_row_bytes(width), window_len = t85_window_bytes(width);
+    uint32_t width = t85jbig_word(s->xd);
     t85_options options = options_of(s);
-    unsigned char *window = malloc(window_len);
+    t85_choice_start(&it->choice, sizeof it->choice, width, &options);
+    return t85_encode_start(&it->encoder, sizeof it->encoder, width, t85jbig_word(s->yd), &options, s->comment,
+                            s->comment ? s->comment_len : 0, it->window, it->window_len, it->stream, it->room, &it->len);
+}
+
+/* Encodes the rows. Before the first row of a stripe, the adaptive pixel moves as libjbig moves it with JBG_DELAY_AT: that
+   depends on all rows of the stripe before but the last. Within a stripe, libt85 rejects the offset. */
+static int put_rows(const struct jbg_enc_state *s, encoding *it)
+{
+    const unsigned char *row = s->lhp[0][0], *last = NULL, *above_last = NULL;
+    size_t len = t85_row_bytes(t85jbig_word(s->xd)), written;
+    int status = T85_OK;
+    unsigned long y;
+    for (y = 0; status == T85_OK && y < s->yd; y++) {
+        if (t85_encode_offset(&it->encoder, it->offset) != T85_OK) {
+            t85_choice_row(&it->choice, last, len, above_last, above_last ? len : 0);
+            above_last = last;
+        } else if (last) {
+            t85_choice_offset(&it->choice, it->offset, &it->offset);
+            t85_encode_offset(&it->encoder, it->offset);
+            above_last = s->options & JBG_SDRST ? NULL : last;
+        }
+        status = t85_encode_row(&it->encoder, row, len, it->window, it->window_len, it->stream + it->len,
+                                it->room - it->len, &written);
+        it->len += written;
+        last = row;
+        row += len;
+    }
+    return status;
+}
+
+/* Encodes the image into `room` bytes of `stream`, and returns a status of t85.h. */
+static int encode(const struct jbg_enc_state *s, unsigned char *stream, size_t room, size_t *len)
+{
+    encoding it = {.stream = stream, .room = room, .window_len = t85_window_bytes(t85jbig_word(s->xd))};
+    size_t written = 0;
     int status;
-    *written = 0;
-    if (!window)
+    it.window = malloc(it.window_len);
+    if (!it.window)
         return T85_SHORT_WINDOW;
-    status = t85_encode(width, height, s->lhp[0][0], row * height, row, &options, s->comment,
-                        s->comment ? s->comment_len : 0, window, window_len, stream, room, written);
-    free(window);
+    status = start(s, &it);
+    if (status == T85_OK)
+        status = put_rows(s, &it);
+    if (status == T85_OK)
+        status = t85_encode_end(&it.encoder, it.window, it.window_len, stream + it.len, room - it.len, &written);
+    free(it.window);
+    *len = it.len + written;
     return status;
 }
 
@@ -162,31 +207,45 @@ static void pass_on(const struct jbg_enc_state *s, unsigned char *bytes, size_t 
 }
 
 /* Passes on a stream in the calls that libjbig makes: one for the header, two for a comment, and for each stripe, with
-   the move before it, one for JBG_BUFSIZE bytes at a time. */
+   the move behind it, one for JBG_BUFSIZE bytes at a time. */
 static void pass_on_parts(const struct jbg_enc_state *s, unsigned char *stream, size_t len)
 {
     t85_part part = T85_PART;
-    size_t passed = 0;
+    size_t passed = 0, end = 0;
     while (t85_next_part(stream, len, &part) == T85_OK) {
-        size_t end = part.offset + part.len;
-        if (part.kind == T85_PART_MOVE)
-            continue;
+        if (part.kind != T85_PART_MOVE) {
+            pass_on(s, stream + passed, end - passed, JBG_BUFSIZE);
+            passed = end;
+        }
+        end = part.offset + part.len;
         if (part.kind == T85_PART_COMMENT) {
             size_t text = end - s->comment_len;
             s->data_out(stream + passed, text - passed, s->file);
             s->data_out(stream + text, s->comment_len, s->file);
-        } else {
-            pass_on(s, stream + passed, end - passed, JBG_BUFSIZE);
+            passed = end;
         }
-        passed = end;
     }
-    pass_on(s, stream + passed, len - passed, JBG_BUFSIZE);
+    pass_on(s, stream + passed, end - passed, JBG_BUFSIZE);
+    pass_on(s, stream + end, len - end, JBG_BUFSIZE);
+}
+
+/* No function can report that a stream cannot be written, so its reader must notice: it gets the marker of an aborted
+   image, and nothing else. libt85 writes the marker for an encoder, here that of an image of one pixel. */
+static void write_abort(const struct jbg_enc_state *s)
+{
+    t85_encoder encoder;
+    t85_options options = T85_OPTIONS;
+    unsigned char window[3], head[20], marker[2];
+    size_t written;
+    if (t85_encode_start(&encoder, sizeof encoder, 1, 1, &options, NULL, 0, window, sizeof window, head, sizeof head,
+                         &written) == T85_OK &&
+        t85_encode_abort(&encoder, marker, sizeof marker, &written) == T85_OK)
+        s->data_out(marker, written, s->file);
 }
 
 void jbg_enc_out(struct jbg_enc_state *s)
 {
     const kit_calls *kit = t85jbig_kit();
-    unsigned char aborted[2] = {0xff, 0x04}; /* the marker ABORT of T.82, 6.2.5 */
     unsigned char *stream;
     size_t len;
     s->stripes = jbg_stripes(s->l0, s->yd, (unsigned long)s->d);
@@ -196,15 +255,14 @@ void jbg_enc_out(struct jbg_enc_state *s)
     }
     stream = encoded(s, &len);
     if (!stream) {
-        /* No function can report that a stream cannot be written, so its reader must notice. */
-        s->data_out(aborted, sizeof aborted, s->file);
+        write_abort(s);
         return;
     }
     /* Printers compare these fields, although they have no meaning for one layer. */
-    stream[17] = (unsigned char)s->my;
-    stream[18] = (unsigned char)s->order;
-    stream[19] |= (unsigned char)(s->options & (JBG_TPDON | JBG_DPON));
-    pass_on_parts(s, stream, len);
+    if (t85_set_unused_fields(stream, len, (uint8_t)s->my, (uint8_t)s->order, (uint8_t)s->options) == T85_OK)
+        pass_on_parts(s, stream, len);
+    else
+        write_abort(s);
     s->comment = NULL;
     free(stream);
 }

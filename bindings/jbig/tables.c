@@ -114,10 +114,8 @@ int jbg_newlen(unsigned char *bie, size_t len)
         return JBG_EOK;
     while (status == T85_OK) {
         status = t85_next_part(bie, len, &part);
-        if (status == T85_OK && part.kind == T85_PART_NEW_HEIGHT) {
-            memcpy(bie + 8, bie + part.offset + part.len - 4, 4);
-            return JBG_EOK;
-        }
+        if (status == T85_OK && part.kind == T85_PART_NEW_HEIGHT)
+            return t85jbig_code(t85_set_height(bie, len));
     }
     return t85jbig_code(status);
 }

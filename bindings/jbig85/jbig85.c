@@ -8,21 +8,38 @@
 #define MARKER_ESC 0xff
 #define MARKER_SDNORM 0x02
 #define MARKER_SDRST 0x03
-#define MARKER_ABORT 0x04
 #define MARKER_NEWLEN 0x05
 
 /* Stages of an encoder. */
 enum { NOT_BEGUN, BEGUN, ENDED };
 
-/* A struct of libt85 fits exactly into the space that the header reserves for it. */
-typedef char
-    encoder_fits[sizeof(t85_encoder) == sizeof(((struct jbg85_enc_state *)0)->encoder) ? 1 : -1];
-typedef char
-    decoder_fits[sizeof(t85_decoder) == sizeof(((struct jbg85_dec_state *)0)->decoder) ? 1 : -1];
+/* The state of libt85 fits exactly into the space that the header reserves for it. */
+#define ENCODER_SIZE sizeof(((struct jbg85_enc_state *)0)->encoder)
+#define CHOICE_SIZE sizeof(((struct jbg85_enc_state *)0)->choice)
+#define DECODER_SIZE sizeof(((struct jbg85_dec_state *)0)->decoder)
+typedef char encoder_fits[ENCODER_SIZE == T85_ENCODER_LEAST ? 1 : -1];
+typedef char choice_fits[CHOICE_SIZE == sizeof(t85_choice) ? 1 : -1];
+typedef char decoder_fits[DECODER_SIZE == sizeof(t85_decoder) ? 1 : -1];
+
+/* With longs of 64 bits, the public fields are at JBIG-KIT's places. */
+typedef char enc_fits[sizeof(long) != 8 || (sizeof(struct jbg85_enc_state) == 5280 &&
+                                            offsetof(struct jbg85_enc_state, data_out) == 5248)
+                          ? 1
+                          : -1];
+typedef char dec_fits[sizeof(long) != 8 || (sizeof(struct jbg85_dec_state) == 4376 &&
+                                            offsetof(struct jbg85_dec_state, bie_len) == 4224 &&
+                                            offsetof(struct jbg85_dec_state, y) == 4280)
+                          ? 1
+                          : -1];
 
 static t85_encoder *encoder_of(struct jbg85_enc_state *s)
 {
     return (t85_encoder *)(void *)s->encoder;
+}
+
+static t85_choice *choice_of(struct jbg85_enc_state *s)
+{
+    return (t85_choice *)(void *)s->choice;
 }
 
 static t85_decoder *decoder_of(struct jbg85_dec_state *s)
@@ -70,10 +87,14 @@ static void stop(struct jbg85_enc_state *s)
     s->y = s->y0;
 }
 
-void jbg85_enc_abort(struct jbg85_enc_state *s)
+/* Ends a stream that has begun and not ended as an aborted one. */
+static void end_aborted(struct jbg85_enc_state *s)
 {
-    unsigned char marker[2] = {MARKER_ESC, MARKER_ABORT};
-    s->data_out(marker, sizeof marker, s->file);
+    unsigned char marker[2];
+    size_t written;
+    if (s->stage == BEGUN &&
+        t85_encode_abort(encoder_of(s), marker, sizeof marker, &written) == T85_OK)
+        s->data_out(marker, written, s->file);
     stop(s);
 }
 
@@ -82,9 +103,7 @@ void jbg85_enc_abort(struct jbg85_enc_state *s)
 static void fail(struct jbg85_enc_state *s, int status)
 {
     s->status = status;
-    if (s->stage == BEGUN)
-        jbg85_enc_abort(s);
-    stop(s);
+    end_aborted(s);
 }
 
 static t85_options options_of(const struct jbg85_enc_state *s)
@@ -163,9 +182,10 @@ static bool take(struct jbg85_enc_state *s, step what, const unsigned char *line
     stream = window + window_len;
     if (what == START) {
         t85_options options = options_of(s);
-        status = t85_encode_start(encoder_of(s), sizeof(t85_encoder), width, word(s->y0), &options,
+        status = t85_encode_start(encoder_of(s), ENCODER_SIZE, width, word(s->y0), &options,
                                   s->comment, s->comment ? s->comment_len : 0, window, window_len,
                                   stream, room, &written);
+        t85_choice_start(choice_of(s), CHOICE_SIZE, width, &options);
     } else {
         put_rows(window, width, s->y, above, second);
         if (what == ROW)
@@ -190,19 +210,44 @@ static void finish(struct jbg85_enc_state *s)
     stop(s);
 }
 
+/* Moves the adaptive pixel as libjbig does, if a stripe begins with the next row: within a stripe, libt85 rejects the
+   offset. */
+static void move(struct jbg85_enc_state *s)
+{
+    if (s->y > 0 && t85_encode_offset(encoder_of(s), s->offset) == T85_OK &&
+        t85_choice_offset(choice_of(s), s->offset, &s->offset) == T85_OK)
+        t85_encode_offset(encoder_of(s), s->offset);
+}
+
+/* Writes the head of the stream, if this was not done, and returns whether it is written. */
+static bool begin(struct jbg85_enc_state *s)
+{
+    if (s->stage == NOT_BEGUN && take(s, START, NULL, NULL, NULL)) {
+        s->stage = BEGUN;
+        s->comment = NULL;
+    }
+    return s->stage == BEGUN;
+}
+
+/* A reader finds the marker only behind a header. */
+void jbg85_enc_abort(struct jbg85_enc_state *s)
+{
+    if (begin(s))
+        end_aborted(s);
+}
+
 void jbg85_enc_lineout(struct jbg85_enc_state *s, unsigned char *line, unsigned char *prevline,
                        unsigned char *prevprevline)
 {
     if (s->stage == ENDED || s->y >= s->y0)
         return;
-    if (s->stage == NOT_BEGUN) {
-        if (!take(s, START, NULL, NULL, NULL))
-            return;
-        s->stage = BEGUN;
-        s->comment = NULL;
-    }
+    if (!begin(s))
+        return;
+    move(s);
     if (!take(s, ROW, line, prevline, prevprevline))
         return;
+    t85_choice_row(choice_of(s), line, t85_row_bytes(word(s->x0)), s->y > 0 ? prevline : NULL,
+                   s->y > 0 && prevline ? t85_row_bytes(word(s->x0)) : 0);
     s->y++;
     if (s->y == s->y0)
         finish(s);
@@ -233,19 +278,14 @@ void jbg85_dec_init(struct jbg85_dec_state *s, unsigned char *buf, size_t buflen
     s->linebuf_len = buf ? buflen : 0;
     s->line_out = line_out;
     s->file = file;
-    t85_decode_start(decoder_of(s), sizeof(t85_decoder), UINT32_MAX);
-}
-
-static unsigned long number_at(const unsigned char *bytes)
-{
-    return (unsigned long)bytes[0] << 24 | (unsigned long)bytes[1] << 16 |
-           (unsigned long)bytes[2] << 8 | bytes[3];
+    t85_decode_start(decoder_of(s), DECODER_SIZE, UINT32_MAX);
 }
 
 /* Stores the header among the consumed bytes, and the last bytes. */
 static void keep(struct jbg85_dec_state *s, const unsigned char *bytes, size_t len)
 {
     size_t kept = len < sizeof s->last ? len : sizeof s->last, at;
+    t85_raw_header_fields header;
     if (len == 0)
         return;
     memmove(s->last, s->last + kept, sizeof s->last - kept);
@@ -254,14 +294,14 @@ static void keep(struct jbg85_dec_state *s, const unsigned char *bytes, size_t l
         return;
     for (at = 0; at < len && s->bie_len < sizeof s->buffer; at++)
         s->buffer[s->bie_len++] = bytes[at];
-    if (s->bie_len < sizeof s->buffer)
+    if (t85_raw_header(s->buffer, s->bie_len, &header) != T85_OK)
         return;
-    s->x0 = number_at(s->buffer + 4);
-    s->y0 = number_at(s->buffer + 8);
-    s->l0 = number_at(s->buffer + 12);
-    s->mx = s->buffer[16];
-    s->options = s->buffer[19];
-    s->bpl = t85_row_bytes((uint32_t)s->x0);
+    s->x0 = header.width;
+    s->y0 = header.height;
+    s->l0 = header.stripe_rows;
+    s->mx = (int)header.most_offset;
+    s->options = (int)header.options;
+    s->bpl = t85_row_bytes(header.width);
 }
 
 /* Copies the height from libt85. If it is lower than before, it is final. */
@@ -277,7 +317,9 @@ static void take_height(struct jbg85_dec_state *s)
 /* Returns libjbig's code for this error of the header, or of the stream behind the header. */
 static int code_of(const struct jbg85_dec_state *s, int status)
 {
-    const unsigned char *header = s->buffer;
+    t85_raw_header_fields header;
+    memset(&header, 0, sizeof header);
+    t85_raw_header(s->buffer, s->bie_len, &header);
     switch (status) {
     case T85_OK: return JBG_EOK;
     case T85_MORE:
@@ -286,17 +328,18 @@ static int code_of(const struct jbg85_dec_state *s, int status)
     case T85_SHORT_WINDOW: return JBG_ENOMEM;
     case T85_ABORTED: return JBG_EABORT;
     case T85_BAD_ESCAPE: return JBG_EMARKER;
-    case T85_RESERVED_BITS: return JBG_EINVAL | (header[3] ? 2 : header[18] & 0xf0 ? 3 : 4);
+    case T85_RESERVED_BITS: return JBG_EINVAL | (header.fill ? 2 : header.order > 15 ? 3 : 4);
     case T85_LAYERS:
-        return header[1] < header[0] ? JBG_EINVAL | 1 : JBG_EIMPL | (header[0] ? 8 : 9);
-    case T85_PLANES: return header[2] ? JBG_EIMPL | 10 : JBG_EINVAL | 5;
-    case T85_ZERO_SIZE: return JBG_EINVAL | (!s->x0 ? 6 : !s->y0 ? 7 : 8);
+        return header.last_layer < header.first_layer ? JBG_EINVAL | 1
+                                                      : JBG_EIMPL | (header.first_layer ? 8 : 9);
+    case T85_PLANES: return header.planes ? JBG_EIMPL | 10 : JBG_EINVAL | 5;
+    case T85_ZERO_SIZE: return JBG_EINVAL | (!header.width ? 6 : !header.height ? 7 : 8);
     case T85_MOVE_RANGE: return JBG_EINVAL | 9;
     case T85_TOO_WIDE: return JBG_EIMPL;
     case T85_PRIVATE_TABLE: return JBG_EIMPL | 13;
     case T85_MOVE_REFUSED: return JBG_EINVAL | 11;
     case T85_SECOND_MOVE: return JBG_EIMPL | 14;
-    case T85_LENGTH_REFUSED: return JBG_EINVAL | (header[19] & JBG_VLENGTH ? 12 : 13);
+    case T85_LENGTH_REFUSED: return JBG_EINVAL | (header.options & JBG_VLENGTH ? 12 : 13);
     case T85_SECOND_LENGTH: return JBG_EINVAL | 13;
     default: return JBG_EINVAL;
     }

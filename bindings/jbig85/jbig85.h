@@ -1,5 +1,6 @@
-/* JBIG-KIT's T.85 functions on top of libt85. Names, fields and numbers are those of JBIG-KIT's header, so that a program only
-   needs to be recompiled. README.md explains how, and what differs. The header is C89, like the programs that use it. */
+/* JBIG-KIT's T.85 functions on top of libt85. Names, fields and numbers are those of JBIG-KIT's header, and with longs of 64
+   bits each field is at its place there. README.md explains how to use it, and what differs. The header is C89, like the
+   programs that use it. */
 #ifndef JBG85_H
 #define JBG85_H
 
@@ -37,8 +38,9 @@ extern "C" {
 
 #endif
 
-/* The sizes of libt85's structs, in longs. */
-#define JBG85_ENCODER_LONGS (5360 / sizeof(unsigned long))
+/* The sizes of libt85's states, in longs. */
+#define JBG85_ENCODER_LONGS (4664 / sizeof(unsigned long))
+#define JBG85_CHOICE_LONGS (528 / sizeof(unsigned long))
 #define JBG85_DECODER_LONGS (1280 / sizeof(unsigned long))
 
 struct jbg85_enc_state {
@@ -48,14 +50,17 @@ struct jbg85_enc_state {
     int newlen;      /* 1 once a lower height was set, 2 once it has been written */
     unsigned mx;     /* greatest offset of the adaptive template pixel */
     unsigned long y; /* number of rows encoded */
+    /* Fields of our own, in the place of libjbig's: */
+    unsigned char stage;  /* 0 before the first row, 1 after it, 2 if nothing more is written */
+    unsigned char offset; /* of the adaptive template pixel */
+    int status;           /* 0, or the status of t85.h because of which nothing more is written */
+    unsigned long encoder[JBG85_ENCODER_LONGS];
+    unsigned long choice[JBG85_CHOICE_LONGS];
+    /* As in JBIG-KIT's header again: */
     void (*data_out)(unsigned char *start, size_t len, void *file);
     void *file;
     unsigned char *comment; /* set before the first row; NULL once it has been written */
     unsigned long comment_len;
-    /* Fields that libjbig does not have: */
-    int stage;  /* 0 before the first row, 1 after it, 2 if nothing more is written */
-    int status; /* 0, or the status of t85.h because of which nothing more is written */
-    unsigned long encoder[JBG85_ENCODER_LONGS];
 };
 
 struct jbg85_dec_state {
@@ -63,21 +68,27 @@ struct jbg85_dec_state {
     unsigned long l0;     /* rows per stripe */
     int options;          /* the header's, without JBG_VLENGTH once a new height has arrived */
     int mx;               /* greatest offset of the adaptive template pixel */
+    /* Fields of our own, in the place of libjbig's: */
+    unsigned char last[5]; /* the last bytes consumed */
+    int ending; /* after a height that comes last: 1; after a byte of the empty data entity 2, then 3 */
+    /* As in JBIG-KIT's header again: */
     unsigned char *linebuf;
     size_t linebuf_len;
-    size_t bpl;               /* bytes per row */
+    size_t bpl; /* bytes per row */
+    /* Our own: */
+    unsigned long decoder[JBG85_DECODER_LONGS];
+    unsigned long unused_1[2872 / sizeof(unsigned long)];
+    /* JBIG-KIT's: */
     unsigned long bie_len;    /* number of header bytes received, at most 20 */
     unsigned char buffer[20]; /* the header bytes received */
-    unsigned long y;          /* number of rows returned */
+    unsigned long unused_2[24 / sizeof(unsigned long)];
+    unsigned long y; /* number of rows returned */
+    unsigned long unused_3[64 / sizeof(unsigned long)];
     int (*line_out)(const struct jbg85_dec_state *s, unsigned char *start, size_t len,
                     unsigned long y, void *file);
     void *file;
     int intr; /* line_out requested an interruption */
     int end_of_bie; /* the end of the input was signalled */
-    /* Fields that libjbig does not have: */
-    unsigned char last[5]; /* the last bytes consumed */
-    int ending; /* after a height that comes last: 1; after a byte of the empty data entity 2, then 3 */
-    unsigned long decoder[JBG85_DECODER_LONGS];
 };
 
 void jbg85_enc_init(struct jbg85_enc_state *s, unsigned long x0, unsigned long y0,

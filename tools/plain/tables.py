@@ -7,7 +7,7 @@ CRATES = {
     "qm_core": [],
     "raster_core": ["qm_core"],
     "t85_core": ["pbm_core", "qm_core", "raster_core", "kit", "byteorder", "memchr", "thiserror"],
-    "t85": ["pbm_core", "qm_core", "raster_core", "t85_core", "kit"],
+    "t85": ["pbm_core", "qm_core", "raster_core", "t85_core", "kit", "byteorder"],
     "program_core": ["t85_core", "pbm_core", "kit", "clap"],
     "jbgtopbm85": ["pbm_core", "program_core", "kit"],
     "pbmtojbg85": ["pbm_core", "program_core", "kit"],

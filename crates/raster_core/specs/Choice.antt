@@ -12,9 +12,6 @@ pub record Counting : Type 0 where
   pub most : ℕ
   pub width : ℕ
 
-abbrev pub counting_with : Mode → ℕ → ℕ → Counting
-counting_with mode most width = record { mode = mode; most = most; width = width }
-
 -- ---- what is counted
 
 -- the number of columns that are counted
@@ -66,8 +63,8 @@ leads pixels best other = nat_lt best other || (nat_lt (pixels - best) (best - o
 
 -- Whether the adaptive pixel moves away from the current offset, if these are the best and the worst count of a lag: more than
 -- 2,048 pixels were counted; the best count misses less than an eighth of them; it leads that of the current offset, and that of
--- its inverse; and the worst count is more than a quarter below it. Away from the nominal position, JBIG-KIT also requires that the
--- best and the worst of all counts are more than an eighth apart, as they then are.
+-- its inverse; and the worst count is more than a quarter below it. Away from the nominal position, JBIG-KIT also tests whether
+-- the best and the worst of all counts are more than an eighth apart, as they then are.
 abbrev pub is_worth : PixelCounts → ℕ → ℕ → ℕ → Bool
 is_worth n best worst current =
     nat_lt 2048 n.pixels

@@ -41,20 +41,25 @@ struct Extremes {
 }
 
 impl Choice {
-    ghost use Rattle.std.specs.Prelude.{ℕ, ◌+◌, ◌-◌, ◌^◌, ◌≡◌, ◌≤◌, ◌<◌, ◌%◌, [], ◌∷◌, ◌++◌, List, map, min, Some, true, if◌then◌else◌};
-    ghost use Rattle.raster_core.specs.Choice.{PixelCounts, counting_with, first_best, greatest_of, is_worth, kit_offset, least_of};
+    ghost use Rattle.std.specs.Prelude.{ℕ, ◌+◌, ◌-◌, ◌^◌, ◌≡◌, ◌≤◌, ◌<◌, ◌%◌, [], ◌∷◌, ◌++◌, List, map, Some, true, if◌then◌else◌};
+    ghost use Rattle.raster_core.specs.Choice.{PixelCounts, first_best, greatest_of, is_worth, kit_offset, least_of};
     ghost use Rattle.raster_core.specs.Counting.{AddsAt, AreLines, HasCounted, HasCounts, counting_of, counts_in, fit_lines, is_offered, is_reset};
     ghost use Rattle.raster_core.specs.Lines.{Lines, may_be_typical};
     ghost use Rattle.raster_core.specs.Offset.{candidates};
     ghost use Rattle.raster_core.specs.Tally.{least_lag};
     ghost use Rattle.raster_core.specs.Window.{shape_mode};
 
-    /// A choice with no row counted. The lags that may be chosen are those from 5 (two-line template) or 3 (three-line
-    /// template) to `most`; a value above 127 counts as 127, and a width above 1048576 as 1048576. `reset` says whether
-    /// each stripe ends in SDRST, after which the adaptive pixel is in its nominal position.
+    /// A choice with no row counted. The lags that may be chosen are those from 5 (two-line
+    /// template) or 3 (three-line template) to `most`. `reset` says whether each stripe ends in SDRST, after which the
+    /// adaptive pixel is in its nominal position (T.82, 6.2.6).
     pub fn new(shape: Shape, most: u8, reset: bool) -> Choice
-        ensures counting { counting_of result ≡
-            counting_with (shape_mode shape) (min most 127) (min shape.width (2 ^ 20)) }
+        requires most { most ≤ 127 }
+        requires width { shape.width ≤ 2 ^ 20 }
+        ensures counting { counting_of result ≡ record {
+          mode = shape_mode shape;
+          most = most;
+          width = shape.width;
+        } }
         ensures reset { is_reset result ≡ reset }
         ensures counted { HasCounted result [] }
     {
@@ -79,7 +84,7 @@ impl Choice {
         self.pixels = 0;
     }
 
-    /// PixelCounts the next row of a stripe, which is below the row `above`: white at the top of an image and after a reset.
+    /// Counts the next row of a stripe, which is below the row `above`: white at the top of an image and after a reset.
     /// Both may have any padding; missing bytes are white. A typical row is not counted, and no row once more than
     /// 2,048 pixels have been.
     pub fn count_row(&mut self, row: &[u8], above: &[u8])
@@ -177,7 +182,7 @@ impl Choice {
         self.typical != 0 && is_same(row, above, self.width())
     }
 
-    /// PixelCounts a row in these columns.
+    /// Counts a row in these columns.
     fn add_row(&mut self, row: &[u8], above: &[u8], columns: Columns)
         requires some { columns.first < columns.end }
         requires narrow { columns.end ≤ 2 ^ 20 }
@@ -203,11 +208,11 @@ impl Choice {
 
     /// The best and the worst count of a lag.
     fn extremes(&self) -> Extremes
-        ensures best { (n : PixelCounts) → HasCounts self.now n →
-            result.best ≡ greatest_of (map n.at
+        ensures best { (n : PixelCounts) → HasCounts self.now n → result.best ≡ greatest_of
+            (map n.at
             (candidates (counting_of self.now).mode.two_line (counting_of self.now).most)) }
-        ensures worst { (n : PixelCounts) → HasCounts self.now n →
-            result.worst ≡ least_of n.pixels (map n.at
+        ensures worst { (n : PixelCounts) → HasCounts self.now n → result.worst ≡ least_of n.pixels
+            (map n.at
             (candidates (counting_of self.now).mode.two_line (counting_of self.now).most)) }
     {
         let mut best = 0;

@@ -10,7 +10,10 @@ pub mod Meaning
 pub mod Placed
 pub mod RawRows
 pub mod Rowed
+pub mod SameImage
+pub mod SameHeight
 pub mod Stored
 pub mod Taken
+pub mod UnusedBytes
 pub mod PbmCalls
 pub mod ChoiceCalls

@@ -2,7 +2,7 @@
 use Rattle.std.specs.Prelude.{ℕ, ◌≡◌, ◌≢◌, ◌==◌, ◌||◌, ◌&&◌, not, nat_lt, Bool, true, List, [], ◌∷◌, ◌++◌, length, Option, None, option_map, unwrap_or}
 use Rattle.std.specs.Int.{div_ceil}
 use Rattle.pbm_core.specs.Image.{pixels_of}
-use Rattle.raster_core.specs.Choice.{Counting, counting_with, kit_offset}
+use Rattle.raster_core.specs.Choice.{Counting, kit_offset}
 use Rattle.raster_core.specs.Counting.{HasCounted, counting_of, is_reset}
 use Rattle.raster_core.specs.Lines.{Lines}
 use Rattle.t85_core.specs.Coding.{mode_of}
@@ -28,7 +28,7 @@ OfEachChoice d Q = (c : Counting) (reset : Bool) (stripe : List Lines) → HasCh
 
 -- how pixels are counted with these options, in images of this width
 abbrev pub counting_asked : T85Options → ℕ → Counting
-counting_asked options width = counting_with (mode_of options.options) options.most_offset width
+counting_asked options width = record { mode = mode_of options.options; most = options.most_offset; width = width }
 
 -- the first error: the size of the struct or the version of the options, the options, the width
 abbrev pub choice_refusal : ℕ → ℕ → T85Options → Option ℕ
@@ -73,18 +73,18 @@ pub record PassesRow (row above : List ℕ) (old new : T85Choice) (answer : ℕ)
 -- ---- the end of a stripe
 
 -- whether the offset may be that of a stripe
-abbrev pub allows_offset : T85Choice → ℕ → Bool
-allows_offset d offset = may_name (counting_of d.choice).mode.two_line (counting_of d.choice).most offset
+abbrev pub may_be_named : T85Choice → ℕ → Bool
+may_be_named d offset = may_name (counting_of d.choice).mode.two_line (counting_of d.choice).most offset
 
 -- the first error: the struct was not initialized, or the stripe cannot have been coded at this offset
 abbrev pub choice_offset_refusal : T85Choice → ℕ → Option ℕ
 choice_offset_refusal d current =
     or_else (status_if (not (d.version == 1)) 53)
-    (status_if (not (allows_offset d current)) 22)
+    (status_if (not (may_be_named d current)) 22)
 
 -- The effect of `t85_choice_offset`: the offset is that of the next stripe, of which no row has been received.
 pub record ChoosesOffset (current before : ℕ) (old new : T85Choice) (offset answer : ℕ) : Type 0 where
   pub status_is : answer ≡ unwrap_or (choice_offset_refusal old current) 0
   pub refused : answer ≢ 0 → (new ≡ old) × (offset ≡ before)
   pub chosen : answer ≡ 0 → OfEachChoice old (λ c reset stripe. (offset ≡ kit_offset c reset stripe current) × HasChoice c reset new [])
-  pub offered : answer ≡ 0 → allows_offset old offset ≡ true
+  pub offered : answer ≡ 0 → may_be_named old offset ≡ true

@@ -2,6 +2,9 @@
 pub mod Delivered
 pub mod Facts
 pub mod Header
+pub mod RawHeader
+pub mod UnusedFields
+pub mod SetHeight
 pub mod Summary
 pub mod Decoded
 pub mod DecodedRows
@@ -11,6 +14,7 @@ pub mod DecoderStart
 pub mod DecoderState
 pub mod Encoded
 pub mod Encoder
+pub mod EncoderAbort
 pub mod BestOffset
 pub mod Choice
 pub mod Bound

@@ -2,7 +2,7 @@
 
 ghost use Rattle.std.specs.Prelude.{◌≡◌, [], true, MatchResult, IfOk, None, Some};
 ghost use Rattle.raster_core.specs.Counting.{HasCounted, counting_of, is_reset};
-ghost use Rattle.t85.specs.Choice.{ChoosesOffset, CountsPassed, PassesRow, StartsChoice, choice_offset_refusal, choice_refusal, choice_row_refusal, counting_asked, allows_offset};
+ghost use Rattle.t85.specs.Choice.{ChoosesOffset, CountsPassed, PassesRow, StartsChoice, choice_offset_refusal, choice_refusal, choice_row_refusal, counting_asked, may_be_named};
 
 use crate::encoding::{MOST_WIDTH, VERSION as OPTIONS_VERSION};
 use crate::options::{T85Options, accept};
@@ -108,7 +108,7 @@ impl T85Choice {
     fn judge_offset(&self, current: u8) -> Result<(), u8>
         ensures judged { MatchResult result (λ _. choice_offset_refusal self.now current ≡ None)
             (λ status. choice_offset_refusal self.now current ≡ Some status) }
-        ensures offered { IfOk result (λ _. allows_offset self.now current ≡ true) }
+        ensures offered { IfOk result (λ _. may_be_named self.now current ≡ true) }
     {
         if self.version != VERSION {
             return Err(NOT_BEGUN);

@@ -1,5 +1,6 @@
 //! An encoder for an image row by row, in a struct that a C caller owns.
 
+pub mod abort;
 pub mod best;
 
 ghost use Rattle.std.specs.Prelude.{ℕ, List, ◌≡◌, ◌≢◌, ◌≤◌, ◌<◌, ◌⊎◌, length, take, false, true, Some, None, [], MatchOption, MatchResult, IfOk};

@@ -20,10 +20,13 @@ mod opened;
 mod options;
 mod parts;
 mod pbm;
+mod raw_header;
+mod set_height;
 mod status;
 mod summary;
 #[cfg(test)]
 mod tests;
+mod unused_fields;
 
 ghost use Rattle.std.specs.Prelude.{◌≡◌};
 ghost use Rattle.t85.specs.Decoded.{window_bytes};
@@ -35,6 +38,7 @@ pub use crate::decoder::{
 };
 pub use crate::decoding::t85_decode;
 pub use crate::decoding_rows::t85_decode_rows;
+pub use crate::encoder::abort::t85_encode_abort;
 pub use crate::encoder::best::t85_best_offset;
 pub use crate::encoder::{
     T85Encoder, t85_encode_end, t85_encode_offset, t85_encode_room, t85_encode_row,
@@ -47,7 +51,10 @@ pub use crate::message::t85_message;
 pub use crate::options::T85Options;
 pub use crate::parts::{T85Part, t85_next_part};
 pub use crate::pbm::{T85Pbm, t85_pbm_end, t85_pbm_header, t85_pbm_row, t85_pbm_start};
+pub use crate::raw_header::{T85RawHeader, t85_raw_header};
+pub use crate::set_height::t85_set_height;
 pub use crate::summary::{T85Summary, t85_info};
+pub use crate::unused_fields::t85_set_unused_fields;
 
 /// Returns the version of the library: one byte each for the major number, the minor number and the patch.
 #[unsafe(no_mangle)]

@@ -1,9 +1,13 @@
 //! Tests of the library's functions on worked examples.
 
+mod abort;
 mod choice;
 mod pbm;
 mod pieces;
+mod raw_header;
 mod rows;
+mod set_height;
+mod unused;
 
 use crate::{
     T85Header, T85Options, T85Summary, t85_decode, t85_decode_rows, t85_encode, t85_encode_bound,

@@ -8,7 +8,7 @@ use crate::{
 use t85_core::Learning;
 
 /// An encoder of all zeros.
-fn zeros() -> T85Encoder {
+pub(crate) fn zeros() -> T85Encoder {
     T85Encoder {
         version: 0,
         next: 0,
@@ -45,15 +45,15 @@ fn zeros() -> T85Encoder {
 
 /// The results of calls for an image row by row: the last status, and the bytes written.
 #[derive(Drop)]
-struct Sent {
-    status: u8,
-    bytes: [u8; 64],
-    count: usize,
+pub(crate) struct Sent {
+    pub status: u8,
+    pub bytes: [u8; 64],
+    pub count: usize,
 }
 
 impl Sent {
     /// Adds the result of a call.
-    fn add(&mut self, status: u8, bytes: &[u8]) {
+    pub fn add(&mut self, status: u8, bytes: &[u8]) {
         self.status = status;
         for byte in bytes {
             if self.count < 64 {
@@ -64,13 +64,13 @@ impl Sent {
     }
 
     /// Whether these are the status and the bytes.
-    fn is(&self, status: u8, bytes: &[u8]) -> bool {
+    pub fn is(&self, status: u8, bytes: &[u8]) -> bool {
         self.status == status && &self.bytes[..self.count.min(64)] == bytes
     }
 }
 
 /// The encoder of an example, started with the comment "hi", with a window and an output buffer of the given sizes.
-fn begun(example: &Coded, window: &mut [u8], room: usize) -> (T85Encoder, Sent) {
+pub(crate) fn begun(example: &Coded, window: &mut [u8], room: usize) -> (T85Encoder, Sent) {
     let mut encoder = zeros();
     let mut sent = Sent {
         status: 0,
@@ -95,7 +95,7 @@ fn begun(example: &Coded, window: &mut [u8], room: usize) -> (T85Encoder, Sent) 
 }
 
 /// Passes a row, or the end if there is none, with an output buffer this many bytes shorter than reported.
-fn go_on(
+pub(crate) fn go_on(
     encoder: &mut T85Encoder,
     row: Option<&[u8]>,
     window: &mut [u8],

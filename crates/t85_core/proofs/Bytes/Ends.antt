@@ -1,5 +1,5 @@
 -- A walk that ends in the middle, seen from its beginning.
-use Rattle.std.proofs.Common.{◌≡◌, ◌≢◌, ℕ, List, [], ◌++◌, Option, Result, Ok, Err, sym, ap, ◌∙◌, append-nil, subst}
+use Rattle.std.proofs.Common.{◌≡◌, ◌≢◌, ℕ, List, [], ◌++◌, Option, Result, Ok, Err, append-nil}
 use Rattle.std.specs.Io.KnownBytes.{Consumes}
 use Rattle.std.specs.Result.{IfOk, OnOk, OnErr, IfErr, IsErrAnd, IsErrOf}
 use Rattle.t85_core.specs.declared.fault.Fault.{Fault}
@@ -8,7 +8,8 @@ use Rattle.t85_core.specs.Failures.{Ends, counted_as}
 use Rattle.t85_core.proofs.Bytes.Streams.{Consumes-more}
 
 -- bytes that were skipped before precede the others
-pub Ends-after : {ending : Fault} {a b c : Option (List ℕ)} {P Q : List ℕ → Fault → Type 0} {f : Fault} (front : List ℕ) → Consumes a b front → ((given : List ℕ) (e : Fault) → P given e → Q (front ++ given) e) → Ends ending b c P f → Ends ending a c Q f
+pub Ends-after : {ending : Fault} {a b c : Option (List ℕ)} {P Q : List ℕ → Fault → Type 0} {f : Fault} (front : List ℕ) → Consumes a b front →
+    ((given : List ℕ) (e : Fault) → P given e → Q (front ++ given) e) → Ends ending b c P f → Ends ending a c Q f
 Ends-after {ending} {a} {b} {c} {P} {Q} {f} front taken widen e = record {
   given = front ++ e.given;
   taken = Consumes-more a b c front e.given taken e.taken;
@@ -17,23 +18,25 @@ Ends-after {ending} {a} {b} {c} {P} {Q} {f} front taken widen e = record {
 }
 
 -- a fault that the bytes so far have, and that is reported at once
-pub Ends-at : {ending : Fault} {a b : Option (List ℕ)} {Q : List ℕ → Fault → Type 0} (f : Fault) (given : List ℕ) → Consumes a b given → counted_as ending f ≡ f → f ≢ ending → Q given f → Ends ending a b Q f
-Ends-at {ending} {a} {b} {Q} f given taken same other q = record {
+pub Ends-at : {ending f : Fault} {a b : Option (List ℕ)} {Q : List ℕ → Fault → Type 0} (given : List ℕ) → Consumes a b given → counted_as ending f ≡ f → f ≢ ending → Q given f →
+    Ends ending a b Q f
+Ends-at {ending} {a} {b} {Q} given taken same other q = record {
   given = given;
   taken = taken;
-  has_fault = subst (λ e. Q given e) (sym same) q;
+  has_fault = rw same q;
   at_end = λ h. absurd (other h);
 }
 
 -- the exit of a `?` that gives a fault back
 pub exit : {T : Type 0} (P : Fault → Type 0) (r : Result T Fault) {e : Fault} → IsErrAnd r (λ y. y ≡ e) → P e → IfErr r P
 exit P (Ok x) a p = tt
-exit P (Err y) a p = subst P (sym a) p
+exit P (Err y) a p = rw a p
 
 -- the next byte is missing
-pub Ends-missing : {a b c : Option (List ℕ)} {f : Fault} (Q : List ℕ → Fault → Type 0) (front : List ℕ) → Consumes a b front → Q front Truncated → Ends Truncated b c (λ given fault. (given ≡ []) × (fault ≡ Truncated)) f → Ends Truncated a c Q f
+pub Ends-missing : {a b c : Option (List ℕ)} {f : Fault} (Q : List ℕ → Fault → Type 0) (front : List ℕ) → Consumes a b front → Q front Truncated →
+    Ends Truncated b c (λ given fault. (given ≡ []) × (fault ≡ Truncated)) f → Ends Truncated a c Q f
 Ends-missing Q front taken q e = Ends-after front taken (λ given f p.
-    subst (λ x. Q (front ++ given) x) (sym p.1) (subst (λ xs. Q xs Truncated) (sym (ap (λ z. front ++ z) p.0 ∙ append-nil front)) q)) e
+    rw (p.1, p.0, append-nil) q) e
 
 -- what follows from the fault that a `?` passed on
 pub exit_of : {T : Type 0} {P : Type 0} (r : Result T Fault) {e f : Fault} → IsErrAnd r (λ y. y ≡ e) → (e ≡ f → P) → IsErrOf r f → P

@@ -8,10 +8,10 @@ use Rattle.std.proofs.lemmas.List.{drop-take, drop-drop}
 use Rattle.std.proofs.Math.Seq.{drop-cons, drop_at, take_at}
 use Rattle.t85_core.specs.Steps.Buffers.{held_of}
 
-pub keeps_refill : (a b : Option (List ℕ)) (held more : List ℕ) → held ≡ [] → Consumes a b more → Keeps (prepend_known held a) (prepend_known more b)
-keeps_refill None b held more e k = tt
-keeps_refill (Some a) None held more e k = k
-keeps_refill (Some a) (Some b) held more e k = sym k ∙ ap (λ z. z ++ a) (sym e)
+pub keeps_refill : {held : List ℕ} (a b : Option (List ℕ)) (more : List ℕ) → held ≡ [] → Consumes a b more → Keeps (prepend_known held a) (prepend_known more b)
+keeps_refill None b more e k = tt
+keeps_refill (Some a) None more e k = k
+keeps_refill (Some a) (Some b) more e k = sym k ∙ ap (λ z. z ++ a) (sym e)
 
 pub Keeps-same : (a : Option (List ℕ)) → Keeps a a
 Keeps-same None = tt
@@ -33,57 +33,63 @@ held_after bytes at count end h =
     let n : end - at ≡ count + (end - (at + count)) = omega arith in
     sym (ap (λ k. drop count (take k (drop at bytes))) n ∙ drop-take count (end - (at + count)) (drop at bytes) ∙ ap (take (end - (at + count))) (drop-drop count at bytes))
 
-pub none_held : (bytes : List ℕ) (at end : ℕ) → at ≡ end → take (end - at) (drop at bytes) ≡ []
-none_held bytes at end e = let n : end - at ≡ 0 = omega arith in ap (λ k. take k (drop at bytes)) n
+pub none_held : {at end : ℕ} (bytes : List ℕ) → at ≡ end → take (end - at) (drop at bytes) ≡ []
+none_held {at} {end} bytes e = let n : end - at ≡ 0 = omega arith in ap (λ k. take k (drop at bytes)) n
 
-pub keeps_refilled : (a b : Option (List ℕ)) (held buf : List ℕ) (n : ℕ) → held ≡ [] → Consumes a b (take n buf) → Keeps (prepend_known held a) (prepend_known (take (n - 0) buf) b)
-keeps_refilled a b held buf n e p =
+pub keeps_refilled : {held : List ℕ} (a b : Option (List ℕ)) (buf : List ℕ) (n : ℕ) → held ≡ [] → Consumes a b (take n buf) →
+    Keeps (prepend_known held a) (prepend_known (take (n - 0) buf) b)
+keeps_refilled {held} a b buf n e p =
     let same : n ≡ n - 0 = omega arith in
-    subst (λ k. Keeps (prepend_known held a) (prepend_known (take k buf) b)) same (keeps_refill a b held (take n buf) e p)
+    subst (λ k. Keeps (prepend_known held a) (prepend_known (take k buf) b)) same (keeps_refill a b (take n buf) e p)
 
 -- the next byte of those that are held
-pub next_taken : (bytes : List ℕ) (at end : ℕ) (a : Option (List ℕ)) → at < end → end ≤ length bytes → Consumes (prepend_known (held_of bytes at end) a) (prepend_known (held_of bytes (at + 1) end) a) (get_or bytes at 0 ∷ [])
+pub next_taken : (bytes : List ℕ) (at end : ℕ) (a : Option (List ℕ)) → at < end → end ≤ length bytes →
+    Consumes (prepend_known (held_of bytes at end) a) (prepend_known (held_of bytes (at + 1) end) a) (get_or bytes at 0 ∷ [])
 next_taken bytes at end a some within =
     let n : end - at ≡ suc (end - (at + 1)) = omega arith in
     let front : held_of bytes at end ≡ get_or bytes at 0 ∷ held_of bytes (at + 1) end =
-    ap (λ k. take k (drop at bytes)) n ∙ ap (take (suc (end - (at + 1)))) (drop-cons bytes at 0 (omega arith)) ∙ ap (λ k. get_or bytes at 0 ∷ take (end - (at + 1)) (drop k bytes)) (sym (add-one at)) in
-    subst (λ z. Consumes (prepend_known z a) (prepend_known (held_of bytes (at + 1) end) a) (get_or bytes at 0 ∷ [])) (sym front) (taken a)
+    rw (n, drop-cons bytes at 0 (omega arith), ← add-one at) in
+    rw front (taken a)
   where
     taken : (a : Option (List ℕ)) → Consumes (prepend_known (get_or bytes at 0 ∷ held_of bytes (at + 1) end) a) (prepend_known (held_of bytes (at + 1) end) a) (get_or bytes at 0 ∷ [])
     taken None = tt
     taken (Some a) = refl
 
 -- so many bytes of those that are held
-pub some_taken : (bytes : List ℕ) (at count end : ℕ) (a : Option (List ℕ)) → at + count ≤ end → Consumes (prepend_known (held_of bytes at end) a) (prepend_known (held_of bytes (at + count) end) a) (take count (held_of bytes at end))
+pub some_taken : (bytes : List ℕ) (at count end : ℕ) (a : Option (List ℕ)) → at + count ≤ end →
+    Consumes (prepend_known (held_of bytes at end) a) (prepend_known (held_of bytes (at + count) end) a) (take count (held_of bytes at end))
 some_taken bytes at count end a fits =
-    subst (λ z. Consumes (prepend_known (held_of bytes at end) a) (prepend_known z a) (take count (held_of bytes at end))) (sym (held_after bytes at count end fits)) (consumes_held count (held_of bytes at end) a)
+    rw held_after (consumes_held count (held_of bytes at end) a)
 
 -- where none is held, the known bytes are those that the input has still to give
-pub known_unheld : (bytes : List ℕ) (at end : ℕ) (a : Option (List ℕ)) → at ≡ end → prepend_known (held_of bytes at end) a ≡ a
-known_unheld bytes at end None e = refl
-known_unheld bytes at end (Some a) e = ap (λ z. Some (z ++ a)) (none_held bytes at end e)
+pub known_unheld : {at end : ℕ} (bytes : List ℕ) (a : Option (List ℕ)) → at ≡ end → prepend_known (held_of bytes at end) a ≡ a
+known_unheld bytes None e = refl
+known_unheld bytes (Some a) e = rw none_held
 
 pub held_long : (bytes : List ℕ) (at end : ℕ) → at ≤ end → end ≤ length bytes → length (held_of bytes at end) ≡ end - at
 held_long bytes at end ordered within = omega (arith, length-take (end - at) (drop at bytes), length-drop at bytes)
 
 -- the last bytes of those that are held stay, and those before them are taken
-pub kept_last : (bytes : List ℕ) (at end left most : ℕ) (a : Option (List ℕ)) → at ≤ end → end ≤ length bytes → most ≡ min left (end - at) → (front back : List ℕ) → held_of bytes at end ≡ front ++ back → length back ≡ left →
+pub kept_last : {left most : ℕ} (bytes : List ℕ) (at end : ℕ) (a : Option (List ℕ)) → (at ≤ end) × (end ≤ length bytes) → most ≡ min left (end - at) → (front back : List ℕ) →
+    held_of bytes at end ≡ front ++ back → length back ≡ left →
     (held_of bytes (at + ((end - at) - most)) end ≡ back) × Consumes (prepend_known (held_of bytes at end) a) (prepend_known (held_of bytes (at + ((end - at) - most)) end) a) front
-kept_last bytes at end left most a ordered within most_is front back is long =
+kept_last {most} bytes at end a within most_is front back is long =
     let count : ℕ = (end - at) - most in
-    let all = held_long bytes at end ordered within in
+    let ordered = within.0 in
+    let all = held_long bytes at end ordered within.1 in
     let sum = ap length is ∙ length-append front back in
-    let few : length front ≡ (end - at) - most = omega (arith, all, sum, long, most_is) in
-    let fits : at + ((end - at) - most) ≤ end = omega (arith, ordered) in
-    let rest : held_of bytes (at + ((end - at) - most)) end ≡ drop ((end - at) - most) (held_of bytes at end) = held_after bytes at ((end - at) - most) end fits in
-    let back_is : held_of bytes (at + ((end - at) - most)) end ≡ back = rest ∙ ap (drop ((end - at) - most)) is ∙ drop_at front back ((end - at) - most) few in
+    let few : length front ≡ (end - at) - most = omega arith in
+    let fits : at + ((end - at) - most) ≤ end = omega arith in
+    let rest = held_after bytes at ((end - at) - most) end fits in
+    let back_is = rest ∙ ap (drop ((end - at) - most)) is ∙ drop_at front back ((end - at) - most) few in
     let front_is : take ((end - at) - most) (held_of bytes at end) ≡ front = ap (take ((end - at) - most)) is ∙ take_at front back ((end - at) - most) few in (
       back_is,
-      subst (λ z. Consumes (prepend_known (held_of bytes at end) a) (prepend_known (held_of bytes (at + ((end - at) - most)) end) a) z) front_is (some_taken bytes at ((end - at) - most) end a fits),
+      rw (← front_is) (some_taken bytes at ((end - at) - most) end a fits),
     )
 
 -- bytes were read behind the first ones
-pub behind_read : {E : Type 0} (r : Result ℕ E) (held : ℕ) (bytes buf : List ℕ) (a b : Option (List ℕ)) → held ≤ length bytes → IfOk r (λ n. n ≤ length buf) → ReadConsumes a b r buf →
+pub behind_read : {E : Type 0} (r : Result ℕ E) (held : ℕ) (bytes buf : List ℕ) (a b : Option (List ℕ)) → held ≤ length bytes → IfOk r (λ n. n ≤ length buf) →
+    ReadConsumes a b r buf →
     IfOk r (λ n. (more : List ℕ) × (take (held + n) (put_mid held (length bytes - held) bytes buf) ≡ take held bytes ++ more) × Consumes a b more)
 behind_read (Ok n) held bytes buf a b within few p = (take n buf, take-put_part held (length bytes - held) n bytes buf within few, p.0)
 behind_read (Err e) held bytes buf a b within few p = tt

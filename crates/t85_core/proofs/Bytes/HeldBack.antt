@@ -8,23 +8,25 @@ use Rattle.pbm_core.specs.Device.{AppendsBeginning}
 use Rattle.t85_core.specs.Steps.Buffers.{held_of, known_length}
 
 -- a front of those that are held was written
-pub keeps_written : (a b c : Option (List ℕ)) (whole rest front back : List ℕ) → Keeps (append_known a whole) (append_known b rest) → Appends b c front → rest ≡ front ++ back → Keeps (append_known a whole) (append_known c back)
-keeps_written None b c whole rest front back k p e = tt
-keeps_written (Some a) None c whole rest front back k p e = absurd k
-keeps_written (Some a) (Some b) None whole rest front back k p e = absurd p
-keeps_written (Some a) (Some b) (Some c) whole rest front back k p e = ap (λ z. z ++ back) p ∙ append_assoc b front back ∙ ap (λ z. b ++ z) (sym e) ∙ k
+pub keeps_written : {rest : List ℕ} (a b c : Option (List ℕ)) (whole front back : List ℕ) → Keeps (append_known a whole) (append_known b rest) → Appends b c front →
+    rest ≡ front ++ back →
+    Keeps (append_known a whole) (append_known c back)
+keeps_written None b c whole front back k p e = tt
+keeps_written (Some a) None c whole front back k p e = absurd k
+keeps_written (Some a) (Some b) None whole front back k p e = absurd p
+keeps_written (Some a) (Some b) (Some c) whole front back k p e = rw (p, append_assoc, ← e) k
 
 pub keeps_failed : (a b c : Option (List ℕ)) (whole rest : List ℕ) → Keeps (append_known a whole) (append_known b rest) → Keeps b c → Keeps (append_known a whole) (append_known c rest)
 keeps_failed None b c whole rest k p = tt
 keeps_failed (Some a) None c whole rest k p = absurd k
 keeps_failed (Some a) (Some b) None whole rest k p = absurd p
-keeps_failed (Some a) (Some b) (Some c) whole rest k p = ap (λ z. z ++ rest) p ∙ k
+keeps_failed (Some a) (Some b) (Some c) whole rest k p = rw p k
 
 -- all that are held were written
-pub all_written : (a b : Option (List ℕ)) (whole rest : List ℕ) → Keeps (append_known a whole) (append_known b rest) → rest ≡ [] → Appends a b whole
-all_written None b whole rest k e = tt
-all_written (Some a) None whole rest k e = absurd k
-all_written (Some a) (Some b) whole rest k e = sym (append-nil b) ∙ ap (λ z. b ++ z) (sym e) ∙ k
+pub all_written : {rest : List ℕ} (a b : Option (List ℕ)) (whole : List ℕ) → Keeps (append_known a whole) (append_known b rest) → rest ≡ [] → Appends a b whole
+all_written None b whole k e = tt
+all_written (Some a) None whole k e = absurd k
+all_written (Some a) (Some b) whole k e = rw (← append-nil b, ← e) k
 
 pub keeps_handed : (a b : Option (List ℕ)) (held : List ℕ) → Appends a b held → Keeps (append_known a held) (append_known b [])
 keeps_handed None b held p = tt
@@ -39,27 +41,28 @@ appends_held (Some a) held more = sym (append_assoc a held more)
 pub grows_with : (a b : Option (List ℕ)) (more : List ℕ) → Appends a b more → known_length a ≤ known_length b
 grows_with None b more p = omega arith
 grows_with (Some a) None more p = absurd p
-grows_with (Some a) (Some b) more p = let e = ap length p ∙ length-append a more in omega (arith, e)
+grows_with (Some a) (Some b) more p = let e = ap length p ∙ length-append a more in omega arith
 
 pub grows_kept : (a b : Option (List ℕ)) → Keeps a b → known_length a ≤ known_length b
 grows_kept None b p = omega arith
 grows_kept (Some a) None p = absurd p
-grows_kept (Some a) (Some b) p = let e = ap length p in omega (arith, e)
+grows_kept (Some a) (Some b) p = let e = ap length p in omega arith
 
 cut_front : (a c held front : List ℕ) → length a ≤ length c → c ++ held ≡ a ++ front → (more : List ℕ) × (c ≡ a ++ more) × (front ≡ more ++ held)
 cut_front [] c held front le e = (c, refl, sym e)
-cut_front (x ∷ a) [] held front le e = absurd (omega (arith, le))
+cut_front (x ∷ a) [] held front le e = absurd (omega arith)
 cut_front (x ∷ a) (y ∷ c) held front le e =
     let same : y ≡ x = cc in
     let rest : c ++ held ≡ a ++ front = cc in
-    let k = cut_front a c held front (omega (arith, le)) rest in
+    let k = cut_front a c held front (omega arith) rest in
     (k.0, ap (λ z. z ∷ c) same ∙ ap (λ z. x ∷ z) k.1, k.2)
 
 -- what was written of a beginning is a beginning
-pub beginning_handed : (a c : Option (List ℕ)) (held text : List ℕ) → known_length a ≤ known_length c → AppendsBeginning a (append_known c held) text → AppendsBeginning a c text
-beginning_handed None c held text le p = record { front = p.front; rest = p.rest; text_is = p.text_is; appends = tt }
-beginning_handed (Some a) None held text le p = absurd p.appends
-beginning_handed (Some a) (Some c) held text le p =
+pub beginning_handed : {a : Option (List ℕ)} {text : List ℕ} (c : Option (List ℕ)) (held : List ℕ) → known_length a ≤ known_length c → AppendsBeginning a (append_known c held) text →
+    AppendsBeginning a c text
+beginning_handed {a = None} c held le p = record { front = p.front; rest = p.rest; text_is = p.text_is; appends = tt }
+beginning_handed {a = (Some a)} None held le p = absurd p.appends
+beginning_handed {a = (Some a)} (Some c) held le p =
     let k = cut_front a c held p.front le p.appends in
     record { front = k.0; rest = held ++ p.rest; text_is = p.text_is ∙ ap (λ z. z ++ p.rest) k.2 ∙ append_assoc k.0 held p.rest; appends = k.1 }
 
@@ -69,9 +72,10 @@ held_is bytes at end h =
     sym (ap (λ k. drop at (take k bytes)) e ∙ drop-take at (end - at) bytes)
 
 -- bytes that were put after those that are held
-pub held_grows : (bytes more : List ℕ) (at end k n : ℕ) → n ≡ end + length more → at ≤ end → end ≤ length bytes → held_of (put_mid end k bytes more) at n ≡ held_of bytes at end ++ more
-held_grows bytes more at end k n e h within =
-    let long : length (take end bytes) ≡ end = length-take-le end bytes within in
+pub held_grows : {n : ℕ} (bytes more : List ℕ) (at end k : ℕ) → n ≡ end + length more → at ≤ end → end ≤ length bytes →
+    held_of (put_mid end k bytes more) at n ≡ held_of bytes at end ++ more
+held_grows {n} bytes more at end k e h within =
+    let long = length-take-le end bytes within in
     held_is (put_mid end k bytes more) at n (omega arith)
     ∙ ap (drop at) (take-put_mid end k bytes more n e within)
     ∙ drop-append-le at (take end bytes) more (omega arith)

@@ -19,13 +19,12 @@ byte-append given more i h = get_or_append_left given more 0 i h
 
 long-append : (given more : List ℕ) (i : ℕ) → i + 4 ≤ length given → long_at i (given ++ more) ≡ long_at i given
 long-append given more i h =
-    ap (big_number 4) (drop-append-le i given more (omega arith))
-    ∙ big_from-append 4 (drop i given) more (omega (arith, length-drop i given))
+    rw (drop-append-le i given more (omega arith)) (big_from-append 4 (drop i given) more (omega (arith, length-drop i given)))
 
 -- the header's bytes are the first twenty
-pub HeaderOf-append : (given more : List ℕ) (h : Fields) → HeaderOf given h → HeaderOf (given ++ more) h
-HeaderOf-append given more h p =
-    let long : 20 ≤ length given = p.whole in
+pub HeaderOf-append : {given : List ℕ} {h : Fields} (more : List ℕ) → HeaderOf given h → HeaderOf (given ++ more) h
+HeaderOf-append {given} more p =
+    let long = p.whole in
     record {
       whole = omega (arith, length-append given more);
       dl = byte-append given more 0 (omega arith) ∙ p.dl;
@@ -36,7 +35,7 @@ HeaderOf-append given more h p =
       yd = long-append given more 8 (omega arith) ∙ p.yd;
       l0 = long-append given more 12 (omega arith) ∙ p.l0;
       mx = byte-append given more 16 (omega arith) ∙ p.mx;
-      order = omega (arith, byte-append given more 18 (omega arith), p.order);
+      order = omega (arith, byte-append given more 18 (omega arith));
       options = byte-append given more 19 (omega arith) ∙ p.options;
       accepted = p.accepted;
     }
@@ -72,17 +71,18 @@ stable_cond false F G p q = q
 
 legal-append : (h : Fields) (bytes more : List ℕ) → 6 ≤ length bytes → is_legal_move h (bytes ++ more) ≡ is_legal_move h bytes
 legal-append h bytes more long =
-    let row : big_number 4 (bytes ++ more) ≡ big_number 4 bytes = big_from-append 4 bytes more (omega arith) in
+    let row = big_from-append 4 bytes more (omega arith) in
     let offset = byte-append bytes more 4 (omega arith) in
     let last = byte-append bytes more 5 (omega arith) in
     rw (row, offset, last) refl
 
-stable_first : (h : Fields) (bytes more : List ℕ) (f : Fault) → (length bytes < 6) ⊎ (6 ≤ length bytes) → move_fault h 0 bytes ≡ Some f → (f ≡ Truncated) ⊎ (move_fault h 0 (bytes ++ more) ≡ Some f)
-stable_first h bytes more f (inl short) e =
+stable_first : {f : Fault} (h : Fields) (bytes more : List ℕ) → (length bytes < 6) ⊎ (6 ≤ length bytes) → move_fault h 0 bytes ≡ Some f →
+    (f ≡ Truncated) ⊎ (move_fault h 0 (bytes ++ more) ≡ Some f)
+stable_first {f} h bytes more (inl short) e =
     let t : nat_lt (length bytes) 6 ≡ true = grind (arith, nat_tests) in
     let cut : Some Truncated ≡ Some f = ap (λ b. cond b (Some Truncated) (cond (is_legal_move h bytes) None (Some MoveRefused))) (sym t) ∙ e in
     inl cc
-stable_first h bytes more f (inr long) e =
+stable_first h bytes more (inr long) e =
     let t : nat_lt (length bytes) 6 ≡ false = grind (arith, nat_tests) in
     let longer : 6 ≤ length (bytes ++ more) = omega (arith, length-append bytes more) in
     let t' : nat_lt (length (bytes ++ more)) 6 ≡ false = grind (arith, nat_tests) in
@@ -91,17 +91,19 @@ stable_first h bytes more f (inr long) e =
     ∙ ap (λ b. cond b (Some Truncated) (cond (is_legal_move h bytes) None (Some MoveRefused))) (sym t) ∙ e)
 
 stable_move : (h : Fields) (moves : ℕ) → IsStable (move_fault h moves)
-stable_move h moves = stable_cond (not (moves == 0)) (λ _. Some SecondMove) (move_fault h 0) (stable_constant (Some SecondMove)) (λ bytes more f e. stable_first h bytes more f (cases_lt (length bytes) 6) e)
+stable_move h moves = stable_cond (not (moves == 0)) (λ _. Some SecondMove) (move_fault h 0) (stable_constant (Some SecondMove))
+    (λ bytes more f e. stable_first h bytes more (cases_lt (length bytes) 6) e)
 
-two_tests : (t u : Bool) (f : Fault) → cond t (Some Truncated) (cond u (Some Truncated) None) ≡ Some f → f ≡ Truncated
-two_tests t u f e = grind (arith, nat_tests)
+two_tests : {f : Fault} (t u : Bool) → cond t (Some Truncated) (cond u (Some Truncated) None) ≡ Some f → f ≡ Truncated
+two_tests t u e = grind (arith, nat_tests)
 
 stable_comment : IsStable comment_fault
-stable_comment bytes more f e = inl (two_tests (nat_lt (length bytes) 4) (nat_lt (length bytes) (4 + big_number 4 bytes)) f e)
+stable_comment bytes more f e = inl (two_tests (nat_lt (length bytes) 4) (nat_lt (length bytes) (4 + big_number 4 bytes)) e)
 
 number_fault : Fields → Spot → List ℕ → Option Fault
 number_fault h spot bytes =
-    cond (nat_lt (length bytes) 4) (Some Truncated) (cond (not (is_valid_length h spot.entities (big_number 4 bytes))) (Some LengthRefused) (cond (big_number 4 bytes == spot.height) None (Some Changed)))
+    cond (nat_lt (length bytes) 4) (Some Truncated) (cond (not (is_valid_length h spot.entities (big_number 4 bytes))) (Some LengthRefused)
+    (cond (big_number 4 bytes == spot.height) None (Some Changed)))
 
 stable_number : (h : Fields) (spot : Spot) → IsStable (number_fault h spot)
 unfolding number_fault
@@ -109,16 +111,20 @@ stable_number h spot bytes more f e = went (cases_lt (length bytes) 4) where
   went : (length bytes < 4) ⊎ (4 ≤ length bytes) → (f ≡ Truncated) ⊎ (number_fault h spot (bytes ++ more) ≡ Some f)
   went (inl short) =
       let t : nat_lt (length bytes) 4 ≡ true = grind (arith, nat_tests) in
-      let cut : Some Truncated ≡ Some f = ap (λ b. cond b (Some Truncated) (cond (not (is_valid_length h spot.entities (big_number 4 bytes))) (Some LengthRefused) (cond (big_number 4 bytes == spot.height) None (Some Changed)))) (sym t) ∙ e in
+      let cut : Some Truncated ≡ Some f =
+      ap (λ b. cond b (Some Truncated) (cond (not (is_valid_length h spot.entities (big_number 4 bytes))) (Some LengthRefused) (cond (big_number 4 bytes == spot.height) None (Some Changed))))
+      (sym t) ∙ e in
       inl cc
   went (inr long) =
       let t : nat_lt (length bytes) 4 ≡ false = grind (arith, nat_tests) in
       let longer : 4 ≤ length (bytes ++ more) = omega (arith, length-append bytes more) in
       let t' : nat_lt (length (bytes ++ more)) 4 ≡ false = grind (arith, nat_tests) in
       let same : big_number 4 (bytes ++ more) ≡ big_number 4 bytes = big_from-append 4 bytes more long in
-      inr (ap (λ b. cond b (Some Truncated) (cond (not (is_valid_length h spot.entities (big_number 4 (bytes ++ more)))) (Some LengthRefused) (cond (big_number 4 (bytes ++ more) == spot.height) None (Some Changed)))) t'
+      inr (ap (λ b. cond b (Some Truncated) (cond (not (is_valid_length h spot.entities (big_number 4 (bytes ++ more)))) (Some LengthRefused)
+      (cond (big_number 4 (bytes ++ more) == spot.height) None (Some Changed)))) t'
       ∙ ap (λ n. cond (not (is_valid_length h spot.entities n)) (Some LengthRefused) (cond (n == spot.height) None (Some Changed))) same
-      ∙ ap (λ b. cond b (Some Truncated) (cond (not (is_valid_length h spot.entities (big_number 4 bytes))) (Some LengthRefused) (cond (big_number 4 bytes == spot.height) None (Some Changed)))) (sym t) ∙ e)
+      ∙ ap (λ b. cond b (Some Truncated) (cond (not (is_valid_length h spot.entities (big_number 4 bytes))) (Some LengthRefused) (cond (big_number 4 bytes == spot.height) None (Some Changed))))
+      (sym t) ∙ e)
 
 stable_length : (h : Fields) (spot : Spot) → IsStable (length_fault h spot)
 unfolding number_fault
@@ -136,7 +142,7 @@ stable_escape h spot moves in_code escape =
 
 pub stable_rest : (h : Fields) (spot : Spot) (moves : ℕ) (in_code : Bool) → IsStable (rest_fault h spot moves in_code)
 stable_rest h spot moves in_code [] more f e = inl cc
-stable_rest h spot moves in_code (b ∷ []) more f e = inl (two_tests (b == 255) false f e)
+stable_rest h spot moves in_code (b ∷ []) more f e = inl (two_tests (b == 255) false e)
 stable_rest h spot moves in_code (b ∷ escape ∷ bytes) more f e =
     stable_cond (b == 255) (escape_fault h spot moves in_code escape) (λ _. None) (stable_escape h spot moves in_code escape) (stable_constant None) bytes more f e
 
@@ -145,11 +151,12 @@ counted-other ending Read h = absurd (h refl)
 counted-other ending f h = refl
 
 -- where the header is refused
-pub header_known : (old new : Option (List ℕ)) (f : Fault) → Ends ShortHeader old new (λ given fault. (length given ≤ 20) × (header_fault given ≡ Some fault)) f → f ≢ Read → IfSome old (λ bytes. header_fault bytes ≡ Some f)
-header_known None new f e other = tt
-header_known (Some bytes) None f e other = absurd e.taken
-header_known (Some bytes) (Some left) f e other =
-    let same : header_fault e.given ≡ Some f = subst (λ x. header_fault e.given ≡ Some x) (counted-other ShortHeader f other) e.has_fault.1 in
+pub header_known : {old new : Option (List ℕ)} {f : Fault} → Ends ShortHeader old new (λ given fault. (length given ≤ 20) × (header_fault given ≡ Some fault)) f → f ≢ Read →
+    IfSome old (λ bytes. header_fault bytes ≡ Some f)
+header_known {old = None} e other = tt
+header_known {old = (Some bytes)} {new = None} e other = absurd e.taken
+header_known {old = (Some bytes)} {new = (Some left)} {f} e other =
+    let same = subst (λ x. header_fault e.given ≡ Some x) (counted-other ShortHeader f other) e.has_fault.1 in
     ap header_fault e.taken ∙ went (cases_lt (length e.given) 20) same where
       went : (length e.given < 20) ⊎ (20 ≤ length e.given) → header_fault e.given ≡ Some f → header_fault (e.given ++ left) ≡ Some f
       went (inl short) same =
@@ -159,8 +166,9 @@ header_known (Some bytes) (Some left) f e other =
           ap header_fault (ap (λ z. e.given ++ z) (e.at_end ended) ∙ append-nil e.given) ∙ same
       went (inr long) same = header_fault-append e.given left long ∙ same
 
-pub refused_header : (old new : Option (List ℕ)) (f : Fault) → Ends ShortHeader old new (λ given fault. (length given ≤ 20) × (header_fault given ≡ Some fault)) f → f ≢ Read → IfSome old (λ bytes. StreamFault bytes f)
-refused_header old new f e other = went old (header_known old new f e other) where
+pub refused_header : {old new : Option (List ℕ)} {f : Fault} → Ends ShortHeader old new (λ given fault. (length given ≤ 20) × (header_fault given ≡ Some fault)) f → f ≢ Read →
+    IfSome old (λ bytes. StreamFault bytes f)
+refused_header {old} {f} e other = went old (header_known e other) where
   went : (old : Option (List ℕ)) → IfSome old (λ bytes. header_fault bytes ≡ Some f) → IfSome old (λ bytes. StreamFault bytes f)
   went None h = tt
   went (Some bytes) h = inl h

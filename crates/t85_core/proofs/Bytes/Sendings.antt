@@ -1,5 +1,5 @@
 -- The bytes of a stream that were sent, over several calls.
-use Rattle.std.proofs.Common.{◌≤◌, ℕ, List, [], ◌++◌, Option, None, Some, subst, refl, sym, ap, ◌∙◌, append_assoc, append-nil}
+use Rattle.std.proofs.Common.{◌≤◌, ℕ, List, [], ◌++◌, Option, None, Some, refl, sym, ap, ◌∙◌, append_assoc, append-nil}
 use Rattle.std.specs.Io.KnownBytes.{Appends, Keeps, append_known}
 use Rattle.pbm_core.specs.Device.{AppendsBeginning}
 use Rattle.t85_core.specs.Steps.Buffers.{known_length}
@@ -7,41 +7,42 @@ use Rattle.t85_core.specs.Steps.Sent.{Origin, Sends, SendsBeginning, here, behin
 use Rattle.t85_core.proofs.Bytes.HeldBack.{grows_with, beginning_handed}
 use Rattle.t85_core.proofs.Bytes.Streams.{Appends-more, Appends-keeps, beginning_all}
 
-pub Sends-more : (o : Origin) (b c : Option (List ℕ)) (xs ys : List ℕ) → Sends o b xs → Appends b c ys → Sends o c (xs ++ ys)
-Sends-more o b c xs ys p q = record {
+pub Sends-more : {o : Origin} {b c : Option (List ℕ)} {xs : List ℕ} (ys : List ℕ) → Sends o b xs → Appends b c ys → Sends o c (xs ++ ys)
+Sends-more {o} {b} {c} ys p q = record {
   more = p.more ++ ys;
   appended = Appends-more o.text b c p.more ys p.appended q;
-  all = ap (λ z. z ++ ys) p.all ∙ append_assoc o.gone p.more ys;
+  all = rw p.all (append_assoc o.gone p.more ys);
 }
 
-pub Sends-keeps : (o : Origin) (b c : Option (List ℕ)) (xs : List ℕ) → Sends o b xs → Keeps b c → Sends o c xs
-Sends-keeps o b c xs p k = record { more = p.more; appended = Appends-keeps o.text b c p.more p.appended k; all = p.all }
+pub Sends-keeps : {o : Origin} {b c : Option (List ℕ)} {xs : List ℕ} → Sends o b xs → Keeps b c → Sends o c xs
+Sends-keeps {o} {b} {c} p k = record { more = p.more; appended = Appends-keeps o.text b c p.more p.appended k; all = p.all }
 
 -- a beginning of what is after a whole
-pub sends_after : (o : Origin) (b c : Option (List ℕ)) (xs ys : List ℕ) → Sends o b xs → AppendsBeginning b c ys → SendsBeginning o c (xs ++ ys)
-sends_after o b c xs ys p q = record {
+pub sends_after : {o : Origin} {b c : Option (List ℕ)} {xs ys : List ℕ} → Sends o b xs → AppendsBeginning b c ys → SendsBeginning o c (xs ++ ys)
+sends_after {xs = xs} p q = record {
   front = xs ++ q.front;
   rest = q.rest;
-  text_is = ap (λ z. xs ++ z) q.text_is ∙ sym (append_assoc xs q.front q.rest);
-  sends = Sends-more o b c xs q.front p q.appends;
+  text_is = rw (q.text_is, ← append_assoc);
+  sends = Sends-more q.front p q.appends;
 }
 
 -- of a longer text, too
-pub sends_longer : (o : Origin) (b : Option (List ℕ)) (xs ys : List ℕ) → SendsBeginning o b xs → SendsBeginning o b (xs ++ ys)
-sends_longer o b xs ys q = record { front = q.front; rest = q.rest ++ ys; text_is = ap (λ z. z ++ ys) q.text_is ∙ append_assoc q.front q.rest ys; sends = q.sends }
+pub sends_longer : {o : Origin} {b : Option (List ℕ)} {xs : List ℕ} (ys : List ℕ) → SendsBeginning o b xs → SendsBeginning o b (xs ++ ys)
+sends_longer ys q = record { front = q.front; rest = q.rest ++ ys; text_is = rw q.text_is (append_assoc q.front q.rest ys); sends = q.sends }
 
 -- all of it
-pub sends_all : (o : Origin) (b : Option (List ℕ)) (xs : List ℕ) → Sends o b xs → SendsBeginning o b xs
-sends_all o b xs p = record { front = xs; rest = []; text_is = sym (append-nil xs); sends = p }
+pub sends_all : {o : Origin} {b : Option (List ℕ)} {xs : List ℕ} → Sends o b xs → SendsBeginning o b xs
+sends_all {xs = xs} p = record { front = xs; rest = []; text_is = sym (append-nil xs); sends = p }
 
 -- no byte is lost
-pub sends_grows : (o : Origin) (b : Option (List ℕ)) (xs : List ℕ) → Sends o b xs → known_length o.text ≤ known_length b
-sends_grows o b xs p = grows_with o.text b p.more p.appended
+pub sends_grows : {o : Origin} {b : Option (List ℕ)} {xs : List ℕ} → Sends o b xs → known_length o.text ≤ known_length b
+sends_grows {o} {b} p = grows_with o.text b p.more p.appended
 
 -- what was written of what was sent
-pub sends_handed : (o : Origin) (out : Option (List ℕ)) (held xs : List ℕ) → known_length o.text ≤ known_length out → Sends o (append_known out held) xs → SendsBeginning o out xs
-sends_handed o out held xs grows p =
-    let q = beginning_handed o.text out held p.more grows (beginning_all o.text (append_known out held) p.more p.appended) in
+pub sends_handed : {o : Origin} {out : Option (List ℕ)} {xs : List ℕ} (held : List ℕ) → known_length o.text ≤ known_length out → Sends o (append_known out held) xs →
+    SendsBeginning o out xs
+sends_handed {o} {out} held grows p =
+    let q = beginning_handed out held grows (beginning_all p.appended) in
     record {
       front = o.gone ++ q.front;
       rest = q.rest;
@@ -49,21 +50,22 @@ sends_handed o out held xs grows p =
       sends = record { more = q.front; appended = q.appends; all = refl };
     }
 
-pub beginning_sent : (o : Origin) (out : Option (List ℕ)) (held xs : List ℕ) → known_length o.text ≤ known_length out → SendsBeginning o (append_known out held) xs → SendsBeginning o out xs
-beginning_sent o out held xs grows p =
-    let q = sends_handed o out held p.front grows p.sends in
+pub beginning_sent : {o : Origin} {out : Option (List ℕ)} {xs : List ℕ} (held : List ℕ) → known_length o.text ≤ known_length out → SendsBeginning o (append_known out held) xs →
+    SendsBeginning o out xs
+beginning_sent held grows p =
+    let q = sends_handed held grows p.sends in
     record { front = q.front; rest = q.rest ++ p.rest; text_is = p.text_is ∙ ap (λ z. z ++ p.rest) q.text_is ∙ append_assoc q.front q.rest p.rest; sends = q.sends }
 
 -- from the first byte on
-pub sent_here : (a b : Option (List ℕ)) (xs : List ℕ) → Appends a b xs → Sends (here a) b xs
-sent_here a b xs p = record { more = xs; appended = p; all = refl }
+pub sent_here : {a b : Option (List ℕ)} {xs : List ℕ} → Appends a b xs → Sends (here a) b xs
+sent_here {xs = xs} p = record { more = xs; appended = p; all = refl }
 
-pub here_sent : (a b : Option (List ℕ)) (xs : List ℕ) → Sends (here a) b xs → Appends a b xs
-here_sent a b xs p = subst (Appends a b) (sym p.all) p.appended
+pub here_sent : {a b : Option (List ℕ)} {xs : List ℕ} → Sends (here a) b xs → Appends a b xs
+here_sent {a} {b} p = rw p.all p.appended
 
 -- nothing more than what went elsewhere
-pub sent_behind : (xs : List ℕ) (a : Option (List ℕ)) → Appends a a [] → Sends (behind xs a) a xs
-sent_behind xs a none = record { more = []; appended = none; all = sym (append-nil xs) }
+pub sent_behind : {a : Option (List ℕ)} (xs : List ℕ) → Appends a a [] → Sends (behind xs a) a xs
+sent_behind xs none = record { more = []; appended = none; all = sym (append-nil xs) }
 
 pub appends_none : (a : Option (List ℕ)) → Appends a a []
 appends_none None = tt

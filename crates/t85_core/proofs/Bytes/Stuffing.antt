@@ -27,9 +27,7 @@ stuffed_cons b bs x = went (cases_eq b 255) where
 pub stuffed_append : (code more : List ℕ) → stuffed (code ++ more) ≡ stuffed code ++ stuffed more
 stuffed_append [] more = refl
 stuffed_append (b ∷ code) more =
-    sym (append-nil (stuffed (b ∷ (code ++ more)))) ∙ stuffed_cons b (code ++ more) []
-    ∙ ap (λ u. stuff b ++ u) (append-nil (stuffed (code ++ more)) ∙ stuffed_append code more)
-    ∙ sym (stuffed_cons b code (stuffed more))
+    rw (← append-nil (stuffed (b ∷ (code ++ more))), stuffed_cons b (code ++ more) [], append-nil (stuffed (code ++ more)), stuffed_append code more, ← stuffed_cons b code (stuffed more))
 
 -- bytes other than FF are unchanged
 pub stuffed_plain : (code : List ℕ) → ArePlain code → stuffed code ≡ code
@@ -44,7 +42,8 @@ second e = cc
 
 pub one_stuff : (b d : ℕ) (x y : List ℕ) → stuff b ++ x ≡ stuff d ++ y → (b ≡ d) × (x ≡ y)
 one_stuff b d x y e = went (stuff_cases b) (stuff_cases d) where
-  went : ((b ≡ 255) × (stuff b ≡ 255 ∷ 0 ∷ [])) ⊎ ((b ≢ 255) × (stuff b ≡ b ∷ [])) → ((d ≡ 255) × (stuff d ≡ 255 ∷ 0 ∷ [])) ⊎ ((d ≢ 255) × (stuff d ≡ d ∷ [])) → (b ≡ d) × (x ≡ y)
+  went : ((b ≡ 255) × (stuff b ≡ 255 ∷ 0 ∷ [])) ⊎ ((b ≢ 255) × (stuff b ≡ b ∷ [])) → ((d ≡ 255) × (stuff d ≡ 255 ∷ 0 ∷ [])) ⊎ ((d ≢ 255) × (stuff d ≡ d ∷ [])) →
+      (b ≡ d) × (x ≡ y)
   went (inl p) (inl q) = let k : 255 ∷ 0 ∷ x ≡ 255 ∷ 0 ∷ y = ap (λ z. z ++ x) (sym p.1) ∙ e ∙ ap (λ z. z ++ y) q.1 in (p.0 ∙ sym q.0, (cc))
   went (inl p) (inr q) = let k : 255 ∷ 0 ∷ x ≡ d ∷ y = ap (λ z. z ++ x) (sym p.1) ∙ e ∙ ap (λ z. z ++ y) q.1 in absurd (q.0 (cc))
   went (inr p) (inl q) = let k : b ∷ x ≡ 255 ∷ 0 ∷ y = ap (λ z. z ++ x) (sym p.1) ∙ e ∙ ap (λ z. z ++ y) q.1 in absurd (p.0 (cc))
@@ -69,11 +68,11 @@ last_end xs y = last_right xs y []
 
 stuffed_last : (code : List ℕ) → last_of (stuffed code) ≡ 255 → ⊥
 unfolding last_of
-stuffed_last [] e = absurd (omega (arith, e))
+stuffed_last [] e = absurd (omega arith)
 stuffed_last (b ∷ []) e = went (stuff_cases b) (sym (append-nil (stuffed (b ∷ []))) ∙ stuffed_cons b [] [])
   where
     went : ((b ≡ 255) × (stuff b ≡ 255 ∷ 0 ∷ [])) ⊎ ((b ≢ 255) × (stuff b ≡ b ∷ [])) → stuffed (b ∷ []) ≡ stuff b ++ [] → ⊥
-    went (inl p) is = let f : last_of (255 ∷ 0 ∷ []) ≡ 255 = subst (λ z. last_of z ≡ 255) (is ∙ append-nil (stuff b) ∙ p.1) e in omega (arith, f)
+    went (inl p) is = let f = subst (λ z. last_of z ≡ 255) (is ∙ append-nil (stuff b) ∙ p.1) e in omega arith
     went (inr p) is = p.0 (subst (λ z. last_of z ≡ 255) (is ∙ append-nil (stuff b) ∙ p.1) e)
 stuffed_last (b ∷ c ∷ code) e = stuffed_last (c ∷ code) (went (stuff_cases c) (sym (append-nil (stuffed (c ∷ code))) ∙ stuffed_cons c code []))
   where
@@ -83,7 +82,8 @@ stuffed_last (b ∷ c ∷ code) e = stuffed_last (c ∷ code) (went (stuff_cases
     from : (y : ℕ) (ys : List ℕ) → stuffed (c ∷ code) ≡ y ∷ ys → last_of (stuffed (c ∷ code)) ≡ 255
     from y ys is = ap last_of is ∙ (sym (last_right (stuff b) y ys) ∙ (ap (λ z. last_of (stuff b ++ z)) (sym is) ∙ (ap last_of (sym all) ∙ e)))
 
-    went : ((c ≡ 255) × (stuff c ≡ 255 ∷ 0 ∷ [])) ⊎ ((c ≢ 255) × (stuff c ≡ c ∷ [])) → stuffed (c ∷ code) ≡ stuff c ++ (stuffed code ++ []) → last_of (stuffed (c ∷ code)) ≡ 255
+    went : ((c ≡ 255) × (stuff c ≡ 255 ∷ 0 ∷ [])) ⊎ ((c ≢ 255) × (stuff c ≡ c ∷ [])) → stuffed (c ∷ code) ≡ stuff c ++ (stuffed code ++ []) →
+        last_of (stuffed (c ∷ code)) ≡ 255
     went (inl p) is = from 255 (0 ∷ (stuffed code ++ [])) (is ∙ ap (λ z. z ++ (stuffed code ++ [])) p.1)
     went (inr p) is = from c (stuffed code ++ []) (is ∙ ap (λ z. z ++ (stuffed code ++ [])) p.1)
 

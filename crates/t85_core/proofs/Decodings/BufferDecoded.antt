@@ -1,8 +1,7 @@
 -- The buffered bytes are written.
 use Rattle.std.proofs.Common.{◌≡◌, ◌≢◌, ◌⊎◌, inl, inr, ℕ, List, [], ◌++◌, Option, None, Some, Result, Ok, Err, refl, sym, ap, ◌∙◌, subst, append-nil}
-use Rattle.std.specs.Prelude.{IfErr, flat_map}
+use Rattle.std.specs.Prelude.{IfErr}
 use Rattle.std.specs.Io.KnownBytes.{Consumes, Keeps, append_known}
-use Rattle.raster_core.specs.Packed.{packed_row}
 use Rattle.pbm_core.specs.declared.fault.PbmFault.TheVariants as pbm
 use Rattle.t85_core.specs.declared.fault.Fault.{Fault}
 use Rattle.t85_core.specs.declared.fault.Fault.TheVariants.{Read, Write, Pbm}
@@ -32,7 +31,7 @@ keeps_then (Some a) (Some b) (Some c) p q = q ∙ p
 pub all_handed : (old new : Option (List ℕ)) (bytes : List ℕ) (at end : ℕ) → at ≡ 0 → end ≡ 0 → Keeps old (append_known new (held_of bytes at end)) → Keeps old new
 all_handed old new bytes at end a e k =
     keeps_then old (append_known new []) new
-    (subst (λ z. Keeps old (append_known new z)) (none_held bytes at end (a ∙ sym e)) k) (append_nothing new)
+    (subst (λ z. Keeps old (append_known new z)) (none_held bytes (a ∙ sym e)) k) (append_nothing new)
 
 pub image_handed : (h : Fields) (height : ℕ) (known known' text old new : Option (List ℕ)) → ImageRead h height (passage known known' text old) → Keeps old new → ImageRead h height (passage known known' text new)
 image_handed h height known known' text old new i k = record { given = i.given; taken = i.taken; rows = i.rows; denotes = i.denotes; appended = Appends-keeps text old new _ i.appended k }
@@ -58,7 +57,7 @@ image_begun q h height use_ known known' text text' i = record {
   taken = subst (Consumes known known') (sym (append-nil i.given)) i.taken;
   rows = i.rows;
   first = whole_first q h height use_ i.given i.rows i.denotes;
-  appended = beginning_all text text' (flat_map packed_row i.rows) i.appended;
+  appended = beginning_all i.appended;
 }
 
 -- ---- failed reads
@@ -91,4 +90,4 @@ no_failed_write f n = λ m. refl
 -- a buffer that is empty
 pub text_unheld : (bytes : List ℕ) (at end : ℕ) (a : Option (List ℕ)) → at ≡ end → append_known a (held_of bytes at end) ≡ a
 text_unheld bytes at end None e = refl
-text_unheld bytes at end (Some a) e = ap (λ z. Some (a ++ z)) (none_held bytes at end e) ∙ ap Some (append-nil a)
+text_unheld bytes at end (Some a) e = ap (λ z. Some (a ++ z)) (none_held bytes e) ∙ ap Some (append-nil a)

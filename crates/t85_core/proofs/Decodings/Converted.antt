@@ -164,7 +164,7 @@ module _ (q : CoderLaws) (in_old : Option (List ℕ)) (again_old : Option (List 
   denoted_once limit in_new reads_old reads_new writes_old writes_new flushed (Err f) p = tt
   denoted_once limit in_new reads_old reads_new writes_old writes_new flushed (Ok u) p =
       known_behind (λ first. IsFixed first ⊎ (again_old ≡ Some first) → WritesDenoted first out_old out_new) (λ b. WritesRaster p.header p.header.yd b out_old out_new) in_old p.body p.taken.given p.taken.taken p.converts.whole (λ body w _.
-      denoted q p.header p.header.yd (p.taken.given ++ body) body out_old out_new (HeaderOf-append p.taken.given body p.header p.taken.header_of) (inr (refl, λ n g. true≢false (sym g.variable ∙ p.fixed))) (behind p.taken.given body p.taken.long) w)
+      denoted q p.header p.header.yd (p.taken.given ++ body) body out_old out_new (HeaderOf-append body p.taken.header_of) (inr (refl, λ n g. true≢false (sym g.variable ∙ p.fixed))) (behind p.taken.given body p.taken.long) w)
 
   -- after the same bytes
   pub denoted_twice : (h : Fields) (height limit : ℕ) (mid in_new again_new : Option (List ℕ)) (first_old first_new reads_old reads_new writes_old writes_new : ℕ) (flushed : Bool) (r : Result (Unit {0}) Fault) → is_variable h ≡ true → TakesHeader h in_old mid →
@@ -184,10 +184,10 @@ module _ (q : CoderLaws) (in_old : Option (List ℕ)) (again_old : Option (List 
     went (Some bytes) None taken is = absurd taken
     went (Some bytes) (Some body) taken is = by where
       of : HeaderOf bytes h
-      of = subst (λ z. HeaderOf z h) (sym taken) (HeaderOf-append t.given body h t.header_of)
+      of = subst (λ z. HeaderOf z h) (sym taken) (HeaderOf-append body t.header_of)
 
       by : IsFixed bytes ⊎ (again_old ≡ Some bytes) → WritesDenoted bytes out_old out_new
-      by (inl f) = absurd (true≢false (sym variable ∙ ap is_variable (header_is bytes h f.header of f.header_of) ∙ f.height_is_fixed))
+      by (inl f) = absurd (true≢false (sym variable ∙ ap is_variable (header_is of f.header_of) ∙ f.height_is_fixed))
       by (inr e) = second bytes again_old p.body e p.taken.taken p.converts.whole of (subst (λ z. IsHeight h z height) (sym (ap (drop 20) taken ∙ behind t.given body t.long)) is)
 
   -- whichever way the second reading goes

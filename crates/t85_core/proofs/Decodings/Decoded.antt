@@ -11,7 +11,7 @@ use Rattle.raster_core.specs.Packed.{packed_row}
 use Rattle.t85_core.specs.declared.fault.Fault.{Fault}
 use Rattle.t85_core.specs.declared.fault.Fault.TheVariants.{Truncated, Read, Write}
 use Rattle.t85_core.specs.Header.{Fields}
-use Rattle.t85_core.specs.Grammar.{segment_bytes, stripe_bytes, stripe_count, is_move, is_nil}
+use Rattle.t85_core.specs.Grammar.{segment_bytes, stripe_bytes, is_move, is_nil}
 use Rattle.t85_core.specs.Refusal.{spot_behind, spot_after, rest_fault}
 use Rattle.t85_core.specs.Denotes.{DenotesAt}
 use Rattle.t85_core.specs.Fixed.{Fixes}
@@ -106,7 +106,7 @@ module _ (q : CoderLaws) (h : Fields) (height : ℕ) (use_ : IsInUse h height) (
   )
 
   cut_among : (bytes known : Option (List ℕ)) (fault : Fault) → ImageCut h height (passage bytes known out_mid out_new) fault → IsBodyFault fault
-  cut_among bytes known fault i = uncounted_body Truncated fault (body_faults h height (stripe_count height h.l0) i.ends.given (counted_as Truncated fault) i.ends.has_fault.broken)
+  cut_among bytes known fault i = uncounted_body Truncated fault (body_faults i.ends.has_fault.broken)
 
   -- what is written is a beginning of what was written
   front_written : (in_new : Option (List ℕ)) (in_held out_held : List ℕ) → known_length out_mid ≤ known_length out_new → ImageUnwritten h height (passage in_old (prepend_known in_held in_new) out_mid (append_known out_new out_held)) →
@@ -117,8 +117,8 @@ module _ (q : CoderLaws) (h : Fields) (height : ℕ) (use_ : IsInUse h height) (
     appends = λ rest fault text o.
         let first = i.first (i.ahead ++ (in_held ++ rest)) fault text (subst (λ z. IsOutcome h height z fault text) (append_assoc (i.given ++ i.ahead) in_held rest ∙ append_assoc i.given i.ahead (in_held ++ rest)) o) in
         subst (AppendsBeginning out_old out_new) (sym first.1)
-        (beginning_longer out_old out_new (pbm_rows h.xd height i.rows) first.0
-        (beginning_after out_old out_mid out_new (header_text h.xd height) (flat_map packed_row i.rows) header (beginning_handed out_mid out_new out_held (flat_map packed_row i.rows) grows i.appended)));
+        (beginning_longer first.0
+        (beginning_after (header_text h.xd height) header (beginning_handed out_new out_held grows i.appended)));
   }
 
   pub decoded : (in_held out_held : List ℕ) (known in_new : Option (List ℕ)) (reads_old reads_new writes_old writes_new : ℕ) (r : Result (Unit {0}) Fault) →
@@ -155,8 +155,8 @@ front_of_header h height known out_old out_new p = record {
   appends = λ rest fault text o. all rest fault text o;
 } where
   all : (rest : List ℕ) (fault : Option Fault) (text : List ℕ) → IsOutcome h height ([] ++ rest) fault text → AppendsBeginning out_old out_new text
-  all rest None text o = subst (AppendsBeginning out_old out_new) (sym (o.2 ∙ pbm_of h height o.0 rest o.1)) (beginning_longer out_old out_new (header_text h.xd height) (flat_map packed_row o.0.rows) p)
-  all rest (Some fault) text o = subst (AppendsBeginning out_old out_new) (sym o.2) (beginning_longer out_old out_new (header_text h.xd height) (flat_map packed_row o.0) p)
+  all rest None text o = subst (AppendsBeginning out_old out_new) (sym (o.2 ∙ pbm_of h height o.0 rest o.1)) (beginning_longer (flat_map packed_row o.0.rows) p)
+  all rest (Some fault) text o = subst (AppendsBeginning out_old out_new) (sym o.2) (beginning_longer (flat_map packed_row o.0) p)
 
 pub decodes_unheaded : (h : Fields) (height : ℕ) (known : Option (List ℕ)) (reads writes writes_new : ℕ) (out_old out_new : Option (List ℕ)) → AppendsBeginning out_old out_new (header_text h.xd height) → writes_new ≡ one_more writes →
     Decode h height (between known known reads reads) (between out_old out_new writes writes_new) (Err Write)

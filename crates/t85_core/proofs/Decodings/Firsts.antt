@@ -130,7 +130,7 @@ module _ (q : CoderLaws) (h : Fields) (height : ℕ) (u : IsInUse h height) (str
           ((given ≡ flat_map segment_bytes d.segments ++ stuffed d.code) × RunEnough (length d.code) (stripe_coding h d.segments) 0 (first_row_start mid) rows flags)
           ⊎ ((reset : Bool) × (given ≡ stripe_bytes (record { segments = d.segments; code = d.code; reset = reset }))) → Matched rows t
       went code is (inr whole) =
-          let same = one_stripe h u.accepted (record { segments = d.segments; code = d.code; reset = whole.0 }) t rest y d.begun legal (ap (λ z. z ++ rest) (sym whole.1) ∙ e) in
+          let same = one_stripe u.accepted (record { segments = d.segments; code = d.code; reset = whole.0 }) t rest y d.begun legal (ap (λ z. z ++ rest) (sym whole.1) ∙ e) in
           record {
             segments = d.segments;
             code = d.code;
@@ -159,7 +159,7 @@ module _ (q : CoderLaws) (h : Fields) (height : ℕ) (u : IsInUse h height) (str
           let begun : IsBegun h d.segments (b ∷ code) = subst (IsBegun h d.segments) is d.begun in
           let at : flat_map segment_bytes d.segments ++ (stuffed (b ∷ code) ++ rest) ≡ stripe_bytes t ++ y =
           sym (append_assoc (flat_map segment_bytes d.segments) (stuffed (b ∷ code)) rest) ∙ ap (λ z. (flat_map segment_bytes d.segments ++ stuffed z) ++ rest) (sym is) ∙ ap (λ z. z ++ rest) (sym part.0) ∙ e in
-          let cut = begun_in_stripe h u.accepted d.segments b code rest t y begun legal at in
+          let cut = begun_in_stripe u.accepted rest t y begun legal at in
           record {
             segments = d.segments;
             code = b ∷ code;
@@ -182,8 +182,8 @@ module _ (q : CoderLaws) (h : Fields) (height : ℕ) (u : IsInUse h height) (str
           ((given ≡ flat_map segment_bytes d.segments ++ stuffed d.code) × RunEnough (length d.code) (stripe_coding h d.segments) 0 (first_row_start mid) rows flags)
           ⊎ ((reset : Bool) × (given ≡ stripe_bytes (record { segments = d.segments; code = d.code; reset = reset }))) → take (length (first ++ rows)) all ≡ first ++ rows
       went code is (inr whole) =
-          absurd (stripe_in_fault h u.accepted height (length x.broken.stripes) (length (lengths (all_segments x.broken.stripes))) (suits_in_use h height u (length x.broken.stripes) (omega (arith, x.broken.fewer)))
-          (record { segments = d.segments; code = d.code; reset = whole.0 }) rest x.broken.tail fault d.begun (gives_there x.broken.stripes s_is) x.broken.tail_has (ap (λ z. z ++ rest) (sym whole.1) ∙ e))
+          absurd (stripe_in_fault u.accepted (length x.broken.stripes) (suits_in_use u (length x.broken.stripes) (omega (arith, x.broken.fewer)))
+          (record { segments = d.segments; code = d.code; reset = whole.0 }) rest d.begun (gives_there x.broken.stripes s_is) x.broken.tail_has (ap (λ z. z ++ rest) (sym whole.1) ∙ e))
       went [] is (inl part) =
           let none : rows ≡ [] = no_rows d.segments rows flags (subst (λ z. FrontRun (open_stripe h mid d.segments) (min (height - length stripes * h.l0) h.l0) z rows flags) is d.front) (subst (λ z. RunEnough (length z) (stripe_coding h d.segments) 0 (first_row_start mid) rows flags) is part.1) in
           in_broken x.broken.tail_has.segments [] x.broken.tail_has.code rows [] tt x.broken.tail_has.begun.bytes (no_front x.broken.tail_has.segments rows none) (nothing_enough x.broken.tail_has.segments rows none) body fault all x s_is refl refl
@@ -191,8 +191,8 @@ module _ (q : CoderLaws) (h : Fields) (height : ℕ) (u : IsInUse h height) (str
           let begun : IsBegun h d.segments (b ∷ code) = subst (IsBegun h d.segments) is d.begun in
           let at : flat_map segment_bytes d.segments ++ (stuffed (b ∷ code) ++ rest) ≡ x.broken.tail =
           sym (append_assoc (flat_map segment_bytes d.segments) (stuffed (b ∷ code)) rest) ∙ ap (λ z. (flat_map segment_bytes d.segments ++ stuffed z) ++ rest) (sym is) ∙ ap (λ z. z ++ rest) (sym part.0) ∙ e in
-          let cut = begun_in_fault h u.accepted height (length x.broken.stripes) (length (lengths (all_segments x.broken.stripes))) (suits_in_use h height u (length x.broken.stripes) (omega (arith, x.broken.fewer)))
-          d.segments b code rest x.broken.tail fault begun (gives_there x.broken.stripes s_is) x.broken.tail_has at in
+          let cut = begun_in_fault u.accepted (length x.broken.stripes) (suits_in_use u (length x.broken.stripes) (omega (arith, x.broken.fewer)))
+          rest begun (gives_there x.broken.stripes s_is) x.broken.tail_has at in
           in_broken d.segments (b ∷ code) cut.1 rows flags begun.bytes (all_right (λ z. z < 256) (b ∷ code) cut.1 (subst IsBytes cut.2 x.broken.tail_has.begun.bytes))
           (subst (λ z. FrontRun (open_stripe h mid d.segments) (min (height - length stripes * h.l0) h.l0) z rows flags) is d.front)
           (subst (λ z. RunEnough (length z) (stripe_coding h d.segments) 0 (first_row_start mid) rows flags) is part.1) body fault all x s_is cut.0 cut.2
@@ -209,7 +209,7 @@ module _ (q : CoderLaws) (h : Fields) (height : ℕ) (u : IsInUse h height) (str
     raster_first : (raster : Raster) → DenotesAt h height ((flat_map stripe_bytes stripes ++ given) ++ rest) raster → take (length (first ++ rows)) raster.rows ≡ first ++ rows
     raster_first raster p = went k.0 k.1 k.2 (subst (AreStripes h) k.1 p.parts.each) where
       k : (later : List Stripe) × (p.parts.stripes ≡ stripes ++ later) × (given ++ rest ≡ flat_map stripe_bytes later ++ p.parts.rest)
-      k = first_parts h u.accepted height (stripe_count height h.l0) (suits_in_use h height u) stripes p.parts.stripes (given ++ rest) p.parts.rest each p.parts.each gives (omega (arith, p.parts.count)) (inl (omega (arith, fewer, p.parts.count))) (sym body_is ∙ p.parts.body_is)
+      k = first_parts u.accepted height (stripe_count height h.l0) (suits_in_use u) stripes p.parts.stripes (given ++ rest) p.parts.rest each p.parts.each gives (omega (arith, p.parts.count)) (inl (omega (arith, fewer, p.parts.count))) (sym body_is ∙ p.parts.body_is)
 
       went : (later : List Stripe) → p.parts.stripes ≡ stripes ++ later → given ++ rest ≡ flat_map stripe_bytes later ++ p.parts.rest → AreStripes h (stripes ++ later) → take (length (first ++ rows)) raster.rows ≡ first ++ rows
       went [] e at legal = absurd (let n = ap length (e ∙ append-nil stripes) in omega (arith, n, fewer, p.parts.count))
@@ -220,7 +220,7 @@ module _ (q : CoderLaws) (h : Fields) (height : ℕ) (u : IsInUse h height) (str
     rows_first : (fault : Fault) (all : List (List Bool)) → Fixes h height ((flat_map stripe_bytes stripes ++ given) ++ rest) fault all → take (length (first ++ rows)) all ≡ first ++ rows
     rows_first fault all x = went k.0 k.1 k.2 (subst (AreStripes h) k.1 x.broken.each) where
       k : (later : List Stripe) × (x.broken.stripes ≡ stripes ++ later) × (given ++ rest ≡ flat_map stripe_bytes later ++ x.broken.tail)
-      k = first_parts h u.accepted height (stripe_count height h.l0) (suits_in_use h height u) stripes x.broken.stripes (given ++ rest) x.broken.tail each x.broken.each gives (omega (arith, x.broken.fewer)) (inr (fault, x.broken.tail_has)) (sym body_is ∙ x.broken.bytes_are)
+      k = first_parts u.accepted height (stripe_count height h.l0) (suits_in_use u) stripes x.broken.stripes (given ++ rest) x.broken.tail each x.broken.each gives (omega (arith, x.broken.fewer)) (inr (fault, x.broken.tail_has)) (sym body_is ∙ x.broken.bytes_are)
 
       went : (later : List Stripe) → x.broken.stripes ≡ stripes ++ later → given ++ rest ≡ flat_map stripe_bytes later ++ x.broken.tail → AreStripes h (stripes ++ later) → take (length (first ++ rows)) all ≡ first ++ rows
       went [] e at legal = matched_fault body x.broken.tail fault all x (e ∙ append-nil stripes) at

@@ -47,7 +47,7 @@ module _ (h : Fields) (height : ℕ) (known known' known'' : Option (List ℕ)) 
     stripes = r.stripes ++ s.stripe ∷ [];
     many = (let long = length-append r.stripes (s.stripe ∷ []) in omega (arith, long, r.many));
     gives_in = record {
-      gives = subst (GiveOnly height 0) (sym (segments_push r.stripes s.stripe)) (gives_both height 0 (all_segments r.stripes) s.stripe.segments r.gives_in.gives
+      gives = subst (GiveOnly height 0) (sym (segments_push r.stripes s.stripe)) (gives_both height 0 s.stripe.segments r.gives_in.gives
           (subst (λ n. GiveOnly height n s.stripe.segments) r.gives_in.heights_are s.gives_in.gives));
       heights_are = (let n = many_lengths (all_segments r.stripes) s.stripe.segments in let e = ap (λ z. length (lengths z)) (segments_push r.stripes s.stripe) in omega (arith, s.gives_in.heights_are, r.gives_in.heights_are, n, e));
     };
@@ -91,7 +91,7 @@ module _ (h : Fields) (height : ℕ) (known known' known'' : Option (List ℕ)) 
     rows = r.rows ++ s.rows;
     first = are_first q h height use_ r.stripes r.rows r.flags r.next (subst (λ n. n < stripe_count height h.l0) (sym r.many) fewer) r.gives_in.gives r.run s.given s.rows s.flags
         (subst (λ (z : Spot). StripeDecides h (stripe_place z r.next (min (height - length r.stripes * h.l0) h.l0)) s.given (flagged s.rows s.flags)) here (subst (λ n. StripeDecides h (stripe_place (record { height = height; entities = count; heights = heights }) r.next n) s.given (flagged s.rows s.flags)) rows_is s.decides));
-    appended = subst (AppendsBeginning text text'') (sym (flat_map-append packed_row r.rows s.rows)) (beginning_after text text' text'' (flat_map packed_row r.rows) (flat_map packed_row s.rows) r.appended s.appended);
+    appended = subst (AppendsBeginning text text'') (sym (flat_map-append packed_row r.rows s.rows)) (beginning_after (flat_map packed_row r.rows) r.appended s.appended);
   }
 
 -- no stripe

@@ -87,9 +87,9 @@ module _ {h : Fields} {count : ℕ} {text : List ℕ} (ok : IsAccepted h) (s : S
     never : count ≡ length g.stripes → ⊥
     never same =
         let none : length (lengths (all_segments g.stripes)) ≡ 0 = ap length (none_left (all_segments g.stripes) g.segments g.first) in
-        let breaks = given_breaks h ok (text ++ (front ++ rest)) n g in
+        let breaks = given_breaks ok (text ++ (front ++ rest)) n g in
         let at_front : StripeFault h (spot_of 0 count 0) (tail_of n g) Changed = subst (λ k. StripeFault h (spot_of 0 k 0) (tail_of n g) Changed) (sym same) (subst (λ m. StripeFault h (spot_of 0 (length g.stripes) m) (tail_of n g) Changed) none breaks) in
-        other (one_stripe_fault h ok 0 count 0 (never_suits h count count (omega arith)) (front ++ rest) (tail_of n g) f Changed (record {
+        other (one_stripe_fault ok 0 count 0 (never_suits h count count (omega arith)) (record {
           segments = p.segments;
           code = [];
           rest = rest;
@@ -166,7 +166,7 @@ module _ (d d' : PieceView) (late : d.is_open ≡ true) (waits : d.waits ≡ tru
     -- a height comes
     height_in_time : (n : ℕ) (p rest : List ℕ) → d.behind.comment ≡ None → HeightComes H d.walk n p rest → limit ≤ d.walk.left - (d.header.yd - n) → (more : List ℕ) (m : ℕ) → IsHeight H ((text ++ p) ++ more) m → rows_given d' ≤ m
     height_in_time n p rest between comes within more m i =
-        let same = one_height_of H ((text ++ p) ++ more) m n ok i (inl (subst (λ z. GivesHeight H z n) (sym body) (came_gives ok came (s.height.variable late) there.passed (comments_behind H d.walk ok.stripe_from gave.code w.walk.left_is there.passed) n valid (rest ++ more)))) in
+        let same = one_height_of ((text ++ p) ++ more) m n ok i (inl (subst (λ z. GivesHeight H z n) (sym body) (came_gives ok came (s.height.variable late) there.passed (comments_behind H d.walk ok.stripe_from gave.code w.walk.left_is there.passed) n valid (rest ++ more)))) in
         let to = rows_to in
         let left = w.walk.left_is in
         omega (arith, same, to, left, within, over, comes.legal.2)
@@ -249,7 +249,7 @@ module _ (d d' : PieceView) (late : d.is_open ≡ true) (waits : d.waits ≡ tru
 
     -- the look is over
     look_in_time : (p : List ℕ) (is_all : Bool) → last_behind H d.walk.stage d.walk.left ≡ true → LookIsOver is_all d p → limit ≤ d.walk.left → (more : List ℕ) → MayFollow is_all more → (m : ℕ) → IsHeight H ((text ++ p) ++ more) m → rows_given d' ≤ m
-    look_in_time p is_all last over below more follows m i = own_in_time below m (one_height_of H ((text ++ p) ++ more) m d.header.yd ok i (subst (λ z. IsHeight H z d.header.yd) (sym body) height)) where
+    look_in_time p is_all last over below more follows m i = own_in_time below m (one_height_of ((text ++ p) ++ more) m d.header.yd ok i (subst (λ z. IsHeight H z d.header.yd) (sym body) height)) where
       body : (text ++ p) ++ more ≡ w.done ++ ((w.back ++ p) ++ more)
       body = all_text p more ∙ ap (λ z. w.done ++ z) (sym (append_assoc w.back p more))
 
@@ -271,7 +271,7 @@ module _ (d d' : PieceView) (late : d.is_open ≡ true) (waits : d.waits ≡ tru
       same = came.many ∙ sym (in_code_entities d.walk.stage d.walk.entities gave.code)
 
       height : IsHeight H (w.done ++ ((w.back ++ p) ++ more)) d.header.yd
-      height = height_of_ended H ok (w.done ++ ((w.back ++ p) ++ more)) came.stripes ((w.back ++ p) ++ more) look.segments look.last (came.many ∙ many) came.each (gives_none 0 0 (all_segments came.stripes) (omega arith) came.none)
+      height = height_of_ended ok came.stripes look.segments look.last (came.many ∙ many) came.each (gives_none 0 0 (all_segments came.stripes) (omega arith) came.none)
           (ap (λ z. z ++ ((w.back ++ p) ++ more)) came.text_is) look.are.comments look.are.legal (λ n z valid e. look.no_height n z (subst (λ m. is_valid_length H m n ≡ true) same valid) e) look.no_comment look.rest_is
 
   -- ---- what its step leaves
@@ -308,12 +308,12 @@ module _ {h : Fields} {entities : ℕ} (ok : IsAccepted h) {before before' : Lis
     stripe = record { segments = t.segments; code = bytes; reset = reset }
 
     tails : flat_map segment_bytes s.segments ++ (stuffed (b ∷ code) ++ given) ≡ flat_map segment_bytes t.segments ++ (stuffed bytes ++ marker_bytes reset)
-    tails = (one_front h ok s.stripes t.stripes (flat_map segment_bytes s.segments ++ (stuffed (b ∷ code) ++ given)) (flat_map segment_bytes t.segments ++ (stuffed bytes ++ marker_bytes reset)) s.each t.each (s.many ∙ sym t.many)
+    tails = (one_front ok s.stripes t.stripes (flat_map segment_bytes s.segments ++ (stuffed (b ∷ code) ++ given)) (flat_map segment_bytes t.segments ++ (stuffed bytes ++ marker_bytes reset)) s.each t.each (s.many ∙ sym t.many)
         (sym (append_assoc before (stuffed (b ∷ code)) given ∙ ap (λ z. z ++ (stuffed (b ∷ code) ++ given)) s.text_is ∙ append_assoc (flat_map stripe_bytes s.stripes) (flat_map segment_bytes s.segments) (stuffed (b ∷ code) ++ given)) ∙ is
         ∙ ap (λ z. z ++ (stuffed bytes ++ marker_bytes reset)) t.text_is ∙ append_assoc (flat_map stripe_bytes t.stripes) (flat_map segment_bytes t.segments) (stuffed bytes ++ marker_bytes reset))).1
 
     k : (s.segments ≡ t.segments) × (more : List ℕ) × (bytes ≡ (b ∷ code) ++ more)
-    k = begun_in_stripe h ok s.segments b code given (record { segments = t.segments; code = bytes; reset = reset }) [] (record { legal = s.begun.legal; one_move = s.begun.one_move; bytes = small }) (record { legal = t.begun.legal; one_move = t.begun.one_move; bytes = small' })
+    k = begun_in_stripe ok given (record { segments = t.segments; code = bytes; reset = reset }) [] (record { legal = s.begun.legal; one_move = s.begun.one_move; bytes = small }) (record { legal = t.begun.legal; one_move = t.begun.one_move; bytes = small' })
         (tails ∙ sym (append-nil (flat_map segment_bytes t.segments ++ (stuffed bytes ++ marker_bytes reset))))
 
     rest : stuffed (b ∷ code) ++ given ≡ stuffed (b ∷ code) ++ (stuffed k.1 ++ marker_bytes reset)

@@ -8,7 +8,6 @@ use Rattle.std.proofs.Math.Nat.{mul-le-mul_right}
 use Rattle.qm_core.specs.Code.{stuffed}
 use Rattle.qm_core.specs.Source.{bytes_of}
 use Rattle.qm_core.specs.declared.source.Pulled.{Pulled}
-use Rattle.t85_core.specs.declared.fault.Fault.TheVariants.{Changed}
 use Rattle.t85_core.specs.Lent.{PieceView, WalkView, Carried}
 use Rattle.t85_core.specs.declared.pieces.behind.Behind.{Behind}
 use Rattle.t85_core.specs.declared.pieces.walk.Stage.TheVariants as stage
@@ -145,12 +144,12 @@ module _ {h : Fields} {count : ℕ} {text : List ℕ} (ok : IsAccepted h) (s : S
     went : (length g.stripes < length s.stripes) ⊎ (length s.stripes ≤ length g.stripes) → count ≤ length g.stripes
     went (inr le) = let m = s.many in omega (arith, le, m)
     went (inl less) =
-        absurd (parts_or_fault h ok 0 (length s.stripes) (never_suits h (length s.stripes)) s.stripes g.stripes rest (tail_of n g) Changed s.each g.each
-        (gives_none 0 0 (all_segments s.stripes) (omega arith) s.none) (omega (arith, less)) less (given_breaks h ok (text ++ rest) n g) (ap (λ z. z ++ rest) (sym s.text_is) ∙ g.body_is))
+        absurd (parts_or_fault ok 0 (length s.stripes) (never_suits h (length s.stripes)) s.stripes g.stripes rest s.each g.each
+        (gives_none 0 0 (all_segments s.stripes) (omega arith) s.none) (omega (arith, less)) less (given_breaks ok (text ++ rest) n g) (ap (λ z. z ++ rest) (sym s.text_is) ∙ g.body_is))
 
   -- where it comes straight behind them, they are its stripes
   pub same_tail : (rest : List ℕ) (n : ℕ) (g : GivesHeight h (text ++ rest) n) → count ≡ length g.stripes → rest ≡ tail_of n g
-  same_tail rest n g same = (one_front h ok s.stripes g.stripes rest (tail_of n g) s.each g.each (s.many ∙ same) (ap (λ z. z ++ rest) (sym s.text_is) ∙ g.body_is)).1
+  same_tail rest n g same = (one_front ok s.stripes g.stripes rest (tail_of n g) s.each g.each (s.many ∙ same) (ap (λ z. z ++ rest) (sym s.text_is) ∙ g.body_is)).1
 
   -- a height behind these segments
   pub came_gives : IsTrue (is_variable h) → {at : Option move.Move} {moved last : Bool} {front : List ℕ} {comments : ℕ} (p : HasPassed h (record { height = h.yd; entities = count; given = false }) last (Some front) (Some []) (segments_so_far at moved false comments)) →
@@ -214,9 +213,9 @@ module _ {h : Fields} {entities : ℕ} {text : List ℕ} (ok : IsAccepted h) (s 
     never : entities ≡ length here.stripes → ⊥
     never same =
         let none : length (lengths (all_segments here.stripes)) ≡ 0 = ap length (none_left (all_segments here.stripes) here.segments here.first) in
-        let k = begun_in_fault h ok 0 (length here.stripes) (length (lengths (all_segments here.stripes))) (never_suits h (length here.stripes) (length here.stripes) (omega arith)) s.segments b bytes rest (tail_of n here) Changed
+        let k = begun_in_fault ok (length here.stripes) (never_suits h (length here.stripes) (length here.stripes) (omega arith)) rest
         (record { legal = s.begun.legal; one_move = s.begun.one_move; bytes = small }) (gives_none 0 (length (lengths (all_segments here.stripes))) s.segments (omega (arith, none)) s.none_here)
-        (given_breaks h ok (flat_map stripe_bytes s.stripes ++ (flat_map segment_bytes s.segments ++ (stuffed (b ∷ bytes) ++ rest))) n here) (same_tail ok before_it (flat_map segment_bytes s.segments ++ (stuffed (b ∷ bytes) ++ rest)) n here same) in
+        (given_breaks ok (flat_map stripe_bytes s.stripes ++ (flat_map segment_bytes s.segments ++ (stuffed (b ∷ bytes) ++ rest))) n here) (same_tail ok before_it (flat_map segment_bytes s.segments ++ (stuffed (b ∷ bytes) ++ rest)) n here same) in
         nothing k.1 k.2
       where
         nothing : (more : List ℕ) → [] ≡ (b ∷ bytes) ++ more → ⊥
@@ -303,7 +302,7 @@ module _ (h : Fields) (ok : IsAccepted h) (variable : IsTrue (is_variable h)) (w
     -- before the first stripe
     in_head : (w.stage ≡ stage.Head) × (w.at ≡ None) × (w.entities ≡ 0) → IsLeastHeight h text (w.entities * h.l0 + 1)
     in_head (is, none, first) = whole (record {
-      below = λ rest n i. let u = height_within h ((s.done ++ s.back) ++ rest) n ok i in let from = u.from in omega (arith, from, zero);
+      below = λ rest n i. let u = height_within ((s.done ++ s.back) ++ rest) n ok i in let from = u.from in omega (arith, from, zero);
       reached = (
         ends.0 ++ segment_bytes (NewLength (w.entities * h.l0 + 1)),
         inl (subst (λ z. GivesHeight h z (w.entities * h.l0 + 1)) text_is (at_height head (w.entities * h.l0 + 1) variable valid [])),
@@ -391,7 +390,7 @@ module _ (d : PieceView) (text out : List ℕ) (s : DecoderStands d text out) wh
 
     same : d.walk.entities * d.header.l0 + 1 ≡ n
     same =
-        let u = height_within (fields_of d.header) (text ++ k.reached.0) (d.walk.entities * d.header.l0 + 1) (own_height d.header).accepted k.reached.1 in
+        let u = height_within (text ++ k.reached.0) (d.walk.entities * d.header.l0 + 1) (own_height d.header).accepted k.reached.1 in
         let to = u.to in
         let left = left_is late in
         let small = (own_height d.header).accepted.height_to in

@@ -37,7 +37,7 @@ whole_text first (Some r) answers extra text o m = (bytes_of answers, r, o.text_
 
 -- it doesn't break
 pub never_breaks : (h : Fields) (spot : Spot) (text p bytes : List ℕ) (f : Fault) → WholeText text → CodeBreaks text p bytes f → ⊥
-never_breaks h spot text p bytes f w k = no_marker_fault h spot 0 true w.1 p f (subst (λ z. rest_fault h spot 0 true z ≡ Some f) same.1 has) where
+never_breaks h spot text p bytes f w k = no_marker_fault h spot 0 true w.1 p (subst (λ z. rest_fault h spot 0 true z ≡ Some f) same.1 has) where
   has : rest_fault h spot 0 true (k.rest ++ k.unread) ≡ Some f
   has = longer_or_all (λ z. rest_fault h spot 0 true z ≡ Some f) k.rest k.unread (k.broken h spot 0) k.at_end (stable_rest h spot 0 true k.rest k.unread f (k.broken h spot 0))
 
@@ -45,7 +45,7 @@ never_breaks h spot text p bytes f w k = no_marker_fault h spot 0 true w.1 p f (
   same =
       one_code bytes w.0 (k.rest ++ k.unread) (marker_bytes w.1 ++ p)
       (sym (append_assoc (stuffed bytes) k.rest k.unread) ∙ sym k.text_is ∙ ap (λ z. z ++ p) w.2 ∙ append_assoc (stuffed w.0) (marker_bytes w.1) p)
-      (no_code_in h spot 0 true (k.rest ++ k.unread) f has) (marker_no_code w.1 p)
+      (no_code_in h spot 0 true (k.rest ++ k.unread) has) (marker_no_code w.1 p)
 
 nothing_no_code : NoCode []
 nothing_no_code b z e = went (stuff_cases b) where

@@ -34,7 +34,7 @@ use Rattle.t85_core.proofs.Bytes.Streams.{longer_or_all}
 pub height_known : (h : Fields) (height : ℕ) (text more : List ℕ) → IsAccepted h → HeightKnown h height false text → HasHeight h (text ++ more) height
 height_known h height text more ok k = went (is_variable h) refl where
   went : (v : Bool) → is_variable h ≡ v → HasHeight h (text ++ more) height
-  went true v n is = one_height_of h (text ++ more) n height ok is (inl (k.came refl v more))
+  went true v n is = one_height_of (text ++ more) n height ok is (inl (k.came refl v more))
   went false v n (inl g) = absurd (true≢false (sym g.variable ∙ v))
   went false v n (inr e) = e.0 ∙ sym (k.fixed refl v)
 
@@ -68,7 +68,7 @@ height_broken h body f use_ b other n (inl g) = went (cases_eq n h.yd) where
 
   went : (n ≡ h.yd) ⊎ (n ≢ h.yd) → n ≡ h.yd
   went (inl e) = e
-  went (inr different) = absurd (other (one_broken h use_.accepted h.yd (stripe_count h.yd h.l0) (suits_in_use h h.yd use_) b.stripes g.stripes b.tail (flat_map segment_bytes g.segments ++ (segment_bytes (NewLength n) ++ g.rest)) f Changed
+  went (inr different) = absurd (other (one_broken use_.accepted h.yd (stripe_count h.yd h.l0) (suits_in_use use_) b.stripes g.stripes
       b.each g.each b.gives (gives_none h.yd 0 (all_segments g.stripes) (omega arith) none_before) (let less = b.fewer in omega (arith, less)) g.within b.tail_has (changed different) (sym b.bytes_are ∙ g.body_is)).broken.fault)
 
 -- what breaks before a code breaks so at each height, so a height is no such fault

@@ -147,7 +147,7 @@ comments_behind h w some in_code left {at = at} p last = only_comments p.segment
 pub late_whole : (d : PieceView) (q : CoderLaws) (n : ℕ) (p rest : List ℕ) → d.is_open ≡ true → d.waits ≡ true → d.behind.comment ≡ None → IsInCode d.walk.stage → HeightComes (fields_of d.header) d.walk n p rest → d.walk.left - (d.header.yd - n) ≤ d.header.l0 →
     d.walk.left - (d.header.yd - n) ≤ d.walk.row → (is_all : Bool) → EndsWhole is_all d p n
 late_whole d q n p rest late waits between in_code comes fits few is_all text out more s follows = record {
-  height_is = λ m is. one_height_of (fields_of d.header) ((text ++ p) ++ more) m n (own_height d.header).accepted is (inl (subst (λ z. GivesHeight (fields_of d.header) z n) (sym body) (late_gives q (own_height d.header).accepted r n (d.walk.left - (d.header.yd - n)) n_is few some fits within variable valid passed comments (rest ++ more))));
+  height_is = λ m is. one_height_of ((text ++ p) ++ more) m n (own_height d.header).accepted is (inl (subst (λ z. GivesHeight (fields_of d.header) z n) (sym body) (late_gives q (own_height d.header).accepted r n (d.walk.left - (d.header.yd - n)) n_is few some fits within variable valid passed comments (rest ++ more))));
   rows = r.head.stripes.rows ++ r.rows;
   denotes = subst (λ z. DenotesAt (fields_of d.header) n z (record { width = d.header.xd; rows = take n (r.head.stripes.rows ++ r.rows) })) (sym body) (late_denotes q (own_height d.header).accepted r n (d.walk.left - (d.header.yd - n)) n_is few some fits within (w.behind.front ++ (segment_bytes (NewLength n) ++ (rest ++ more))));
   out_is = late_out q (own_height d.header).accepted r n (d.walk.left - (d.header.yd - n)) n_is few some fits within;
@@ -193,7 +193,7 @@ pub look_whole : (d d' : PieceView) (p : List ℕ) (is_all : Bool) → CoderLaws
 look_whole d d' p is_all q late waits last over ended text out more s follows =
     subst (λ z. HoldsImage (fields_of d.header) z d.header.yd out) (sym body)
     (read_holds (fields_of d.header) d.header.yd w.done out ((w.back ++ p) ++ more)
-    (λ m is. one_height_of (fields_of d.header) (w.done ++ ((w.back ++ p) ++ more)) m d.header.yd (own_height d.header).accepted is height)
+    (λ m is. one_height_of (w.done ++ ((w.back ++ p) ++ more)) m d.header.yd (own_height d.header).accepted is height)
     (image_read (fields_of d.header) d.header.yd (Some w.done) (Some []) (d.walk.entities + 1) 0 d'.walk.carried (Some []) (Some out) read (own_height d.header) many))
   where
     w : WalkWaits (fields_of d.header) d.walk d.behind text out
@@ -226,7 +226,7 @@ look_whole d d' p is_all q late waits last over ended text out more s follows =
     none = nil_of (lengths (all_segments read.stripes)) (let e = read.gives_in.heights_are in omega (arith, e))
 
     height : IsHeight (fields_of d.header) (w.done ++ ((w.back ++ p) ++ more)) d.header.yd
-    height = height_of_ended (fields_of d.header) (own_height d.header).accepted (w.done ++ ((w.back ++ p) ++ more)) read.stripes ((w.back ++ p) ++ more) look.segments look.last (read.many ∙ many)
+    height = height_of_ended (own_height d.header).accepted read.stripes look.segments look.last (read.many ∙ many)
         (stripes_whole (fields_of d.header) d.header.yd (image_start d.header.xd) read.stripes read.rows read.flags read.next read.run) (gives_none 0 0 (all_segments read.stripes) (omega arith) none)
         (ap (λ z. z ++ ((w.back ++ p) ++ more)) (read.taken ∙ append-nil (flat_map stripe_bytes read.stripes))) look.are.comments look.are.legal
         (λ n z valid e. look.no_height n z (subst (λ m. is_valid_length (fields_of d.header) m n ≡ true) same valid) e) look.no_comment look.rest_is

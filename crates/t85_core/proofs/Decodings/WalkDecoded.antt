@@ -119,7 +119,7 @@ module _ {h : Fields} {height entities : ℕ} {given : Bool} {at : Option move.M
         };
         decides = decides;
       };
-      appended = beginning_all (Some s.began) (Some out) (flat_map packed_row s.read.rows) s.read.appended;
+      appended = beginning_all s.read.appended;
     }
 
     stripe_unset : (m : Option Bool) → CodeText first m answers s.extra s.code →
@@ -192,7 +192,7 @@ unset_there h height bytes out more known known' known'' text text' i taken furt
   taken = subst (Consumes known known'') (ap (λ z. z ++ more) (i.taken ∙ append-nil (i.given ++ i.ahead)) ∙ append_assoc i.given i.ahead more) (Consumes-more known known' known'' bytes more taken further);
   rows = i.rows;
   first = i.first;
-  appended = subst (AppendsBeginning text text') (sym (i.appended.text_is ∙ ap (λ z. z ++ i.appended.rest) (sym out_is))) (beginning_longer text text' out i.appended.rest put);
+  appended = subst (AppendsBeginning text text') (sym (i.appended.text_is ∙ ap (λ z. z ++ i.appended.rest) (sym out_is))) (beginning_longer i.appended.rest put);
 } where
   out_is : out ≡ i.appended.front
   out_is = i.appended.appends

@@ -43,7 +43,7 @@ counted_never : (f : Fault) → counted_as Truncated f ≡ f → f ≢ Read
 counted_never f e is = let both : counted_as Truncated Read ≡ Read = subst (λ z. counted_as Truncated z ≡ z) is e in let bot : ⊥ = cc in bot
 
 cut_unread : (h : Fields) (height : ℕ) (text out : List ℕ) (f : Fault) → CutOff (sized h height) text out f → (n : ℕ) → reads_after f n ≡ n
-cut_unread h height text out f c = no_failed_read f (walk_fault f (body_faults h height _ text f (cut_all h height text out f c).1.broken)) (counted_never f c.counted)
+cut_unread h height text out f c = no_failed_read f (walk_fault f (body_faults (cut_all h height text out f c).1.broken)) (counted_never f c.counted)
 
 -- ---- a turn over what is held
 
@@ -254,10 +254,10 @@ module _ (h : Fields) (height : ℕ) (w w' : WalkView) (known known' known'' tex
       }
 
   pub image_off_begun : (f : Fault) → BreaksWalk (sized h height) w known' known'' f → ImageUnwritten h height (passage known known'' text text')
-  image_off_begun f off = let b = off so.bytes so.out so.stands in unset_there h height so.bytes so.out b.given known known' known'' text text' so.begun so.taken b.taken (beginning_all text text' so.out so.put)
+  image_off_begun f off = let b = off so.bytes so.out so.stands in unset_there h height so.bytes so.out b.given known known' known'' text text' so.begun so.taken b.taken (beginning_all so.put)
 
   pub image_off_unwritten : (f : Fault) → BreaksWalk (sized h height) w known' known'' f → (n : ℕ) → writes_after f n ≡ n
-  image_off_unwritten f off = let b = off so.bytes so.out so.stands in unwritten f (walk_fault f (uncounted_body Truncated f (body_faults h height _ _ _ b.fixes.broken)))
+  image_off_unwritten f off = let b = off so.bytes so.out so.stands in unwritten f (walk_fault f (uncounted_body Truncated f (body_faults b.fixes.broken)))
 
   -- it is whole
   pub image_whole : ReadsWalk (sized h height) w w' known' known'' [] → w'.stage ≡ stage.Done → ImageRead h height (passage known known'' text text')
@@ -324,7 +324,7 @@ module _ (h : Fields) (height : ℕ) (w w' : WalkView) (known known' known'' tex
     pub image_rows_unset : (text'' : Option (List ℕ)) → AppendsBeginning text' text'' (copies n w'.carried.held.current) → ImageUnwritten h height (passage known known'' text text'')
     image_rows_unset text'' put =
         unset_there h height (so.bytes ++ next.0) (so.out ++ copies n w'.carried.held.current) [] known known'' known'' text text'' begun_here taken_here (Consumes-none known'')
-        (beginning_after text text' text'' so.out (copies n w'.carried.held.current) so.put put)
+        (beginning_after so.out so.put put)
 
 -- before the first row
 pub so_far_first : (h : Fields) (height : ℕ) (w : WalkView) (known text : Option (List ℕ)) → WalkStands (sized h height) w [] [] → ImageSoFar (sized h height) w (passage known known text text) 0

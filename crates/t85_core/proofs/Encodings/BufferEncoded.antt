@@ -22,13 +22,27 @@ use Rattle.t85_core.proofs.Bytes.Streams.{Appends-keeps}
 use Rattle.t85_core.specs.Steps.Passage.{passage}
 
 module _ {form : Form} (width height' : ℕ) (whole : Raster → List ℕ) (known known' text old new : Option (List ℕ)) where
-  pub coded_handed : ImageCoded (layout_of form width height') whole (passage known known' text old) → Keeps old new → ImageCoded (layout_of form width height') whole (passage known known' text new)
+  pub coded_handed : ImageCoded (layout_of form width height') whole (passage known known' text old) → Keeps old new →
+      ImageCoded (layout_of form width height') whole (passage known known' text new)
   coded_handed i k = record { rows = i.rows; many = i.many; read = i.read; appended = Appends-keeps text old new _ i.appended k }
 
-  pub short_handed : (s : Settings) (up_to : Raster → ℕ → List ℕ) (fault : PbmFault) → ImageShort s (layout_of form width height') up_to whole (passage known known' text old) fault → Keeps old new → ImageShort s (layout_of form width height') up_to whole (passage known known' text new) fault
-  short_handed s up_to fault i k = record { rows = i.rows; few = i.few; mid = i.mid; read = i.read; part = i.part; bytes = i.bytes; holds = i.holds; begins = i.begins; appended = Appends-keeps text old new _ i.appended k }
+  pub short_handed : {s : Settings} {up_to : Raster → ℕ → List ℕ} {fault : PbmFault} →
+      ImageShort s (layout_of form width height') up_to whole (passage known known' text old) fault → Keeps old new →
+      ImageShort s (layout_of form width height') up_to whole (passage known known' text new) fault
+  short_handed i k = record {
+    rows = i.rows;
+    few = i.few;
+    mid = i.mid;
+    read = i.read;
+    part = i.part;
+    bytes = i.bytes;
+    holds = i.holds;
+    begins = i.begins;
+    appended = Appends-keeps text old new _ i.appended k;
+  }
 
-  pub front_handed : ImageFront (layout_of form width height') whole (passage known known' text old) → Keeps old new → ImageFront (layout_of form width height') whole (passage known known' text new)
+  pub front_handed : ImageFront (layout_of form width height') whole (passage known known' text old) → Keeps old new →
+      ImageFront (layout_of form width height') whole (passage known known' text new)
   front_handed i k = record {
     rows = i.rows;
     few = i.few;
@@ -45,12 +59,13 @@ module _ {form : Form} (width height' : ℕ) (whole : Raster → List ℕ) (know
 
 -- no byte at all ends within a row
 pub nothing_short : (form : Form) (width : ℕ) → 1 ≤ width → RowFault form width [] pbm.Truncated
-nothing_short Raw width some = (let enough = (div_ceil_times width 8 (omega arith)).0 in omega (arith, enough, some), refl)
-nothing_short Plain width some = record { pixels = []; digits = []; space = []; following = []; bytes_are = refl; few = omega (arith, some); are_pixels = refl; is_space = tt; has_fault = refl }
+nothing_short Raw width some = (let enough = (div_ceil_times width 8 (omega arith)).0 in omega arith, refl)
+nothing_short Plain width some = record { pixels = []; digits = []; space = []; following = []; bytes_are = refl; few = omega arith; are_pixels = refl; is_space = tt; has_fault = refl }
 
 module _ {form : Form} (width height' : ℕ) (whole : Raster → List ℕ) (known known' text text' : Option (List ℕ)) where
   -- some were, and nothing more
-  pub refused_front : 1 ≤ width → ImageRefused (layout_of form width height') whole (passage known known' text text') → ImageFront (layout_of form width height') whole (passage known known' text text')
+  pub refused_front : 1 ≤ width → ImageRefused (layout_of form width height') whole (passage known known' text text') →
+      ImageFront (layout_of form width height') whole (passage known known' text text')
   refused_front some i = record {
     rows = i.rows;
     few = i.few;
@@ -66,10 +81,11 @@ module _ {form : Form} (width height' : ℕ) (whole : Raster → List ℕ) (know
   }
 
   -- all rows were read
-  pub coded_front : 1 ≤ width → ImageCoded (layout_of form width height') whole (passage known known' text text') → ImageFront (layout_of form width height') whole (passage known known' text text')
+  pub coded_front : 1 ≤ width → ImageCoded (layout_of form width height') whole (passage known known' text text') →
+      ImageFront (layout_of form width height') whole (passage known known' text text')
   coded_front some i = refused_front some (record {
     rows = i.rows;
-    few = (let many = i.many in omega (arith, many));
+    few = (let many = i.many in omega arith);
     read = i.read;
     bytes = whole (raster_of width i.rows);
     begins = λ raster b. record {
@@ -83,10 +99,11 @@ module _ {form : Form} (width height' : ℕ) (whole : Raster → List ℕ) (know
   })
 
   -- some were, and a row of which less came
-  pub short_front : (s : Settings) (up_to : Raster → ℕ → List ℕ) (fault : PbmFault) → ImageShort s (layout_of form width height') up_to whole (passage known known' text text') fault → ImageFront (layout_of form width height') whole (passage known known' text text')
-  short_front s up_to fault i = record {
+  pub short_front : {s : Settings} {up_to : Raster → ℕ → List ℕ} {fault : PbmFault} → ImageShort s (layout_of form width height') up_to whole (passage known known' text text') fault →
+      ImageFront (layout_of form width height') whole (passage known known' text text')
+  short_front {fault} i = record {
     rows = i.rows;
-    few = (let less = i.few in omega (arith, less));
+    few = (let less = i.few in omega arith);
     mid = i.mid;
     read = i.read;
     part = i.part.given;
@@ -100,8 +117,9 @@ module _ {form : Form} (width height' : ℕ) (whole : Raster → List ℕ) (know
 
   -- whatever was reported
   pub told_front : (s : Settings) (up_to : Raster → ℕ → List ℕ) (fault : Fault) → IsEncodeFault fault → fault ≢ Write →
-      ((why : PbmFault) → IsErrOf {T = Unit {0}} {E = Fault} (Err fault) (Pbm why) → ImageShort s (layout_of form width height') up_to whole (passage known known' text text') why) → ImageFront (layout_of form width height') whole (passage known known' text text')
+      ((why : PbmFault) → IsErrOf {T = Unit {0}} {E = Fault} (Err fault) (Pbm why) → ImageShort s (layout_of form width height') up_to whole (passage known known' text text') why) →
+      ImageFront (layout_of form width height') whole (passage known known' text text')
   told_front s up_to fault among other short = went (which fault among) where
     went : (fault ≡ Write) ⊎ ((why : PbmFault) × (fault ≡ Pbm why)) → ImageFront (layout_of form width height') whole (passage known known' text text')
     went (inl is) = absurd (other is)
-    went (inr (why, is)) = short_front s up_to why (short why (is_of fault (Pbm why) is))
+    went (inr (why, is)) = short_front (short why (is_of is))

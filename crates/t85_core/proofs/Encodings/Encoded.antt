@@ -1,10 +1,10 @@
 -- From what encoding took and wrote to what is said of the whole body.
-use Rattle.std.proofs.Common.{◌≡◌, ◌≤◌, ◌<◌, ◌^◌, ◌==◌, true, ℕ, List, [], ◌++◌, length, Option, None, Some, Result, refl, sym, ap, ◌∙◌, append_assoc, append-nil, subst, arith, Bor, option_map, ◌≢◌, nat_lt, false, Ok, Err}
+use Rattle.std.proofs.Common.{◌≡◌, ◌≤◌, ◌<◌, ◌^◌, true, ℕ, List, [], ◌++◌, length, Option, None, Some, Result, refl, sym, ap, ◌∙◌, append_assoc, append-nil, subst, arith, Bor, option_map, ◌≢◌, nat_lt, false, Ok, Err}
 use Rattle.std.proofs.lemmas.Bool.Decides.{nat_tests}
 use Rattle.std.specs.Prelude.{IfSome, OnOk, IfErr, IsErrOf, unwrap_or}
 use Rattle.std.specs.Option.{option_map_or}
 use Rattle.std.specs.Io.KnownBytes.{Consumes, IsAtEnd, append_known}
-use Rattle.t85_core.specs.Change.{between}
+use Rattle.t85_core.specs.Change.{Change, between}
 use Rattle.pbm_core.specs.declared.fault.PbmFault.{PbmFault}
 use Rattle.pbm_core.specs.declared.fault.PbmFault.TheVariants as pbm
 use Rattle.pbm_core.specs.declared.form.Form.{Form}
@@ -13,11 +13,10 @@ use Rattle.raster_core.specs.Raster.{IsRaster}
 use Rattle.t85_core.specs.declared.fault.Fault.{Fault}
 use Rattle.t85_core.specs.declared.fault.Fault.TheVariants.{AnnouncedLow, Pbm}
 use Rattle.t85_core.specs.declared.options.Options.{Options}
-use Rattle.pbm_core.specs.Image.{HoldsRows}
-use Rattle.t85_core.specs.Encode.{raster_of, IsEncodeFault, WritesCode, WritesCodeBegun, WritesCodeFront, Encode, layout_of}
+use Rattle.t85_core.specs.Encode.{raster_of, IsEncodeFault, WritesCode, WritesCodeBegun, WritesCodeFront, Encode, Layout, layout_of}
 use Rattle.t85_core.specs.Steps.EncodeStripes.{ImageCoded, ImageShort, ImageFront}
 use Rattle.t85_core.specs.Steps.Buffers.{known_length}
-use Rattle.t85_core.specs.Jbg.{Settings, AreSettings, jbg, jbg_up_to, IsAnnounced, is_low}
+use Rattle.t85_core.specs.Jbg.{Settings, AreSettings, jbg, jbg_up_to, is_low}
 use Rattle.t85_core.specs.Options.{settings_of}
 use Rattle.t85_core.specs.Laws.{CodeDenotes}
 use Rattle.t85_core.specs.Failures.{CountsBoth, CountsWrite}
@@ -45,7 +44,7 @@ pub are_settings : (o : Options) → AreSettings (settings_of o)
 are_settings o = record {
   options_to = o.no_reserved_bit;
   no_low_bit = o.no_low_bit;
-  no_layer_bit = ap (λ n. n == 1) o.no_layer_bit;
+  no_layer_bit = rw o.no_layer_bit;
   stripe_from = o.some_rows;
   stripe_to = o.not_too_many;
   offset_to = o.in_range;
@@ -83,14 +82,16 @@ fault_stays fault other = refl
 
 module _ (s : Settings) (form : Form) (width height' : ℕ) (in_old in_new out_old out_new : Option (List ℕ)) where
   -- all rows were read and written
-  code_whole : CodeDenotes → AreSettings s → is_low s height' ≡ false → IsSize width height' → ImageCoded (layout_of form width height') (λ raster. jbg s raster) (passage in_old in_new out_old out_new) → IfSome in_old (λ body. WritesCode s (layout_of form width height') body out_old out_new)
+  code_whole : CodeDenotes → AreSettings s → is_low s height' ≡ false → IsSize width height' →
+      ImageCoded (layout_of form width height') (λ raster. jbg s raster) (passage in_old in_new out_old out_new) →
+      IfSome in_old (λ body. WritesCode s (layout_of form width height') body out_old out_new)
   code_whole law are low size i = known_all (λ body. WritesCode s (layout_of form width height') body out_old out_new) in_old in_new i.read.given i.read.taken whole where
     proper : IsRaster (raster_of width i.rows)
     proper = record {
       width_from = size.width_from;
       width_to = size.width_to;
-      height_from = omega (arith, size.height_from, i.many);
-      height_to = omega (arith, size.height_to, i.many);
+      height_from = omega arith;
+      height_to = omega arith;
       rows = rows_wide form width i.read.given i.rows i.read.are_rows;
     }
 
@@ -98,10 +99,10 @@ module _ (s : Settings) (form : Form) (width height' : ℕ) (in_old in_new out_o
     whole rest = record {
       rows = i.rows;
       rest = rest;
-      holds = rows_hold form width i.read.given rest i.rows i.read.are_rows;
+      holds = rows_hold i.read.given i.read.are_rows;
       many = i.many;
       appends = i.appended;
-      denotes = law s (raster_of width i.rows) are proper (subst (λ n. IsAnnounced s n) (sym i.many) (not_low (unwrap_or s.announced height') height' low));
+      denotes = law s (raster_of width i.rows) are proper (rw i.many (not_low (unwrap_or s.announced height') height' low));
     }
 
   module _ (fault : PbmFault) (i : ImageShort s (layout_of form width height') (λ raster n. jbg_up_to s raster n) (λ raster. jbg s raster) (passage in_old in_new out_old out_new) fault) where
@@ -117,7 +118,7 @@ module _ (s : Settings) (form : Form) (width height' : ℕ) (in_old in_new out_o
     begun left at_end = record {
       rows = i.rows;
       rest = i.part.given ++ left;
-      holds = subst (λ z. HoldsRows form z width i.rows (i.part.given ++ left)) (sym (append_assoc i.read.given i.part.given left)) (rows_hold form width i.read.given (i.part.given ++ left) i.rows i.read.are_rows);
+      holds = rw (append_assoc i.read.given i.part.given left) (rows_hold i.read.given i.read.are_rows);
       few = i.few;
       part = record { front = i.part.given; rest = left; bytes_are = refl; shows = i.part.has_fault; at_end = at_end };
       text = i.bytes;
@@ -128,12 +129,12 @@ module _ (s : Settings) (form : Form) (width height' : ℕ) (in_old in_new out_o
     -- the rows have a fault
     code_short : fault ≢ pbm.Read → IfSome in_old (λ body. WritesCodeBegun s (layout_of form width height') body fault out_old out_new)
     code_short other = went in_old in_new taken i.part.at_end where
-      went : (old new : Option (List ℕ)) → Consumes old new given → (fault ≡ pbm.Truncated → IsAtEnd new) → IfSome old (λ body. WritesCodeBegun s (layout_of form width height') body fault out_old out_new)
+      went : (old new : Option (List ℕ)) → Consumes old new given → (fault ≡ pbm.Truncated → IsAtEnd new) →
+          IfSome old (λ body. WritesCodeBegun s (layout_of form width height') body fault out_old out_new)
       went None new took end = tt
       went (Some body) None took end = absurd took
       went (Some body) (Some left) took end =
-          subst (λ z. WritesCodeBegun s (layout_of form width height') z fault out_old out_new) (sym took)
-          (subst (λ f. WritesCodeBegun s (layout_of form width height') (given ++ left) f out_old out_new) (fault_stays fault other) (begun left (λ is. end (sym (fault_stays fault other) ∙ is))))
+          rw (took, ← fault_stays fault other) (begun left (λ is. end (sym (fault_stays fault other) ∙ is)))
 
   -- a read failed within the rows
   code_unread : ImageShort s (layout_of form width height') (λ raster n. jbg_up_to s raster n) (λ raster. jbg s raster) (passage in_old in_new out_old out_new) pbm.Read →
@@ -141,20 +142,21 @@ module _ (s : Settings) (form : Form) (width height' : ℕ) (in_old in_new out_o
   code_unread i = (
     given pbm.Read i,
     taken pbm.Read i,
-    subst (λ z. WritesCodeBegun s (layout_of form width height') z pbm.Truncated out_old out_new) (append-nil (given pbm.Read i)) (begun pbm.Read i [] (λ _. refl)),
+    rw (← append-nil (given pbm.Read i)) (begun pbm.Read i [] (λ _. refl)),
   )
 
   -- what is written is a beginning of what was written
-  front_written : (held : List ℕ) → known_length out_old ≤ known_length out_new → ImageFront (layout_of form width height') (λ raster. jbg s raster) (passage in_old in_new out_old (append_known out_new held)) →
+  front_written : (held : List ℕ) → known_length out_old ≤ known_length out_new →
+      ImageFront (layout_of form width height') (λ raster. jbg s raster) (passage in_old in_new out_old (append_known out_new held)) →
       (given : List ℕ) × Consumes in_old in_new given × WritesCodeFront s (layout_of form width height') given out_old out_new
   front_written held grows i =
-      let p = beginning_handed out_old out_new held i.bytes grows (beginning_all out_old (append_known out_new held) i.bytes i.appended) in (
+      let p = beginning_handed out_new held grows (beginning_all i.appended) in (
         i.read.given ++ i.part,
         Consumes-more in_old i.mid in_new i.read.given i.part i.read.taken i.part_taken,
         record {
           rows = i.rows;
           rest = i.part;
-          holds = rows_hold form width i.read.given i.part i.rows i.read.are_rows;
+          holds = rows_hold i.read.given i.read.are_rows;
           few = i.few;
           fault = i.fault;
           part = i.short;
@@ -164,13 +166,15 @@ module _ (s : Settings) (form : Form) (width height' : ℕ) (in_old in_new out_o
         },
       )
 
-  pub encoded : (held : List ℕ) → CodeDenotes → AreSettings s → is_low s height' ≡ false → IsSize width height' → (reads_old reads_new writes_old writes_new : ℕ) (r : Result (Unit {0}) Fault) →
+  pub encoded : {r : Result (Unit {0}) Fault} (held : List ℕ) → CodeDenotes → AreSettings s → is_low s height' ≡ false → IsSize width height' →
+      (reads_old reads_new writes_old writes_new : ℕ) →
       OnOk r (ImageCoded (layout_of form width height') (λ raster. jbg s raster) (passage in_old in_new out_old out_new)) →
-      ((fault : PbmFault) → IsErrOf r (Pbm fault) → ImageShort s (layout_of form width height') (λ raster n. jbg_up_to s raster n) (λ raster. jbg s raster) (passage in_old in_new out_old out_new) fault) →
-      IfErr r IsEncodeFault → CountsBoth reads_old reads_new r → CountsWrite writes_old writes_new r →
-      known_length out_old ≤ known_length out_new → ImageFront (layout_of form width height') (λ raster. jbg s raster) (passage in_old in_new out_old (append_known out_new held)) →
+      ((fault : PbmFault) → IsErrOf r (Pbm fault) → ImageShort s (layout_of form width height') (λ raster n. jbg_up_to s raster n) (λ raster. jbg s raster)
+      (passage in_old in_new out_old out_new) fault) →
+      IfErr r IsEncodeFault → CountsBoth reads_old reads_new r → CountsWrite writes_old writes_new r → known_length out_old ≤ known_length out_new →
+      ImageFront (layout_of form width height') (λ raster. jbg s raster) (passage in_old in_new out_old (append_known out_new held)) →
       Encode s (layout_of form width height') (between in_old in_new reads_old reads_new) (between out_old out_new writes_old writes_new) r
-  encoded held law are low size reads_old reads_new writes_old writes_new r ok short among reads writes grows begun = record {
+  encoded {r} held law are low size reads_old reads_new writes_old writes_new ok short among reads writes grows begun = record {
     low = λ e. absurd (none_low r among e);
     not_low = always r low;
     told_if_low = always_err r low;
@@ -185,18 +189,16 @@ module _ (s : Settings) (form : Form) (width height' : ℕ) (in_old in_new out_o
   }
 
 -- the output before its loan, and at the loan's end
-pub encodes_at : {W : Type 0} (contents : W → Option (List ℕ)) (failures : W → ℕ) (s : Settings) (form : Form) (width height' : ℕ) (in_old in_new : Option (List ℕ)) (reads_old reads_new : ℕ)
-    (before : Option (List ℕ)) (count : ℕ) (start output output' : W) (r : Result (Unit {0}) Fault) → before ≡ contents start → count ≡ failures start → output ≡ output' →
-    Encode s (layout_of form width height') (between in_old in_new reads_old reads_new) (between before (contents output) count (failures output)) r →
-    Encode s (layout_of form width height') (between in_old in_new reads_old reads_new) (between (contents start) (contents output') (failures start) (failures output')) r
-encodes_at contents failures s form width height' in_old in_new reads_old reads_new before count start output output' r text n same e =
-    subst (λ x. Encode s (layout_of form width height') (between in_old in_new reads_old reads_new) (between (contents start) (contents x) (failures start) (failures x)) r) same
-    (subst (λ z. Encode s (layout_of form width height') (between in_old in_new reads_old reads_new) (between z (contents output) (failures start) (failures output)) r) text
-    (subst (λ z. Encode s (layout_of form width height') (between in_old in_new reads_old reads_new) (between before (contents output) z (failures output)) r) n e))
+pub encodes_at : {W : Type 0} {s : Settings} {before : Option (List ℕ)} {count : ℕ} {output output' : W} {r : Result (Unit {0}) Fault} {layout : Layout} {input : Change}
+    (contents : W → Option (List ℕ)) (failures : W → ℕ) (start : W) → before ≡ contents start → count ≡ failures start → output ≡ output' →
+    Encode s layout input (between before (contents output) count (failures output)) r → Encode s layout input (between (contents start) (contents output') (failures start) (failures output')) r
+encodes_at {s} {before} {output} {r} contents failures start text n same e =
+    rw (← same, ← text, ← n) e
 
 -- an announced height that is too low is reported at once
-pub told_low : (s : Settings) (form : Form) (width height' : ℕ) (known text : Option (List ℕ)) (reads writes : ℕ) → 1 ≤ width → is_low s height' ≡ true → Encode s (layout_of form width height') (between known known reads reads) (between text text writes writes) (Err AnnouncedLow)
-told_low s form width height' known text reads writes some is = record {
+pub told_low : {s : Settings} (form : Form) (width height' : ℕ) (known text : Option (List ℕ)) (reads writes : ℕ) → 1 ≤ width → is_low s height' ≡ true →
+    Encode s (layout_of form width height') (between known known reads reads) (between text text writes writes) (Err AnnouncedLow)
+told_low {s} form width height' known text reads writes some is = record {
   low = λ _. (is, Keeps-same known, Keeps-same text);
   not_low = tt;
   told_if_low = λ n. absurd (n refl);
@@ -210,7 +212,7 @@ told_low s form width height' known text reads writes some is = record {
     record {
       rows = [];
       rest = [];
-      holds = rows_hold form width [] [] [] refl;
+      holds = rows_hold [] refl;
       few = omega arith;
       fault = pbm.Truncated;
       part = nothing_short form width some;

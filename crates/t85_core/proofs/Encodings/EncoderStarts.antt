@@ -23,11 +23,11 @@ use Rattle.t85_core.proofs.Theorems.StateLookedUp.{CarriedAt, stripe_begins}
 use Rattle.t85_core.proofs.Encodings.EncoderRows.{get_mapped, none_chosen, offset_after, RowsDown, rows_down}
 
 -- a stripe ends, and the next begins
-next_carry : (c : Coding) (i : ℕ) (reset : Bool) (last : RowStart) → slice_index_or c.resets i false ≡ reset → suc i * c.stripe_rows ≤ height c.raster →
+next_carry : {c : Coding} {i : ℕ} {reset : Bool} {last : RowStart} → slice_index_or c.resets i false ≡ reset → suc i * c.stripe_rows ≤ height c.raster →
     CarriedAt c i c.stripe_rows (suc i * c.stripe_rows) last → CarryAt c (suc i) (suc i * c.stripe_rows) (next_stripe_start c.raster.width reset last)
-next_carry c i true last reset_is long k =
+next_carry {c} {i} {reset = true} reset_is long k =
     let y : ℕ = suc i * c.stripe_rows in
-    let fresh_here : fresh_stripe c (suc i) ≡ suc i = ap (λ b. if b then suc i else fresh_stripe c i) reset_is in
+    let fresh_here : fresh_stripe c (suc i) ≡ suc i = rw reset_is in
     let none : suc i * c.stripe_rows - suc i * c.stripe_rows ≡ 0 = omega arith in
     let test : nat_eq (suc i * c.stripe_rows) (suc i * c.stripe_rows) ≡ true = grind (arith, nat_tests) in
     record {
@@ -37,10 +37,10 @@ next_carry c i true last reset_is long k =
       above = sym (ap (λ j. row_above c.raster (j * c.stripe_rows) y 1) fresh_here ∙ row_above_top c.raster y 1 (omega arith));
       second = sym (ap (λ j. row_above c.raster (j * c.stripe_rows) y 2) fresh_here ∙ row_above_top c.raster y 2 (omega arith));
     }
-next_carry c i false last reset_is long k =
+next_carry {c} {i} {reset = false} reset_is long k =
     let y : ℕ = suc i * c.stripe_rows in
     let fresh_before : fresh_stripe c i ≡ fresh_stripe c (suc i) = sym (ap (λ b. if b then suc i else fresh_stripe c i) reset_is) in
-    let many : c.stripe_rows ≡ min c.stripe_rows (height c.raster - i * c.stripe_rows) = omega (arith, long) in
+    let many : c.stripe_rows ≡ min c.stripe_rows (height c.raster - i * c.stripe_rows) = omega arith in
     record {
       learned =
           ap (λ s. s.learned) k.state
@@ -52,9 +52,9 @@ next_carry c i false last reset_is long k =
       second = k.second ∙ ap (λ j. row_above c.raster (j * c.stripe_rows) y 2) fresh_before;
     }
 
-move_is_before : (s : Settings) (raster : Raster) (i : ℕ) (at : EncoderStart) → at.stripe ≡ i → at.counted ≡ lines_before s raster i → at.carry.offset ≡ offset_to s raster i →
+move_is_before : {i : ℕ} (s : Settings) (raster : Raster) (at : EncoderStart) → at.stripe ≡ i → at.counted ≡ lines_before s raster i → at.carry.offset ≡ offset_to s raster i →
     next_move s raster.width at ≡ move_before s (cut s raster) i
-move_is_before s raster i at stripe counted offset =
+move_is_before {i} s raster at stripe counted offset =
     ap (λ j. move j at.carry.offset at.counted) stripe
     ∙ ap (move i at.carry.offset) counted
     ∙ ap (λ o. move i o (lines_before s raster i)) offset
@@ -68,8 +68,8 @@ move_is_before s raster i at stripe counted offset =
     chosen (suc i) = refl
 
 -- the top of the image
-pub course_begins : (s : Settings) (raster : Raster) → CourseAt s raster 0 (first_encoder_start raster.width)
-course_begins s raster = record {
+pub course_begins : {s : Settings} {raster : Raster} → CourseAt s raster 0 (first_encoder_start raster.width)
+course_begins {s} {raster} = record {
   stripe = refl;
   carry = record {
     learned = refl;
@@ -80,7 +80,7 @@ course_begins s raster = record {
   };
   counted = refl;
   offset = refl;
-  move = move_is_before s raster 0 (first_encoder_start raster.width) refl refl refl;
+  move = move_is_before s raster (first_encoder_start raster.width) refl refl refl;
 } where
   none : 0 * s.stripe_rows - 0 * s.stripe_rows ≡ 0
   none = omega arith
@@ -98,8 +98,8 @@ pub record CourseGoes (s : Settings) (raster : Raster) (i : ℕ) (at : EncoderSt
 pub stripe_within : (n l i : ℕ) → 1 ≤ l → i < stripe_count n l → i * l < n
 stripe_within n l i some inside =
     let times = div_ceil_times n l some in
-    let up : (i + 1) * l ≤ stripe_count n l * l = mul-le-mul_right l (omega (arith, inside)) in
-    omega (arith, times.1, up)
+    let up : (i + 1) * l ≤ stripe_count n l * l = mul-le-mul_right l (omega arith) in
+    omega arith
 
 -- the offset that is named for stripe i, or that the rows of the stripe before choose for it
 abbrev choice_before : Settings → Raster → ℕ → Option ℕ
@@ -122,7 +122,7 @@ offset_ends s raster (suc i) last h = went s.reset where
   went true = refl
   went false = h
 
-module _ (s : Settings) (raster : Raster) (i : ℕ) (at : EncoderStart) (rows : List (List Bool)) (some : 1 ≤ s.stripe_rows) (inside : i < stripe_count (height raster) s.stripe_rows)
+module _ {s : Settings} {raster : Raster} {i : ℕ} {at : EncoderStart} (rows : List (List Bool)) (some : 1 ≤ s.stripe_rows) (inside : i < stripe_count (height raster) s.stripe_rows)
     (h : CourseAt s raster i at) (rows_at : Continues (white_row raster.width) raster.rows (i * s.stripe_rows) rows)
     (many : length rows ≡ min s.stripe_rows (height raster - i * s.stripe_rows)) where
   within : i * s.stripe_rows < height raster
@@ -139,18 +139,18 @@ module _ (s : Settings) (raster : Raster) (i : ℕ) (at : EncoderStart) (rows : 
   down : RowsDown s raster i 0 (i * s.stripe_rows) (next_move s raster.width at) (first_row_start at.carry) rows
   down =
       let y : i * s.stripe_rows ≡ i * s.stripe_rows + 0 = omega arith in
-      rows_down s raster i (next_move s raster.width at) move_is rows 0 (i * s.stripe_rows) (first_row_start at.carry) (omega (arith, many)) (omega (arith, many, within)) y
+      rows_down s raster move_is rows 0 (omega arith) (omega (arith, within)) y
       (stripe_begins (coding_of s raster) i at.carry h.carry) rows_at
 
   state_is : (row_start_in s raster.width at rows).state ≡ after (begun (learned_at (coding_of s raster) i)) (events_of (coding_of s raster) i)
   state_is =
-      let all : 0 + length rows ≡ min s.stripe_rows (height raster - i * s.stripe_rows) = omega (arith, many) in
+      let all : 0 + length rows ≡ min s.stripe_rows (height raster - i * s.stripe_rows) = omega arith in
       down.carried.state ∙ ap (λ n. after (begun (learned_at (coding_of s raster) i)) (flat_map (events_of_row (coding_of s raster)) (numbers_from (i * s.stripe_rows) n))) all
 
   offset_is : (row_start_in s raster.width at rows).offset ≡ unwrap_or (choice_before s raster i) (offset_to s raster i)
   offset_is =
       ap (λ m. (after_rows (cut s raster).mode m 0 (first_row_start at.carry) rows).offset) (h.move ∙ move_chosen s raster i)
-      ∙ offset_after s raster (choice_before s raster i) rows (first_row_start at.carry) (omega (arith, many, within, some))
+      ∙ offset_after s raster (choice_before s raster i) rows (first_row_start at.carry) (omega (arith, within))
       ∙ ap (unwrap_or (choice_before s raster i)) h.offset
 
   stripe_is : next_stripe s raster.width at rows ≡ coded_stripe (coding_of s raster) i
@@ -165,21 +165,21 @@ module _ (s : Settings) (raster : Raster) (i : ℕ) (at : EncoderStart) (rows : 
   next_is : suc i * s.stripe_rows ≤ height raster → CourseAt s raster (suc i) (next_encoder_start s raster.width at rows)
   next_is long = record {
     stripe = ap suc h.stripe;
-    carry = next_carry (coding_of s raster) i s.reset (row_start_in s raster.width at rows) reset_is long carried;
+    carry = next_carry reset_is long carried;
     counted = counted;
     offset = offset;
-    move = move_is_before s raster (suc i) (next_encoder_start s raster.width at rows) (ap suc h.stripe) counted offset;
+    move = move_is_before s raster (next_encoder_start s raster.width at rows) (ap suc h.stripe) counted offset;
   } where
     counted : lines_down at.carry.above at.carry.second rows ≡ lines_before s raster (suc i)
-    counted = down.lines ∙ ap (λ n. map (lines_of (cut s raster)) (numbers_from (i * s.stripe_rows) n)) many
+    counted = rw (down.lines, many)
 
     offset : (next_stripe_start raster.width s.reset (row_start_in s raster.width at rows)).offset ≡ offset_to s raster (suc i)
     offset = offset_ends s raster i (row_start_in s raster.width at rows) offset_is
 
     carried : CarriedAt (coding_of s raster) i s.stripe_rows (suc i * s.stripe_rows) (row_start_in s raster.width at rows)
     carried =
-        let r_is : 0 + length rows ≡ s.stripe_rows = omega (arith, many, long) in
-        let y_is : i * s.stripe_rows + length rows ≡ suc i * s.stripe_rows = omega (arith, r_is) in
+        let r_is : 0 + length rows ≡ s.stripe_rows = omega arith in
+        let y_is : i * s.stripe_rows + length rows ≡ suc i * s.stripe_rows = omega arith in
         subst (λ z. CarriedAt (coding_of s raster) i s.stripe_rows z (row_start_in s raster.width at rows)) y_is
         (subst (λ z. CarriedAt (coding_of s raster) i z (i * s.stripe_rows + length rows) (row_start_in s raster.width at rows)) r_is down.carried)
 
@@ -187,11 +187,11 @@ module _ (s : Settings) (raster : Raster) (i : ℕ) (at : EncoderStart) (rows : 
   pub course_step : CourseGoes s raster i at rows
   course_step = record {
     stripe = stripe_is;
-    lines = down.lines ∙ ap (λ n. map (lines_of (cut s raster)) (numbers_from (i * s.stripe_rows) n)) many;
+    lines = rw (down.lines, many);
     next = λ more.
         let on : suc i ≡ i + 1 = omega arith in
-        let long : (i + 1) * s.stripe_rows < height raster = stripe_within (height raster) s.stripe_rows (i + 1) some more in
-        subst (λ z. CourseAt s raster z (next_encoder_start s raster.width at rows)) on (next_is (omega (arith, long)));
+        let long = stripe_within (height raster) s.stripe_rows (i + 1) some more in
+        rw (← on) (next_is (omega arith));
   }
 
 -- a stripe more of the stream

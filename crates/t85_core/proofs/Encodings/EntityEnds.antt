@@ -1,5 +1,5 @@
 -- A code and its end marker.
-use Rattle.std.proofs.Common.{ℕ, Bool, List, ◌++◌, sym, ap, ◌∙◌, Option, Result, Ok, Err, append_assoc}
+use Rattle.std.proofs.Common.{ℕ, Bool, List, ◌++◌, Option, Result, Ok, Err, append_assoc}
 use Rattle.std.specs.Prelude.{OnOk, OnErr}
 use Rattle.std.specs.Io.KnownBytes.{Appends}
 use Rattle.pbm_core.specs.Device.{AppendsBeginning}
@@ -16,27 +16,27 @@ module _ (p : Place) (reset : Bool) (pushed : List ℕ) (text mid text' : Option
     code = c.code;
     is = c.is;
     more = c.more ++ marker_bytes reset;
-    all = sym (append_assoc pushed c.more (marker_bytes reset)) ∙ ap (λ z. z ++ marker_bytes reset) c.all;
+    all = rw (← append_assoc, c.all);
     ok = tt;
-    cut = beginning_longer text text' c.more (marker_bytes reset) c.cut;
+    cut = beginning_longer (marker_bytes reset) c.cut;
   }
 
   -- the code was, and then the marker or a beginning of it
-  pub entity_ended : (u : Unit {0}) → CodeFinished {E = Fault} p pushed text mid (Ok u) → (answer : Result (Unit {0}) Fault) → OnOk answer (Appends mid text' (marker_bytes reset)) → OnErr answer (AppendsBeginning mid text' (marker_bytes reset))
-      → CodeEnded p reset pushed text text' answer
-  entity_ended u c (Ok v) ok cut = record {
+  pub entity_ended : {u : Unit {0}} {answer : Result (Unit {0}) Fault} → CodeFinished {E = Fault} p pushed text mid (Ok u) → OnOk answer (Appends mid text' (marker_bytes reset)) →
+      OnErr answer (AppendsBeginning mid text' (marker_bytes reset)) → CodeEnded p reset pushed text text' answer
+  entity_ended {answer = (Ok v)} c ok cut = record {
     code = c.code;
     is = c.is;
     more = c.more ++ marker_bytes reset;
-    all = sym (append_assoc pushed c.more (marker_bytes reset)) ∙ ap (λ z. z ++ marker_bytes reset) c.all;
+    all = rw (← append_assoc, c.all);
     ok = Appends-more text mid text' c.more (marker_bytes reset) c.ok ok;
     cut = tt;
   }
-  entity_ended u c (Err f) ok cut = record {
+  entity_ended {answer = (Err f)} c ok cut = record {
     code = c.code;
     is = c.is;
     more = c.more ++ marker_bytes reset;
-    all = sym (append_assoc pushed c.more (marker_bytes reset)) ∙ ap (λ z. z ++ marker_bytes reset) c.all;
+    all = rw (← append_assoc, c.all);
     ok = tt;
-    cut = beginning_after text mid text' c.more (marker_bytes reset) c.ok cut;
+    cut = beginning_after c.more c.ok cut;
   }

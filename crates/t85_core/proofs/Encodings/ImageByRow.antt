@@ -1,5 +1,5 @@
 -- An image whose rows are read and coded one by one.
-use Rattle.std.proofs.Common.{◌≡◌, ℕ, ◌+◌, ◌*◌, ◌/◌, ◌<◌, ◌≤◌, ◌⊎◌, inl, inr, Bool, List, [], ◌++◌, length, take, refl, sym, ◌∙◌, ap, subst, arith, Option, append_assoc, append-nil, length-append}
+use Rattle.std.proofs.Common.{◌≡◌, ℕ, ◌+◌, ◌*◌, ◌/◌, ◌<◌, ◌≤◌, ◌⊎◌, inl, inr, Bool, List, [], ◌++◌, length, refl, sym, ◌∙◌, ap, arith, Option, append_assoc, append-nil, length-append}
 use Rattle.std.proofs.lemmas.Grind.{div_ceil_times}
 use Rattle.std.proofs.Math.Seq.{take-length}
 use Rattle.pbm_core.specs.declared.fault.PbmFault.{PbmFault}
@@ -31,9 +31,9 @@ few_stripes n l i some within = went (less_or_not (stripe_count n l) i) where
   went (inr h) = h
   went (inl h) =
       let low = (div_ceil_times n l some).0 in
-      let up : (stripe_count n l + 1) * l ≤ i * l = Rattle.std.proofs.Math.Nat.mul-le-mul_right l (omega (arith, h)) in
+      let up : (stripe_count n l + 1) * l ≤ i * l = Rattle.std.proofs.Math.Nat.mul-le-mul_right l (omega arith) in
       let sum : (stripe_count n l + 1) * l ≡ stripe_count n l * l + 1 * l = Rattle.std.proofs.Math.Nat.add-mul (stripe_count n l) 1 l in
-      absurd (omega (arith, low, up, sum, within, some))
+      absurd (omega arith)
 
 module _ (image : Image) (rows : List (List Bool)) (v : RowView) (window : Held) (origin : Origin) (text : Option (List ℕ)) where
   -- no stripe runs
@@ -42,15 +42,15 @@ module _ (image : Image) (rows : List (List Bool)) (v : RowView) (window : Held)
     bytes = w.front;
     sent = w.sent;
     begun = λ raster b. record {
-      holds = record { rest = []; bytes_are = (stands_here image w.i rows w.at w.front w.stripes).front_is raster b ∙ sym (ap (jbg_up_to image.settings raster) whole) ∙ sym (append-nil (jbg_up_to image.settings raster (length rows / image.settings.stripe_rows))) };
-      begins = front_begins image.settings raster w.i w.front (few_stripes (height raster) image.settings.stripe_rows w.i w.plan_is.some (let long = come_long image rows raster b in omega (arith, long, w.stripes.many)))
-          (record { rest = []; bytes_are = sym ((stands_here image w.i rows w.at w.front w.stripes).front_is raster b) ∙ sym (append-nil w.front) });
+      holds = record { rest = []; bytes_are = rw ((stands_here w.stripes).front_is raster b, ← whole, ← append-nil (jbg_up_to image.settings raster (length rows / image.settings.stripe_rows))) };
+      begins = front_begins image.settings raster w.i (few_stripes (height raster) image.settings.stripe_rows w.i w.plan_is.some (let long = come_long b in omega arith))
+          (record { rest = []; bytes_are = sym ((stands_here w.stripes).front_is raster b) ∙ sym (append-nil w.front) });
     };
   } where
     whole : length rows / image.settings.stripe_rows ≡ w.i
     whole =
-        let sum : length rows ≡ w.i * image.settings.stripe_rows + 0 = omega (arith, w.stripes.many) in
-        ap (λ n. n / image.settings.stripe_rows) sum ∙ stripe_at image.settings.stripe_rows w.i 0 (omega (arith, w.plan_is.some))
+        let sum : length rows ≡ w.i * image.settings.stripe_rows + 0 = omega arith in
+        ap (λ n. n / image.settings.stripe_rows) sum ∙ stripe_at image.settings.stripe_rows w.i 0 (omega arith)
 
   -- one runs
   front_runs : WritingLaws → 0 < v.in_stripe → v.in_stripe < v.plan.stripe_rows → Runs image rows v window origin text → StreamFront image rows origin text
@@ -60,32 +60,31 @@ module _ (image : Image) (rows : List (List Bool)) (v : RowView) (window : Held)
     begun = λ raster b. record {
       holds = record {
         rest = move_bytes image.settings image.width r.at ++ r.pushed;
-        bytes_are = ap (λ z. z ++ (move_bytes image.settings image.width r.at ++ r.pushed)) ((stands_here image r.i r.whole r.at r.front r.stripes).front_is raster (first raster b) ∙ sym (ap (jbg_up_to image.settings raster) whole));
+        bytes_are = rw ((stands_here r.stripes).front_is raster (first raster b), ← whole);
       };
-      begins = part_begins image r.i r.whole r.at r.front r.plan_is.some r.stripes r.part (move_bytes image.settings image.width r.at ++ r.pushed) r.few begins raster (all raster b)
-          (let long = come_long image (r.whole ++ r.part) raster (all raster b) in omega (arith, long, length-append r.whole r.part, r.stripes.many, some, r.in_stripe));
+      begins = part_begins r.plan_is.some r.stripes r.part (move_bytes image.settings image.width r.at ++ r.pushed) r.few begins (all raster b)
+          (let long = come_long (all raster b) in omega (arith, length-append r.whole r.part));
     };
   } where
     all : (raster : Raster) → MayCome image rows raster → MayCome image (r.whole ++ r.part) raster
-    all raster b = subst (λ z. MayCome image z raster) r.all b
+    all raster b = rw (← r.all) b
 
     first : (raster : Raster) → MayCome image rows raster → MayCome image r.whole raster
-    first raster b = come_first image r.whole r.part raster (all raster b)
+    first raster b = come_first r.part (all raster b)
 
     whole : length rows / image.settings.stripe_rows ≡ r.i
     whole =
-        let sum : length rows ≡ r.i * image.settings.stripe_rows + length r.part = ap length r.all ∙ (omega (arith, length-append r.whole r.part, r.stripes.many)) in
-        ap (λ n. n / image.settings.stripe_rows) sum ∙ stripe_at image.settings.stripe_rows r.i (length r.part) (omega (arith, fewer, r.in_stripe, r.plan_is.stripe_rows_is))
+        let sum = ap length r.all ∙ (omega (arith, length-append r.whole r.part)) in
+        ap (λ n. n / image.settings.stripe_rows) sum ∙ stripe_at image.settings.stripe_rows r.i (length r.part) (omega arith)
 
     begins : (later : List (List Bool)) → IsBeginning (move_bytes image.settings image.width r.at ++ r.pushed) (stripe_bytes (next_stripe image.settings image.width r.at (r.part ++ later)))
     begins later =
-        let p = pushed_begins laws (mode_of image.settings.options) (next_move image.settings image.width r.at) r.at.carry r.part (length r.part + length later) v.encoder r.pushed r.running.codes later refl in
+        let p = pushed_begins laws (mode_of image.settings.options) (next_move image.settings image.width r.at) r.at.carry r.part
+        (length r.part + length later) v.encoder r.pushed r.running.codes later refl in
         record {
           rest = p.rest ++ marker_bytes image.settings.reset;
           bytes_are =
-              ap (λ z. move_bytes image.settings image.width r.at ++ (z ++ marker_bytes image.settings.reset)) p.bytes_are
-              ∙ ap (λ z. move_bytes image.settings image.width r.at ++ z) (append_assoc r.pushed p.rest (marker_bytes image.settings.reset))
-              ∙ sym (append_assoc (move_bytes image.settings image.width r.at) r.pushed (p.rest ++ marker_bytes image.settings.reset));
+              rw (p.bytes_are, append_assoc, ← append_assoc);
         }
 
   -- what stands is a beginning of each stream that may come, with each stripe whose rows all came
@@ -95,43 +94,46 @@ module _ (image : Image) (rows : List (List Bool)) (v : RowView) (window : Held)
 
 -- ---- an image of a height that is known
 
-pub may_come : (s : Settings) (width height' : ℕ) (rows : List (List Bool)) (raster : Raster) → BeginsWith width height' rows raster → MayCome (image_of s width height') rows raster
-may_come s width height' rows raster b = record { proper = b.proper; width_is = b.width_is; height_to = omega (arith, b.height_is); height_is = λ _. b.height_is; first = b.first }
+pub may_come : {width height' : ℕ} {rows : List (List Bool)} {raster : Raster} (s : Settings) → BeginsWith width height' rows raster → MayCome (image_of s width height') rows raster
+may_come s b = record { proper = b.proper; width_is = b.width_is; height_to = omega arith; height_is = λ _. b.height_is; first = b.first }
 
-module _ {form : Form} (s : Settings) (width height' : ℕ) (rows : List (List Bool)) (known mid known' text text' : Option (List ℕ)) (read : ReadsRows form width known mid rows) where
+module _ {form : Form} {width : ℕ} {rows : List (List Bool)} {known mid : Option (List ℕ)} (s : Settings) (height' : ℕ) (known' text text' : Option (List ℕ))
+    (read : ReadsRows form width known mid rows) where
   -- no whole row more came
-  pub front_short : (fault : PbmFault) → length rows < height' → EndsInRow form width mid known' fault → StreamFront (image_of s width height') rows (here text) text'
-      → ImageShort s (layout_of form width height') (λ raster n. jbg_up_to s raster n) (λ raster. jbg s raster) (passage known known' text text') fault
-  front_short fault few part front = record {
+  pub front_short : {fault : PbmFault} → length rows < height' → EndsInRow form width mid known' fault → StreamFront (image_of s width height') rows (here text) text' →
+      ImageShort s (layout_of form width height') (λ raster n. jbg_up_to s raster n) (λ raster. jbg s raster) (passage known known' text text') fault
+  front_short few part front = record {
     rows = rows;
     few = few;
     mid = mid;
     read = read;
     part = part;
     bytes = front.bytes;
-    holds = λ raster b. (front.begun raster (may_come s width height' rows raster b)).holds;
-    begins = λ raster b. (front.begun raster (may_come s width height' rows raster b)).begins;
-    appended = here_sent text text' front.bytes front.sent;
+    holds = λ raster b. (front.begun raster (may_come s b)).holds;
+    begins = λ raster b. (front.begun raster (may_come s b)).begins;
+    appended = here_sent front.sent;
   }
 
   -- the target took no more
-  pub cut_refused : length rows ≤ height' → StreamCut (image_of s width height') rows (here text) text' → ImageRefused (layout_of form width height') (λ raster. jbg s raster) (passage known mid text text')
-  cut_refused few cut = record { rows = rows; few = few; read = read; bytes = cut.bytes; begins = λ raster b. cut.begins raster (may_come s width height' rows raster b); appended = here_sent text text' cut.bytes cut.sent }
+  pub cut_refused : length rows ≤ height' → StreamCut (image_of s width height') rows (here text) text' →
+      ImageRefused (layout_of form width height') (λ raster. jbg s raster) (passage known mid text text')
+  cut_refused few cut = record { rows = rows; few = few; read = read; bytes = cut.bytes; begins = λ raster b. cut.begins raster (may_come s b); appended = here_sent cut.sent }
 
-  pub end_refused : length rows ≡ height' → SendsBeginning (here text) text' (jbg s (raster_of width rows)) → ImageRefused (layout_of form width height') (λ raster. jbg s raster) (passage known mid text text')
+  pub end_refused : length rows ≡ height' → SendsBeginning (here text) text' (jbg s (raster_of width rows)) →
+      ImageRefused (layout_of form width height') (λ raster. jbg s raster) (passage known mid text text')
   end_refused many cut = record {
     rows = rows;
-    few = omega (arith, many);
+    few = omega arith;
     read = read;
     bytes = cut.front;
-    begins = λ raster b. subst (λ z. IsBeginning cut.front (jbg s z)) (sym (same raster b)) (record { rest = cut.rest; bytes_are = cut.text_is });
-    appended = here_sent text text' cut.front cut.sends;
+    begins = λ raster b. rw (same raster b) (record { rest = cut.rest; bytes_are = cut.text_is });
+    appended = here_sent cut.sends;
   } where
     -- no other image has all these rows
     same : (raster : Raster) → BeginsWith width height' rows raster → raster ≡ raster_of width rows
     same raster b =
-        let long : length raster.rows ≡ length rows = omega (arith, b.height_is, many) in
-        let rows_are : raster.rows ≡ rows = sym (take-length raster.rows) ∙ ap (λ n. take n raster.rows) long ∙ b.first in
+        let long : length raster.rows ≡ length rows = omega arith in
+        let rows_are : raster.rows ≡ rows = rw (← take-length raster.rows, long) b.first in
         ap (λ w. raster_of w raster.rows) b.width_is ∙ ap (raster_of width) rows_are
 
 -- the rows that were read, and the encoder's position
@@ -140,5 +142,5 @@ ComeTo form s width height' count known known' v window text text' =
     (rows : List (List Bool)) × (length rows ≡ count) × ReadsRows form width known known' rows × Stands (image_of s width height') rows v window (here text) text'
 
 -- the window has lines after a row was read
-pub taken_lined : {form : Form} (width : ℕ) (known known' : Option (List ℕ)) (old new : Held) → RowTaken form width known known' old new → IsLined old → IsLined new
-taken_lined width known known' old new r l = (record { row = r.row; above = l.0.row; second = l.0.above }, r.below l.0 l.1)
+pub taken_lined : {form : Form} {width : ℕ} {known known' : Option (List ℕ)} {old new : Held} → RowTaken form width known known' old new → IsLined old → IsLined new
+taken_lined r l = (record { row = r.row; above = l.0.row; second = l.0.above }, r.below l.0 l.1)

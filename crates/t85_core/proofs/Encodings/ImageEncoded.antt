@@ -4,7 +4,7 @@ use Rattle.std.specs.Prelude.{IfSome}
 use Rattle.std.specs.Io.KnownBytes.{Consumes}
 use Rattle.t85_core.specs.Change.{between}
 use Rattle.pbm_core.specs.Outcome.{HasHeader, HasFault, LeavesRest, WrittenIsRead}
-use Rattle.pbm_core.specs.Pbm.{letters_of, header_text}
+use Rattle.pbm_core.specs.Pbm.{letters_of}
 use Rattle.pbm_core.specs.Refusal.{HeaderFault}
 use Rattle.pbm_core.specs.Reading.{fault_of_given, CountsPbmRead as CountsPbm}
 use Rattle.pbm_core.specs.declared.fault.PbmFault.{PbmFault}
@@ -25,16 +25,16 @@ use Rattle.t85_core.proofs.Decodings.BufferDecoded.{counts_any}
 pub not_no_memory : IsEncodeFault OutOfMemory → ⊥
 not_no_memory p = p
 
-pub among_faults : (f : Fault) → IsEncodeFault f → f ≢ OutOfMemory → f ≢ Write → (fault : PbmFault) × (f ≡ Pbm fault)
-among_faults f p no_memory written = went (which f p) where
+pub among_faults : {f : Fault} → IsEncodeFault f → f ≢ OutOfMemory → f ≢ Write → (fault : PbmFault) × (f ≡ Pbm fault)
+among_faults {f} p no_memory written = went (which f p) where
   went : (f ≡ Write) ⊎ ((fault : PbmFault) × (f ≡ Pbm fault)) → (fault : PbmFault) × (f ≡ Pbm fault)
   went (inl e) = absurd (written e)
   went (inr told) = told
 
 -- the count of failed reads, as it was reported of the header
-pub counts_told : (old new : ℕ) (fault : PbmFault) → CountsPbm {T = Size × Form} old new (Err fault) → new ≡ reads_after (Pbm fault) old
-counts_told old new pbm.Read e = e
-counts_told old new f e = e
+pub counts_told : {new : ℕ} (old : ℕ) (fault : PbmFault) → CountsPbm {T = Size × Form} old new (Err fault) → new ≡ reads_after (Pbm fault) old
+counts_told old pbm.Read e = e
+counts_told old f e = e
 
 -- A header was taken, and nothing after it.
 pub record TakesHeader (old new : Option (List ℕ)) (form : Form) (width height' : ℕ) : Type 0 where
@@ -43,8 +43,9 @@ pub record TakesHeader (old new : Option (List ℕ)) (form : Form) (width height
   pub header : (body : List ℕ) → HasHeader (front ++ body) form width height' body
 
 -- the same header in a form
-header_as : (form : Form) (old new : Option (List ℕ)) (bytes : List ℕ) (width height' : ℕ) (rest : List ℕ) → ((front : List ℕ) → Consumes old new front) → HasHeader bytes Raw width height' rest → TakesHeader old new form width height'
-header_as form old new bytes width height' rest taken h = record {
+header_as : {bytes rest : List ℕ} {width height' : ℕ} {form : Form} {old new : Option (List ℕ)} → ((front : List ℕ) → Consumes old new front) → HasHeader bytes Raw width height' rest →
+    TakesHeader old new form width height'
+header_as {form} taken h = record {
   front = letters_of form ++ behind;
   taken = taken (letters_of form ++ behind);
   header = λ body. record {
@@ -73,11 +74,13 @@ header_as form old new bytes width height' rest taken h = record {
   behind = h.header.gap ++ (h.header.first ++ (h.header.between ++ (h.header.second ++ h.header.space)))
 
 -- where the bytes aren't known they may have been the header that would be written
-pub takes_header : (old new : Option (List ℕ)) (size : Size) (form : Form) → WrittenIsRead → size.height ≤ 4294967295 → LeavesRest old new (λ bytes rest. HasHeader bytes form size.width size.height rest) → TakesHeader old new form size.width size.height
-takes_header None new size form law fits leaves =
-    header_as form None new (header_text size.width size.height ++ []) size.width size.height [] (λ front. tt) (law size.width size.height [] size.some_width size.not_too_wide size.some_height fits)
-takes_header (Some bytes) None size form law fits leaves = absurd leaves
-takes_header (Some bytes) (Some rest) size form law fits leaves = record {
+pub takes_header : {old new : Option (List ℕ)} {form : Form} (size : Size) → WrittenIsRead → size.height ≤ 4294967295 →
+    LeavesRest old new (λ bytes rest. HasHeader bytes form size.width size.height rest) →
+    TakesHeader old new form size.width size.height
+takes_header {old = None} size law fits leaves =
+    header_as (λ front. tt) (law size.width size.height [] size.some_width size.not_too_wide size.some_height fits)
+takes_header {old = (Some bytes)} {new = None} size law fits leaves = absurd leaves
+takes_header {old = (Some bytes)} {new = (Some rest)} size law fits leaves = record {
   front = leaves.front;
   taken = leaves.bytes_are;
   header = λ body. record {
@@ -93,7 +96,8 @@ takes_header (Some bytes) (Some rest) size form law fits leaves = record {
 
 module _ (s : Settings) (in_old in_new : Option (List ℕ)) (reads_old reads_new : ℕ) (out : Option (List ℕ)) (writes : ℕ) (flushed : Bool) where
   -- the header was refused
-  pub refused_header : (fault : PbmFault) → (fault ≢ pbm.Read → IfSome in_old (λ bytes. HasFault bytes fault)) → (given : List ℕ) → Consumes in_old in_new given → HeaderFault given (fault_of_given fault) → CountsPbm {T = Size × Form} reads_old reads_new (Err fault) →
+  pub refused_header : (fault : PbmFault) → (fault ≢ pbm.Read → IfSome in_old (λ bytes. HasFault bytes fault)) → (given : List ℕ) → Consumes in_old in_new given →
+      HeaderFault given (fault_of_given fault) → CountsPbm {T = Size × Form} reads_old reads_new (Err fault) →
       ToJbg s (between in_old in_new reads_old reads_new) (between out out writes writes) flushed (Err (Pbm fault))
   refused_header fault has given taken shows counted = record {
     whole = tt;
@@ -105,7 +109,7 @@ module _ (s : Settings) (in_old in_new : Option (List ℕ)) (reads_old reads_new
     unread = λ is. (let same : fault ≡ pbm.Read = cc in (given, taken, inl (subst (λ x. HeaderFault given (fault_of_given x)) same shows, Keeps-same out)));
     cut = λ e. absurd (let bot : ⊥ = cc in bot);
     among = λ _ _ _. (fault, refl);
-    reads = counts_any reads_old reads_new (Pbm fault) (counts_told reads_old reads_new fault counted);
+    reads = counts_any reads_old reads_new (Pbm fault) (counts_told reads_old fault counted);
     writes = omega arith;
   } where
     refused : (old : Option (List ℕ)) (other : PbmFault) → IfSome old (λ bytes. HasFault bytes other) → IfSome old (λ bytes. RefusesPbm s bytes other out out)
@@ -114,7 +118,7 @@ module _ (s : Settings) (in_old in_new : Option (List ℕ)) (reads_old reads_new
 
   module _ (form : Form) (width height' : ℕ) (t : TakesHeader in_old in_new form width height') where
     size_alone : (low : Bool) → is_low s height' ≡ low → (given : List ℕ) × Consumes in_old in_new given × HasSize s low given
-    size_alone low is = (t.front, t.taken, record { layout = layout_of form width height'; header = subst (λ z. HasHeader z form width height' []) (append-nil t.front) (t.header []); low_is = is })
+    size_alone low is = (t.front, t.taken, record { layout = layout_of form width height'; header = rw (← append-nil t.front) (t.header []); low_is = is })
 
     -- the announced height is too low
     pub too_low : is_low s height' ≡ true → reads_new ≡ reads_old → ToJbg s (between in_old in_new reads_old reads_new) (between out out writes writes) flushed (Err AnnouncedLow)
@@ -128,7 +132,7 @@ module _ (s : Settings) (in_old in_new : Option (List ℕ)) (reads_old reads_new
       unread = λ e. absurd (let bot : ⊥ = cc in bot);
       cut = λ e. absurd (let bot : ⊥ = cc in bot);
       among = λ n _ _. absurd (n refl);
-      reads = omega (arith, counted);
+      reads = omega arith;
       writes = omega arith;
     }
 
@@ -144,6 +148,6 @@ module _ (s : Settings) (in_old in_new : Option (List ℕ)) (reads_old reads_new
       unread = λ e. absurd (let bot : ⊥ = cc in bot);
       cut = λ e. absurd (let bot : ⊥ = cc in bot);
       among = λ _ n _. absurd (n refl);
-      reads = omega (arith, counted);
+      reads = omega arith;
       writes = omega arith;
     }

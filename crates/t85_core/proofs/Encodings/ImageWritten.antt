@@ -3,7 +3,6 @@ use Rattle.std.proofs.Common.{◌≡◌, inl, inr, ℕ, Bool, true, false, ap, L
 use Rattle.std.specs.Io.KnownBytes.{Consumes, Keeps}
 use Rattle.pbm_core.specs.Device.{one_more}
 use Rattle.t85_core.specs.Change.{between}
-use Rattle.pbm_core.specs.Outcome.{HasHeader}
 use Rattle.pbm_core.specs.declared.fault.PbmFault.{PbmFault}
 use Rattle.pbm_core.specs.declared.fault.PbmFault.TheVariants as pbm
 use Rattle.pbm_core.specs.declared.form.Form.{Form}
@@ -12,17 +11,16 @@ use Rattle.t85_core.specs.declared.fault.Fault.TheVariants.{Write, OutOfMemory}
 use Rattle.t85_core.specs.Encode.{raster_of, IsEncodeFault, WritesCode, WritesCodeBegun, WritesCodeFront, AreAllRows, Encode, layout_of}
 use Rattle.t85_core.specs.ToJbg.{IsImage, WritesStreamFront, WritesStream, WritesStreamBegun, RefusesPbm, ToJbg}
 use Rattle.t85_core.specs.Jbg.{Settings, is_low, jbg}
-use Rattle.t85_core.specs.Failures.{CountsBoth}
 use Rattle.t85_core.proofs.Encodings.ImageEncoded.{TakesHeader, among_faults, not_no_memory}
 use Rattle.t85_core.proofs.Bytes.Held.{Keeps-same}
 use Rattle.t85_core.proofs.Bytes.Streams.{Appends-keeps, Consumes-more, known_behind}
 
-module _ (s : Settings) (in_old mid in_new : Option (List ℕ)) (reads_old reads_mid reads_new : ℕ) (out_old out_new : Option (List ℕ)) (writes_old writes_new : ℕ)
-    (form : Form) (width height' : ℕ) (t : TakesHeader in_old mid form width height') (counted : reads_mid ≡ reads_old) where
+module _ {in_old mid : Option (List ℕ)} {reads_old reads_mid width height' : ℕ} {form : Form} (s : Settings) (in_new : Option (List ℕ)) (reads_new : ℕ) (out_old out_new : Option (List ℕ))
+    (writes_old writes_new : ℕ) (t : TakesHeader in_old mid form width height') (counted : reads_mid ≡ reads_old) where
   -- a write failed, or the flush after all that was written
-  cut_at : is_low s height' ≡ false → (out_last : Option (List ℕ)) → Keeps out_new out_last → (given : List ℕ) → Consumes mid in_new given → WritesCodeFront s (layout_of form width height') given out_old out_new →
-      (all : List ℕ) × Consumes in_old in_new all × WritesStreamFront s all out_old out_last
-  cut_at fits out_last keeps given taken w = (
+  cut_at : {given : List ℕ} {out_last : Option (List ℕ)} → is_low s height' ≡ false → Keeps out_new out_last → Consumes mid in_new given →
+      WritesCodeFront s (layout_of form width height') given out_old out_new → (all : List ℕ) × Consumes in_old in_new all × WritesStreamFront s all out_old out_last
+  cut_at {given} {out_last} fits keeps taken w = (
     t.front ++ given,
     Consumes-more in_old mid in_new t.front given t.taken taken,
     record {
@@ -30,13 +28,24 @@ module _ (s : Settings) (in_old mid in_new : Option (List ℕ)) (reads_old reads
       body = given;
       header = t.header given;
       fits = fits;
-      writes = record { rows = w.rows; rest = w.rest; holds = w.holds; few = w.few; fault = w.fault; part = w.part; text = w.text; begins = w.begins; appends = Appends-keeps out_old out_new out_last w.text w.appends keeps };
+      writes = record {
+        rows = w.rows;
+        rest = w.rest;
+        holds = w.holds;
+        few = w.few;
+        fault = w.fault;
+        part = w.part;
+        text = w.text;
+        begins = w.begins;
+        appends = Appends-keeps out_old out_new out_last w.text w.appends keeps;
+      };
     },
   )
 
-  pub image_unflushed : (flushed : Bool) (out_last : Option (List ℕ)) (writes_last : ℕ) → Encode s (layout_of form width height') (between mid in_new reads_mid reads_new) (between out_old out_new writes_old writes_new) (Ok tt) → Keeps out_new out_last → writes_last ≡ one_more writes_new →
-      ToJbg s (between in_old in_new reads_old reads_new) (between out_old out_last writes_old writes_last) flushed (Err Write)
-  image_unflushed flushed out_last writes_last e keeps more = record {
+  pub image_unflushed : {writes_last : ℕ} {flushed : Bool} (out_last : Option (List ℕ)) →
+      Encode s (layout_of form width height') (between mid in_new reads_mid reads_new) (between out_old out_new writes_old writes_new) (Ok tt) → Keeps out_new out_last →
+      writes_last ≡ one_more writes_new → ToJbg s (between in_old in_new reads_old reads_new) (between out_old out_last writes_old writes_last) flushed (Err Write)
+  image_unflushed out_last e keeps more = record {
     whole = tt;
     taken = tt;
     flushed_last = tt;
@@ -44,31 +53,33 @@ module _ (s : Settings) (in_old mid in_new : Option (List ℕ)) (reads_old reads
     low = λ is. absurd (let bot : ⊥ = cc in bot);
     no_memory = λ is. absurd (let bot : ⊥ = cc in bot);
     unread = λ is. absurd (let bot : ⊥ = cc in bot);
-    cut = λ _. cut_at e.not_low out_last keeps e.front.0 e.front.1 e.front.2;
+    cut = λ _. cut_at e.not_low keeps e.front.1 e.front.2;
     among = λ _ _ n. absurd (n refl);
     reads = inl (e.reads ∙ counted);
-    writes = more ∙ ap one_more e.writes;
+    writes = rw (more, e.writes);
   }
 
   -- rows are missing, or a device failed
-  pub image_broken : is_low s height' ≡ false → (flushed : Bool) (f : Fault) → Encode s (layout_of form width height') (between mid in_new reads_mid reads_new) (between out_old out_new writes_old writes_new) (Err f) →
+  pub image_broken : {f : Fault} {flushed : Bool} → is_low s height' ≡ false →
+      Encode s (layout_of form width height') (between mid in_new reads_mid reads_new) (between out_old out_new writes_old writes_new) (Err f) →
       ToJbg s (between in_old in_new reads_old reads_new) (between out_old out_new writes_old writes_new) flushed (Err f)
-  image_broken fits flushed f e = record {
+  image_broken {f} fits e = record {
     whole = tt;
     taken = tt;
     flushed_last = tt;
     refused = λ fault read is.
-        known_behind (λ bytes. RefusesPbm s bytes fault out_old out_new) (λ body. WritesCodeBegun s (layout_of form width height') body fault out_old out_new) in_old mid t.front t.taken (e.short fault read is) (λ body w. inr (some fault body w));
+        known_behind (λ bytes. RefusesPbm s bytes fault out_old out_new) (λ body. WritesCodeBegun s (layout_of form width height') body fault out_old out_new) in_old mid t.front t.taken
+        (e.short fault read is) (λ body w. inr (some fault body w));
     low = λ is. absurd (not_low_told (e.low is).0);
     no_memory = λ is. absurd (not_no_memory (subst IsEncodeFault (let same : f ≡ OutOfMemory = cc in same) may));
     unread = λ is. (let u = e.unread is in (t.front ++ u.0, Consumes-more in_old mid in_new t.front u.0 t.taken u.1, inr (some pbm.Truncated u.0 u.2)));
-    cut = λ _. cut_at fits out_new (Keeps-same out_new) e.front.0 e.front.1 e.front.2;
-    among = λ _. among_faults f may;
-    reads = subst (λ n. CountsBoth n reads_new (Err f)) counted e.reads;
+    cut = λ _. cut_at fits (Keeps-same out_new) e.front.1 e.front.2;
+    among = λ _. among_faults may;
+    reads = rw (← counted) e.reads;
     writes = e.writes;
   } where
     not_low_told : is_low s height' ≡ true → ⊥
-    not_low_told is = let both : true ≡ false = sym is ∙ fits in let bot : ⊥ = cc in bot
+    not_low_told is = let both = sym is ∙ fits in let bot : ⊥ = cc in bot
 
     may : IsEncodeFault f
     may = e.among (λ is. not_low_told (e.low (ap Err is)).0)
@@ -77,9 +88,10 @@ module _ (s : Settings) (in_old mid in_new : Option (List ℕ)) (reads_old reads
     some fault body w = record { layout = layout_of form width height'; body = body; header = t.header body; fits = fits; writes = w }
 
   -- the stream was written, and flushed
-  pub image_whole : (flushed : Bool) (out_last : Option (List ℕ)) (writes_last : ℕ) → Encode s (layout_of form width height') (between mid in_new reads_mid reads_new) (between out_old out_new writes_old writes_new) (Ok tt) → Keeps out_new out_last → flushed ≡ true → writes_last ≡ writes_new →
-      ToJbg s (between in_old in_new reads_old reads_new) (between out_old out_last writes_old writes_last) flushed (Ok tt)
-  image_whole flushed out_last writes_last e keeps last same = record {
+  pub image_whole : {flushed : Bool} {writes_last : ℕ} (out_last : Option (List ℕ)) →
+      Encode s (layout_of form width height') (between mid in_new reads_mid reads_new) (between out_old out_new writes_old writes_new) (Ok tt) → Keeps out_new out_last → flushed ≡ true →
+      writes_last ≡ writes_new → ToJbg s (between in_old in_new reads_old reads_new) (between out_old out_last writes_old writes_last) flushed (Ok tt)
+  image_whole out_last e keeps last same = record {
     whole = known_behind (λ bytes. WritesStream s bytes out_old out_last) (λ body. WritesCode s (layout_of form width height') body out_old out_new) in_old mid t.front t.taken e.whole whole;
     taken = (t.front ++ e.taken.0, Consumes-more in_old mid in_new t.front e.taken.0 t.taken e.taken.1, image e.taken.0 e.taken.2);
     flushed_last = last;
@@ -99,7 +111,7 @@ module _ (s : Settings) (in_old mid in_new : Option (List ℕ)) (reads_old reads
       is = record {
         form = form;
         body = given;
-        header = subst (λ n. HasHeader (t.front ++ given) form width n given) (sym all.many) (t.header given);
+        header = rw all.many (t.header given);
         holds = record { front = given; bytes_are = sym (append-nil given); are_rows = all.are_rows };
       };
     }
@@ -111,7 +123,7 @@ module _ (s : Settings) (in_old mid in_new : Option (List ℕ)) (reads_old reads
       is = record {
         form = form;
         body = body;
-        header = subst (λ n. HasHeader (t.front ++ body) form width n body) (sym w.many) (t.header body);
+        header = rw w.many (t.header body);
         holds = w.holds;
       };
       proper = w.denotes.denotes.proper;

@@ -1,5 +1,5 @@
 -- An image that is read by a buffer, and what its reader then has left.
-use Rattle.std.proofs.Common.{◌≡◌, ◌⊎◌, inl, inr, ℕ, Bool, List, [], Option, Result, sym, ap, ◌∙◌, subst}
+use Rattle.std.proofs.Common.{◌≡◌, ◌⊎◌, inl, inr, ℕ, Bool, List, [], Option, Result, sym, ap, ◌∙◌}
 use Rattle.std.specs.Io.KnownBytes.{prepend_known}
 use Rattle.t85_core.specs.declared.fault.Fault.{Fault}
 use Rattle.t85_core.specs.Change.{Change, between}
@@ -7,15 +7,14 @@ use Rattle.t85_core.specs.Jbg.{Settings}
 use Rattle.t85_core.specs.ToJbg.{ToJbg, ToJbgAhead}
 
 -- the reader before its loan, and at the loan's end
-pub read_ahead : {R : Type 0} (remaining : R → Option (List ℕ)) (failures : R → ℕ) (s : Settings) (output : Change) (flushed : Bool) (held : List ℕ) (start reader reader' : R) (known : Option (List ℕ)) (count : ℕ) (r : Result (Unit {0}) Fault)
-    → known ≡ remaining start → count ≡ failures start → reader ≡ reader' → (failures reader ≡ count) ⊎ (held ≡ [])
-    → ToJbg s (between known (prepend_known held (remaining reader)) count (failures reader)) output flushed r
-    → ToJbgAhead s (between (remaining start) (remaining reader') (failures start) (failures reader')) output flushed r
-read_ahead {R} remaining failures s output flushed held start reader reader' known count r same_known same_count same drained leaves = record {
+pub read_ahead : {R : Type 0} {s : Settings} {output : Change} {flushed : Bool} {reader reader' : R} {known : Option (List ℕ)} {count : ℕ} {r : Result (Unit {0}) Fault} (remaining : R →
+    Option (List ℕ))
+    (failures : R → ℕ) (held : List ℕ) (start : R) → known ≡ remaining start → count ≡ failures start → reader ≡ reader' → (failures reader ≡ count) ⊎ (held ≡ []) →
+    ToJbg s (between known (prepend_known held (remaining reader)) count (failures reader)) output flushed r →
+    ToJbgAhead s (between (remaining start) (remaining reader') (failures start) (failures reader')) output flushed r
+read_ahead {R} {s} {output} {flushed} {reader} {reader'} {known} {count} {r} remaining failures held start same_known same_count same drained leaves = record {
   ahead = held;
-  leaves = subst (λ x. ToJbg s (between (remaining start) (prepend_known held (remaining x)) (failures start) (failures x)) output flushed r) same
-      (subst (λ z. ToJbg s (between z (prepend_known held (remaining reader)) (failures start) (failures reader)) output flushed r) same_known
-      (subst (λ z. ToJbg s (between known (prepend_known held (remaining reader)) z (failures reader)) output flushed r) same_count leaves));
+  leaves = rw (← same, ← same_known, ← same_count) leaves;
   none_unread = went drained;
 } where
   went : (failures reader ≡ count) ⊎ (held ≡ []) → (failures reader' ≡ failures start) ⊎ (held ≡ [])

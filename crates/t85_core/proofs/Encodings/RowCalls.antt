@@ -1,5 +1,5 @@
 -- The calls of a row encoder, which hold nothing back.
-use Rattle.std.proofs.Common.{◌≡◌, ◌≤◌, ◌<◌, ◌*◌, inl, inr, ℕ, Bool, List, ◌++◌, sym, ap, ◌∙◌, subst, append_assoc, Option}
+use Rattle.std.proofs.Common.{◌≡◌, ◌≤◌, ◌<◌, ◌*◌, inl, inr, ℕ, Bool, List, ◌++◌, ap, ◌∙◌, append_assoc, Option}
 use Rattle.std.specs.Io.KnownBytes.{Keeps, append_known}
 use Rattle.raster_core.specs.Packed.{Held}
 use Rattle.t85_core.specs.Steps.Buffers.{known_length}
@@ -38,10 +38,10 @@ module _ (image : Image) (rows : List (List Bool)) (v : RowView) (window : Held)
   sends_of (inr r) = r.0.sent
 
   -- where they went elsewhere
-  resent : (origin' : Origin) (text' : Option (List ℕ)) (so : Stands image rows v window origin text) → Sends origin' text' (bytes_of so) → Stands image rows v window origin' text'
+  resent : {origin' : Origin} {text' : Option (List ℕ)} (so : Stands image rows v window origin text) → Sends origin' text' (bytes_of so) → Stands image rows v window origin' text'
   unfolding bytes_of
-  resent origin' text' (inl w) sent = inl (waits_at w w.on_course sent)
-  resent origin' text' (inr (r, some, few)) sent = inr (
+  resent (inl w) sent = inl (waits_at w w.on_course sent)
+  resent (inr (r, some, few)) sent = inr (
     record {
       plan_is = r.plan_is;
       come = r.come;
@@ -67,30 +67,32 @@ module _ (image : Image) (rows : List (List Bool)) (v : RowView) (window : Held)
 
   -- what was held back was written
   pub stands_kept : (text' : Option (List ℕ)) → Keeps text text' → Stands image rows v window origin text → Stands image rows v window origin text'
-  stands_kept text' k so = resent origin text' so (Sends-keeps origin text text' (bytes_of so) (sends_of so) k)
+  stands_kept text' k so = resent so (Sends-keeps (sends_of so) k)
 
   -- no byte was taken away
   pub stands_grown : Stands image rows v window origin text → known_length origin.text ≤ known_length text
-  stands_grown so = sends_grows origin text (bytes_of so) (sends_of so)
+  stands_grown so = sends_grows (sends_of so)
 
   -- the state also holds behind the bytes sent
-  pub stands_elsewhere : Stands image rows v window origin text → (bytes : List ℕ) × Sends origin text bytes × ((text' : Option (List ℕ)) → Stands image rows v window (behind bytes text') text')
-  stands_elsewhere so = (bytes_of so, sends_of so, λ text'. resent (behind (bytes_of so) text') text' so (sent_behind (bytes_of so) text' (appends_none text')))
+  pub stands_elsewhere : Stands image rows v window origin text → (bytes : List ℕ) × Sends origin text bytes
+      × ((text' : Option (List ℕ)) → Stands image rows v window (behind bytes text') text')
+  stands_elsewhere so = (bytes_of so, sends_of so, λ text'. resent so (sent_behind (bytes_of so) (appends_none text')))
 
 module _ (image : Image) (rows : List (List Bool)) (origin : Origin) (mid text' : Option (List ℕ)) where
   pub front_cut : Keeps mid text' → StreamFront image rows origin mid → StreamCut image rows origin text'
-  front_cut k f = record { bytes = f.bytes; sent = Sends-keeps origin mid text' f.bytes f.sent k; begins = λ raster b. (f.begun raster b).begins }
+  front_cut k f = record { bytes = f.bytes; sent = Sends-keeps f.sent k; begins = λ raster b. (f.begun raster b).begins }
 
 module _ (image : Image) (rows : List (List Bool)) (v : RowView) (old new : Held) (origin : Origin) (text : Option (List ℕ)) (stays : IsLined old → new ≡ old) where
   -- the padding of a window that has lines is 0
   pub stands_cleared : Stands image rows v old origin text → Stands image rows v new origin text
-  stands_cleared (inl w) = inl (waits_at w (λ within. (let on = w.on_course within in subst (IsStart image.settings image.width w.at v) (sym (stays (_, on.is_held.lines_are))) on)) w.sent)
-  stands_cleared (inr r) = subst (λ z. Stands image rows v z origin text) (sym (stays (_, r.0.running.is_held.lines_are))) (inr r)
+  stands_cleared (inl w) = inl (waits_at w (λ within. (let on = w.on_course within in rw (stays (_, on.is_held.lines_are)) on)) w.sent)
+  stands_cleared (inr r) = rw (stays (_, r.0.running.is_held.lines_are)) (inr r)
 
 -- what was written of a beginning is a beginning
-pub cut_written : (image : Image) (rows : List (List Bool)) (origin : Origin) (out : Option (List ℕ)) (held : List ℕ) → known_length origin.text ≤ known_length out → StreamCut image rows origin (append_known out held) → StreamCut image rows origin out
-cut_written image rows origin out held grows c =
-    let p = sends_handed origin out held c.bytes grows c.sent in
+pub cut_written : {image : Image} {rows : List (List Bool)} {origin : Origin} {out : Option (List ℕ)} (held : List ℕ) → known_length origin.text ≤ known_length out →
+    StreamCut image rows origin (append_known out held) → StreamCut image rows origin out
+cut_written held grows c =
+    let p = sends_handed held grows c.sent in
     record {
       bytes = p.front;
       sent = p.sends;
@@ -98,5 +100,5 @@ cut_written image rows origin out held grows c =
     }
 
 -- the same output
-pub moved : {W : Type 0} (contents : W → Option (List ℕ)) (P : Option (List ℕ) → Type 0) (o o' : W) → o ≡ o' → P (contents o) → P (contents o')
-moved contents P o o' same p = subst (λ x. P (contents x)) same p
+pub moved : {W : Type 0} {o o' : W} (contents : W → Option (List ℕ)) (P : Option (List ℕ) → Type 0) → o ≡ o' → P (contents o) → P (contents o')
+moved contents P same p = rw (← same) p

@@ -1,5 +1,5 @@
 -- A row that is given in bytes.
-use Rattle.std.proofs.Common.{◌≡◌, ◌≤◌, ◌+◌, ◌-◌, ◌*◌, ◌<◌, ◌%◌, ◌^◌, ◌/◌, ℕ, zero, suc, List, ◌∷◌, length, map, refl, sym, ap, ◌∙◌, subst, arith, slice_index, slice_set, get_or-set_same, length-set}
+use Rattle.std.proofs.Common.{◌≡◌, ◌≤◌, ◌+◌, ◌-◌, ◌*◌, ◌<◌, ◌%◌, ◌^◌, ◌/◌, ℕ, zero, suc, List, length, map, refl, sym, ap, ◌∙◌, subst, arith, slice_index, slice_set, get_or-set_same, length-set}
 use Rattle.std.specs.Prelude.{◌==◌}
 use Rattle.std.proofs.Math.Nat.{mul-mod_right}
 use Rattle.std.proofs.lemmas.Nat.{pow_pos, one_shl}
@@ -22,40 +22,43 @@ bytes_some width some = grind arith
 pub masked_is : (width : ℕ) (bytes : List ℕ) → 1 ≤ width → length bytes ≡ bytes_of_row width → IsMasked width (masked_row width bytes)
 masked_is width bytes some whole =
     let last : ℕ = bytes_of_row width - 1 in
-    let within : last < length bytes = omega (arith, bytes_some width some, whole) in
+    let within : last < length bytes = omega (arith, bytes_some width some) in
     ap (λ b. b % 2 ^ padding_of width) (get_or-set_same bytes last _ 0 within) ∙ multiple (slice_index bytes last) (2 ^ padding_of width) (pow_pos (padding_of width))
 
 -- the row where the place and the power are what a program computes
-pub masked_same : (width n : ℕ) (bytes : List ℕ) → n ≡ bytes_of_row width
-    → slice_set bytes (n - 1) (slice_index bytes (n - 1) - slice_index bytes (n - 1) % ((1 * 2 ^ (n * 8 - width)) % 256)) ≡ masked_row width bytes
-masked_same width n bytes counted =
-    let bits : n * 8 - width ≡ padding_of width = omega (arith, counted) in
+pub masked_same : {n : ℕ} (width : ℕ) (bytes : List ℕ) → n ≡ bytes_of_row width →
+    slice_set bytes (n - 1) (slice_index bytes (n - 1) - slice_index bytes (n - 1) % ((1 * 2 ^ (n * 8 - width)) % 256)) ≡ masked_row width bytes
+masked_same {n} width bytes counted =
+    let bits : n * 8 - width ≡ padding_of width = omega arith in
     let small : padding_of width < 8 = grind arith in
-    let power : (1 * 2 ^ (n * 8 - width)) % 256 ≡ 2 ^ padding_of width = ap (λ k. (1 * 2 ^ k) % 256) bits ∙ one_shl (padding_of width) 8 small in
+    let power : (1 * 2 ^ (n * 8 - width)) % 256 ≡ 2 ^ padding_of width = rw bits (one_shl (padding_of width) 8 small) in
     let at : (m : ℕ) → ℕ → List ℕ = λ (m : ℕ) (p : ℕ). slice_set bytes (m - 1) (slice_index bytes (m - 1) - slice_index bytes (m - 1) % p) in
     ap (λ (p : ℕ). at n p) power ∙ ap (λ (m : ℕ). at m (2 ^ padding_of width)) counted
 
 -- two functions that agree on numbers
 same_map : {X : Type 0} (f h : ℕ → X) (k n : ℕ) → ((x : ℕ) → x < k + n → f x ≡ h x) → map f (pbm.numbers_from k n) ≡ map h (pbm.numbers_from k n)
 same_map f h k zero same = refl
-same_map f h k (suc n) same = ap (λ x. x ∷ map f (pbm.numbers_from (k + 1) n)) (same k (omega arith)) ∙ ap (λ xs. h k ∷ xs) (same_map f h (k + 1) n (λ x lt. same x (omega (arith, lt))))
+same_map f h k (suc n) same = rw (same k (omega arith), same_map f h (k + 1) n (λ x lt. same x (omega arith)))
 
 -- a row down in the window, with these pixels
-pub row_below : (width : ℕ) (bytes : List ℕ) (old mid : Held) (row : List ℕ) → 1 ≤ width → length bytes ≡ bytes_of_row width → MaskKeepsPixels → MaskedIsPacked → row ≡ masked_row width bytes → ((k : ℕ) → slice_index row k < 256)
-    → mid ≡ turned old → old.width ≡ width → IsBelow (pixels_of width bytes) old (record { width = mid.width; current = row; above = mid.above; second = mid.second })
-row_below width bytes old mid row some whole keeps packed row_is small mid_is wide = λ lines has. record {
+pub row_below : {width : ℕ} {mid : Held} {row : List ℕ} (bytes : List ℕ) (old : Held) → 1 ≤ width → length bytes ≡ bytes_of_row width → MaskKeepsPixels → MaskedIsPacked →
+    row ≡ masked_row width bytes →
+    ((k : ℕ) → slice_index row k < 256) → mid ≡ turned old → old.width ≡ width →
+    IsBelow (pixels_of width bytes) old (record { width = mid.width; current = row; above = mid.above; second = mid.second })
+row_below {width} {row} bytes old some whole keeps packed row_is small mid_is wide = λ lines has. record {
   row_is = packed_is ∙ same_row (pixels_of width bytes);
   above_is = ap (λ h. h.above) mid_is ∙ has.row_is;
   second_is = ap (λ h. h.second) mid_is ∙ has.above_is;
-  row_wide = pixels_many width bytes ∙ sym wide ∙ sym (ap (λ h. h.width) mid_is);
+  row_wide = pixels_many bytes ∙ sym wide ∙ sym (ap (λ h. h.width) mid_is);
   above_wide = has.row_wide ∙ sym (ap (λ h. h.width) mid_is);
   second_wide = has.above_wide ∙ sym (ap (λ h. h.width) mid_is);
 } where
   same_pixels : pixels_of width (masked_row width bytes) ≡ pixels_of width bytes
-  same_pixels = same_map (λ x. pixel (masked_row width bytes) x == 1) (λ x. pixel bytes x == 1) 0 width (λ x lt. ap (λ b. b == 1) (keeps width bytes x whole (omega (arith, lt))))
+  same_pixels = same_map (λ x. pixel (masked_row width bytes) x == 1) (λ x. pixel bytes x == 1) 0 width (λ x lt. ap (λ b. b == 1) (keeps width bytes x whole (omega arith)))
 
   packed_is : row ≡ pbm.packed_row (pixels_of width bytes)
   packed_is =
       row_is
-      ∙ sym (packed width (masked_row width bytes) (length-set bytes (bytes_of_row width - 1) _ ∙ whole) (masked_is width bytes some whole) (subst (λ r. (k : ℕ) → slice_index r k < 256) row_is small))
+      ∙ sym (packed width (masked_row width bytes) (length-set bytes (bytes_of_row width - 1) _ ∙ whole) (masked_is width bytes some whole)
+      (subst (λ r. (k : ℕ) → slice_index r k < 256) row_is small))
       ∙ ap pbm.packed_row same_pixels

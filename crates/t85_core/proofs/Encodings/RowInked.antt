@@ -1,10 +1,10 @@
 -- The bytes of a row, and of the end of a code, that a target accepted.
-use Rattle.std.proofs.Common.{◌≡◌, ℕ, List, ◌++◌, refl, sym, ap, ◌∙◌, subst, Option, Result, Ok, Err, arith, append_assoc}
+use Rattle.std.proofs.Common.{◌≡◌, ℕ, List, refl, ◌∙◌, Option, Result, Ok, Err, arith, append_assoc}
 use Rattle.std.specs.Prelude.{IfErr, OnErr, OnOk}
 use Rattle.std.specs.Io.KnownBytes.{Appends}
 use Rattle.qm_core.specs.Counts.{one_more}
-use Rattle.qm_core.specs.Place.{Place, State, Estimate, after}
-use Rattle.qm_core.specs.Encoder.{IsStuffedFront, Finish, encoder_state}
+use Rattle.qm_core.specs.Place.{Place, State, Estimate}
+use Rattle.qm_core.specs.Encoder.{Finish, encoder_state}
 use Rattle.qm_core.specs.Sink.{Took, Refused, sink_at}
 use Rattle.qm_core.specs.declared.encoder.Encoder.{Encoder}
 use Rattle.qm_core.specs.declared.sink.CodeSink.{Ghosts}
@@ -39,33 +39,34 @@ module _ {S : Type 0} (view : S → SinkView) (failed : S → ℕ) (from to : S)
   abbrev pushes : Ghosts S
   pushes = record { took = takes; refused = refuses; failed = failed }
 
-  refused_stays : (bytes : List ℕ) → Refused takes refuses from bytes to → SameSink (view from) (view to)
-  refused_stays bytes r =
+  refused_stays : {bytes : List ℕ} → Refused takes refuses from bytes to → SameSink (view from) (view to)
+  refused_stays r =
       let front = (took_inked view from r.last r.done r.taken).0 in
       let last = r.then.0 in
-      record { same_buffer = last.same_buffer ∙ front.same_buffer; same_writer = last.same_writer ∙ front.same_writer; grows = (let a = front.grows in let b = last.grows in omega (arith, a, b)) }
+      record { same_buffer = last.same_buffer ∙ front.same_buffer; same_writer = last.same_writer ∙ front.same_writer; grows = (let a = front.grows in let b = last.grows in omega arith) }
 
   -- it is the same target
-  pub row_stays : (shape : Shape) (kept kept' : Kept) (s : State) (pushed : List ℕ) (lines : Lines) (e : Encoder) (learned : List Estimate) (answer : Result (Unit {0}) CoderFault)
-      → RowEncoded (sink_at pushes from pushed) (row_task shape kept s lines) kept' (encoder_state to e learned) answer → SameSink (view from) (view to)
-  row_stays shape kept kept' s pushed lines e learned (Ok u) r = (took_inked view from to r.ok.encodes.more r.ok.encodes.taken).0
-  row_stays shape kept kept' s pushed lines e learned (Err f) r = refused_stays r.err.fails.more r.err.fails.cut
+  pub row_stays : {kept' : Kept} {answer : Result (Unit {0}) CoderFault} (shape : Shape) (kept : Kept) (s : State) (pushed : List ℕ) (lines : Lines) (e : Encoder) (learned : List Estimate) →
+      RowEncoded (sink_at pushes from pushed) (row_task shape kept s lines) kept' (encoder_state to e learned) answer → SameSink (view from) (view to)
+  row_stays {answer = (Ok u)} shape kept s pushed lines e learned r = (took_inked view from to r.ok.encodes.more r.ok.encodes.taken).0
+  row_stays {answer = (Err f)} shape kept s pushed lines e learned r = refused_stays r.err.fails.cut
 
-  pub end_stays : (p : Place) (pushed : List ℕ) (answer : Result (Unit {0}) CoderFault) → Finish (sink_at pushes from pushed) p to answer → SameSink (view from) (view to)
-  end_stays p pushed (Ok u) r = (took_inked view from to r.more r.writes.ok).0
-  end_stays p pushed (Err f) r = refused_stays r.more r.writes.err
+  pub end_stays : {p : Place} {answer : Result (Unit {0}) CoderFault} (pushed : List ℕ) → Finish (sink_at pushes from pushed) p to answer → SameSink (view from) (view to)
+  end_stays {answer = (Ok u)} pushed r = (took_inked view from to r.more r.writes.ok).0
+  end_stays {answer = (Err f)} pushed r = refused_stays r.writes.err
 
   module _ (text text' : Option (List ℕ)) (text_is : (view from).text ≡ text) (text_is' : (view to).text ≡ text') where
     taken : (bytes : List ℕ) → Took takes from bytes to → Appends text text' bytes
-    taken bytes took = subst (λ z. Appends z text' bytes) text_is (subst (λ z. Appends (view from).text z bytes) text_is' (took_inked view from to bytes took).1)
+    taken bytes took = rw (← text_is, ← text_is') (took_inked view from to bytes took).1
 
     cut : (bytes : List ℕ) (r : Refused takes refuses from bytes to) → Appends text text' r.done
     cut bytes r =
         let kept = Appends-keeps (view from).text (view r.last).text (view to).text r.done (took_inked view from r.last r.done r.taken).1 r.then.1 in
-        subst (λ z. Appends z text' r.done) text_is (subst (λ z. Appends (view from).text z r.done) text_is' kept)
+        rw (← text_is, ← text_is') kept
 
     pub row_inked : (shape : Shape) (kept kept' : Kept) (s : State) (pushed : List ℕ) (lines : Lines) (e : Encoder) (learned : List Estimate) (answer : Result (Unit {0}) CoderFault)
-        → RowEncoded (sink_at pushes from pushed) (row_task shape kept s lines) kept' (encoder_state to e learned) answer → RowOutcome (row_task shape kept s lines) pushed kept' text (encoder_state text' e learned) (sent_as answer)
+        → RowEncoded (sink_at pushes from pushed) (row_task shape kept s lines) kept' (encoder_state to e learned) answer →
+        RowOutcome (row_task shape kept s lines) pushed kept' text (encoder_state text' e learned) (sent_as answer)
     row_inked shape kept kept' s pushed lines e learned (Ok u) r = record {
       ok = record {
         more = r.ok.encodes.more;
@@ -86,7 +87,7 @@ module _ {S : Type 0} (view : S → SinkView) (failed : S → ℕ) (from to : S)
         done = c.done;
         left = c.left;
         appended = cut r.err.fails.more c;
-        begins = subst (λ z. IsStuffedFront z (after s r.err.events).place) (ap (λ z. pushed ++ z) c.all ∙ sym (append_assoc pushed c.done c.left)) r.err.fails.begins;
+        begins = rw (append_assoc, ← c.all) r.err.fails.begins;
       });
     }
 

@@ -6,17 +6,17 @@ use Rattle.t85_core.specs.Steps.EncodeRows.{IsShape}
 use Rattle.t85_core.specs.Steps.ByRow.{RowPlan, RowView, IsPlan}
 use Rattle.t85_core.specs.RowImage.{Image}
 
-one_shape : (s : Settings) (width : ℕ) (a b : Shape) → IsShape s width a → IsShape s width b → a ≡ b
-one_shape s width a b p q =
+one_shape : {s : Settings} {width : ℕ} {a b : Shape} → IsShape s width a → IsShape s width b → a ≡ b
+one_shape {width} p q =
     let mode = p.mode_is ∙ sym q.mode_is in
     λ i. record { width = (p.width_is ∙ sym q.width_is) i; two_line = (ap (λ m. m.two_line) mode) i; typical = (ap (λ m. m.typical) mode) i }
 
-one_plan : (image : Image) (a b : RowPlan) → IsPlan image a → IsPlan image b → a ≡ b
-one_plan image a b p q =
+one_plan : {image : Image} {a b : RowPlan} → IsPlan image a → IsPlan image b → a ≡ b
+one_plan p q =
     λ i. record {
       width = (p.width_is ∙ sym q.width_is) i;
       limit = (p.limit_is ∙ sym q.limit_is) i;
-      shape = (one_shape image.settings image.width a.shape b.shape p.shape_is q.shape_is) i;
+      shape = (one_shape p.shape_is q.shape_is) i;
       stripe_rows = (p.stripe_rows_is ∙ sym q.stripe_rows_is) i;
       announced = (p.announced_is ∙ sym q.announced_is) i;
       may_end = (p.may_end_is ∙ sym q.may_end_is) i;
@@ -26,12 +26,13 @@ one_plan image a b p q =
     }
 
 -- of one plan, and with the same of all else
-pub one_view : (image : Image) (v w : RowView) → IsPlan image v.plan → IsPlan image w.plan → v.kept.offset ≡ w.kept.offset → v.kept.previous_typical ≡ w.kept.previous_typical → v.learned ≡ w.learned → v.tally ≡ w.tally
-    → v.encoder ≡ w.encoder → v.rows ≡ w.rows → v.in_stripe ≡ w.in_stripe → v.is_counted ≡ w.is_counted → v.named ≡ w.named → v ≡ w
-one_view image v w p q offset previous learned tally encoder rows in_stripe is_counted named =
+pub one_view : {image : Image} {v w : RowView} → IsPlan image v.plan → IsPlan image w.plan →
+    (v.kept.offset ≡ w.kept.offset) × (v.kept.previous_typical ≡ w.kept.previous_typical) → v.learned ≡ w.learned →
+    v.tally ≡ w.tally → v.encoder ≡ w.encoder → v.rows ≡ w.rows → v.in_stripe ≡ w.in_stripe → v.is_counted ≡ w.is_counted → v.named ≡ w.named → v ≡ w
+one_view p q kept learned tally encoder rows in_stripe is_counted named =
     λ i. record {
-      plan = (one_plan image v.plan w.plan p q) i;
-      kept = record { offset = offset i; previous_typical = previous i };
+      plan = (one_plan p q) i;
+      kept = record { offset = kept.0 i; previous_typical = kept.1 i };
       learned = learned i;
       tally = tally i;
       encoder = encoder i;

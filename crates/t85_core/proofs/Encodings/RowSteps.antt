@@ -41,16 +41,18 @@ use Rattle.t85_core.proofs.Encodings.RowShort.{rows_place, fails_begins}
 use Rattle.t85_core.proofs.Encodings.RowStream.{none_whole, stands_here, same_announced, come_first, come_long, stripe_more, part_begins, whole_more, inside_of, front_begins, less_or_not}
 
 -- before the first row of a stripe without a move, what is held is what is carried
-pub carried_by_held : {b : RowStart} {kept : Kept} {learned : List Estimate} {window : Held} → IsHeldBy None 0 b kept learned window → IsCarried b (record { held = window; kept = kept; learned = learned })
+pub carried_by_held : {b : RowStart} {kept : Kept} {learned : List Estimate} {window : Held} → IsHeldBy None 0 b kept learned window →
+    IsCarried b (record { held = window; kept = kept; learned = learned })
 carried_by_held h = record { offset_is = h.offset_is; previous_is = h.previous_is; learned_is = h.learned_is; third = h.third; lines_are = h.lines_are }
 
-pub held_by_carried : {b : RowStart} {kept : Kept} {learned : List Estimate} {window : Held} → IsCarried b (record { held = window; kept = kept; learned = learned }) → IsHeldBy None 0 b kept learned window
+pub held_by_carried : {b : RowStart} {kept : Kept} {learned : List Estimate} {window : Held} → IsCarried b (record { held = window; kept = kept; learned = learned }) →
+    IsHeldBy None 0 b kept learned window
 held_by_carried h = record { at_top = tt; offset_is = h.offset_is; previous_is = h.previous_is; learned_is = h.learned_is; third = h.third; lines_are = h.lines_are }
 
 -- the move was made at the first row
-pub moved_before : (move : Option (ℕ × ℕ)) (r offset : ℕ) → IfSome move (λ m. m.0 ≡ 0) → offset ≡ offset_at move (suc r) offset
-moved_before None r offset h = refl
-moved_before (Some move) r offset h = ap (λ b. if b then move.1 else offset) (sym other) where
+pub moved_before : {offset : ℕ} (move : Option (ℕ × ℕ)) (r : ℕ) → IfSome move (λ m. m.0 ≡ 0) → offset ≡ offset_at move (suc r) offset
+moved_before None r h = refl
+moved_before {offset} (Some move) r h = ap (λ b. if b then move.1 else offset) (sym other) where
   other : (move.0 == suc r) ≡ false
   other = let test : nat_eq move.0 (suc r) ≡ false = grind (arith, nat_tests, h) in test
 
@@ -58,7 +60,7 @@ moved_before (Some move) r offset h = ap (λ b. if b then move.1 else offset) (s
 pub events_more : (counter width old new : ℕ) → old ≤ counter * (width + 1) → new ≤ old + width + 1 → new ≤ (counter + 1) * (width + 1)
 events_more counter width old new h more =
     let sum : (counter + 1) * (width + 1) ≡ counter * (width + 1) + 1 * (width + 1) = Rattle.std.proofs.Math.Nat.add-mul counter 1 (width + 1) in
-    omega (arith, h, more, sum)
+    omega (arith, sum)
 
 none_counted : (width : ℕ) (counted : Option ℕ) (tally : Tally) → ((width' current : ℕ) → CountsLines tally width' current []) → IsCountedTo width counted tally []
 none_counted width None tally h = h width
@@ -66,13 +68,15 @@ none_counted width (Some current) tally h = h width current
 
 -- ---- a stripe begins
 
-module _ (image : Image) (rows : List (List Bool)) (v : RowView) (before : Held) (origin : Origin) (mid text' : Option (List ℕ)) (w : Waits image rows v before origin mid) where
+module _ {image : Image} {rows : List (List Bool)} {v : RowView} {before : Held} {origin : Origin} {mid : Option (List ℕ)} (text' : Option (List ℕ))
+    (w : Waits image rows v before origin mid) where
   -- where rows may still come
   waits_within : v.rows < v.plan.limit → w.i * image.settings.stripe_rows < image.limit
-  waits_within left = omega (arith, left, w.plan_is.limit_is, w.come.many, w.stripes.many)
+  waits_within left = omega arith
 
   pub stripe_begun : v.rows < v.plan.limit → (kept : Kept) (tally : Tally) (is_counted : Bool)
-      → ((s' : Settings) (width' : ℕ) (at : EncoderStart) → v.kept.offset ≡ at.carry.offset → v.named ≡ named_for s' at.stripe → IsTallied s' width' at v.tally → MoveMade (next_move s' width' at) at.carry.offset mid text' v.kept kept)
+      → ((s' : Settings) (width' : ℕ) (at : EncoderStart) → v.kept.offset ≡ at.carry.offset → v.named ≡ named_for s' at.stripe → IsTallied s' width' at v.tally →
+      MoveMade (next_move s' width' at) at.carry.offset mid text' v.kept kept)
       → ((width' current : ℕ) → CountsLines tally width' current []) → is_two_line tally ≡ is_two_line v.tally → most_of tally ≡ most_of v.tally
       → (v.plan.stripe_rows < v.plan.limit - v.rows → v.plan.has_candidates ≡ true → is_counted ≡ true)
       → Runs image rows (record v { kept = kept; tally = tally; is_counted = is_counted; named = None }) before origin text'
@@ -106,9 +110,10 @@ module _ (image : Image) (rows : List (List Bool)) (v : RowView) (before : Held)
     names_to = w.names_to;
     none_named = refl;
     counts = λ more some. counted
-        (let sum : (w.i + 1) * image.settings.stripe_rows ≡ w.i * image.settings.stripe_rows + 1 * image.settings.stripe_rows = Rattle.std.proofs.Math.Nat.add-mul w.i 1 image.settings.stripe_rows in omega (arith, w.plan_is.limit_is, w.come.many, w.stripes.many, w.plan_is.stripe_rows_is, more, sum))
+        (let sum : (w.i + 1) * image.settings.stripe_rows
+        ≡ w.i * image.settings.stripe_rows + 1 * image.settings.stripe_rows = Rattle.std.proofs.Math.Nat.add-mul w.i 1 image.settings.stripe_rows in omega (arith, sum))
         (w.plan_is.candidates_are ∙ (grind (arith, nat_tests, some)));
-    sent = Sends-more origin mid text' w.front (move_bytes image.settings image.width w.at ++ []) w.sent (subst (Appends mid text') (sym (append-nil (move_bytes image.settings image.width w.at))) made.appended);
+    sent = Sends-more (move_bytes image.settings image.width w.at ++ []) w.sent (rw append-nil made.appended);
   } where
     on : IsStart image.settings image.width w.at v before
     on = w.on_course (waits_within left)
@@ -118,19 +123,19 @@ module _ (image : Image) (rows : List (List Bool)) (v : RowView) (before : Held)
 
   -- a beginning of the move was written
   pub move_cut : v.rows < v.plan.limit → (row : List Bool)
-      → ((s' : Settings) (width' : ℕ) (at : EncoderStart) → v.kept.offset ≡ at.carry.offset → v.named ≡ named_for s' at.stripe → IsTallied s' width' at v.tally → MoveCut s' width' at mid text')
+      → ((s' : Settings) (width' : ℕ) (at : EncoderStart) → v.kept.offset ≡ at.carry.offset → v.named ≡ named_for s' at.stripe → IsTallied s' width' at v.tally →
+      MoveCut s' width' at mid text')
       → StreamCut image (rows ++ row ∷ []) origin text'
   move_cut left row cuts = record {
     bytes = w.front ++ p.front;
-    sent = Sends-more origin mid text' w.front p.front w.sent p.appends;
-    begins = λ raster b. part_begins image w.i rows w.at w.front w.plan_is.some w.stripes [] p.front (omega arith)
+    sent = Sends-more p.front w.sent p.appends;
+    begins = λ raster b. part_begins w.plan_is.some w.stripes [] p.front (omega arith)
         (λ later. record {
           rest = p.rest ++ (stuffed (code_of (row_start_in image.settings image.width w.at later).state.place) ++ marker_bytes image.settings.reset);
-          bytes_are = ap (λ z. z ++ (stuffed (code_of (row_start_in image.settings image.width w.at later).state.place) ++ marker_bytes image.settings.reset)) p.text_is ∙ append_assoc p.front p.rest (stuffed (code_of (row_start_in image.settings image.width w.at later).state.place) ++ marker_bytes image.settings.reset);
+          bytes_are = rw p.text_is (append_assoc p.front p.rest (stuffed (code_of (row_start_in image.settings image.width w.at later).state.place) ++ marker_bytes image.settings.reset));
         })
-        raster
-        (subst (λ z. MayCome image z raster) (sym (append-nil rows)) (come_first image rows (row ∷ []) raster b))
-        (let long = come_long image (rows ++ row ∷ []) raster b in omega (arith, long, length-append rows (row ∷ []), w.stripes.many));
+        (rw append-nil (come_first (row ∷ []) b))
+        (let long = come_long b in omega (arith, length-append rows (row ∷ [])));
   } where
     on : IsStart image.settings image.width w.at v before
     on = w.on_course (waits_within left)
@@ -142,14 +147,15 @@ module _ (image : Image) (rows : List (List Bool)) (v : RowView) (before : Held)
 
 pub length-lines_down : (above second : List Bool) (rows : List (List Bool)) → length (lines_down above second rows) ≡ length rows
 length-lines_down above second [] = refl
-length-lines_down above second (row ∷ rows) = ap suc (length-lines_down row above rows)
+length-lines_down above second (row ∷ rows) = rw (length-lines_down row above rows)
 
-all_more : (width : ℕ) (rows : List (List Bool)) (row : List Bool) → AllByRecursion (λ r. length r ≡ width) rows → length row ≡ width → AllByRecursion (λ r. length r ≡ width) (rows ++ row ∷ [])
-all_more width [] row all is = (is, tt)
-all_more width (first ∷ rows) row all is = (all.0, all_more width rows row all.1 is)
+all_more : {width : ℕ} (rows : List (List Bool)) (row : List Bool) → AllByRecursion (λ r. length r ≡ width) rows → length row ≡ width →
+    AllByRecursion (λ r. length r ≡ width) (rows ++ row ∷ [])
+all_more [] row all is = (is, tt)
+all_more (first ∷ rows) row all is = (all.0, all_more rows row all.1 is)
 
-module _ (image : Image) (rows : List (List Bool)) (row : List Bool) (v : RowView) (before window : Held) (origin : Origin) (mid text' : Option (List ℕ)) (below : IsBelow row before window) (wide : window.width ≡ v.plan.width)
-    (r : Runs image rows v before origin mid) where
+module _ {image : Image} {rows : List (List Bool)} {v : RowView} {before : Held} {origin : Origin} {mid : Option (List ℕ)} (row : List Bool) (window : Held) (text' : Option (List ℕ))
+    (below : IsBelow row before window) (wide : window.width ≡ v.plan.width) (r : Runs image rows v before origin mid) where
   abbrev mode : Mode
   mode = mode_of image.settings.options
 
@@ -188,73 +194,76 @@ module _ (image : Image) (rows : List (List Bool)) (row : List Bool) (v : RowVie
   many = omega (arith, length-append r.part (row ∷ []))
 
   counted_same : (kept : Kept) → kept.offset ≡ v.kept.offset → counted_of (record v { kept = kept }) ≡ counted_of v
-  counted_same kept same = ap (λ o. if v.is_counted then Some (if v.plan.reset then 0 else o) else None) same
+  counted_same kept same = rw same
 
-  pub row_coded : v.rows < v.plan.limit → v.in_stripe < v.plan.stripe_rows → v.plan.stripe_rows < 2 ^ 32 → (kept : Kept) (learned : List Estimate) (tally : Tally) (e : Encoder) (rows' in_stripe' : ℕ) → rows' ≡ v.rows + 1 → in_stripe' ≡ v.in_stripe + 1
-      → RowPut (row_task v.plan.shape v.kept (record { place = b.state.place; learned = v.learned }) (lines_with b row)) r.pushed kept mid (encoder_state text' e learned)
-      → ((lines : List Lines) (l : Lines) → length lines < 2 ^ 32 - 1 → HasLines window l → IsCountedTo v.plan.width (counted_of (record v { kept = kept })) v.tally lines → IsCountedTo v.plan.width (counted_of (record v { kept = kept })) tally (lines ++ l ∷ []))
-      → is_two_line tally ≡ is_two_line v.tally → most_of tally ≡ most_of v.tally
-      → Runs image (rows ++ row ∷ []) (record v { kept = kept; learned = learned; tally = tally; encoder = e; rows = rows'; in_stripe = in_stripe' }) window origin text'
-  row_coded left fewer few_rows kept learned tally e rows' in_stripe' rows_is in_stripe_is put counts two_line most = record {
+  pub row_coded : {kept : Kept} {rows' in_stripe' : ℕ} → v.rows < v.plan.limit → v.in_stripe < v.plan.stripe_rows → v.plan.stripe_rows < 2 ^ 32 →
+      (learned : List Estimate) (tally : Tally) (e : Encoder) →
+      rows' ≡ v.rows + 1 → in_stripe' ≡ v.in_stripe + 1 →
+      RowPut (row_task v.plan.shape v.kept (record { place = b.state.place; learned = v.learned }) (lines_with b row)) r.pushed kept mid (encoder_state text' e learned) →
+      ((lines : List Lines) (l : Lines) → length lines < 2 ^ 32 - 1 → HasLines window l → IsCountedTo v.plan.width (counted_of (record v { kept = kept })) v.tally lines →
+      IsCountedTo v.plan.width (counted_of (record v { kept = kept })) tally (lines ++ l ∷ [])) →
+      is_two_line tally ≡ is_two_line v.tally → most_of tally ≡ most_of v.tally →
+      Runs image (rows ++ row ∷ []) (record v { kept = kept; learned = learned; tally = tally; encoder = e; rows = rows'; in_stripe = in_stripe' }) window origin text'
+  row_coded {kept} left fewer few_rows learned tally e rows_is in_stripe_is put counts two_line most = record {
     plan_is = r.plan_is;
     come = record {
-      many = (let sum = length-append rows (row ∷ []) in omega (arith, rows_is, r.come.many, sum));
-      few = (let sum = length-append rows (row ∷ []) in omega (arith, left, r.come.many, r.plan_is.limit_is, sum));
-      wide = all_more image.width rows row r.come.wide (lines_are.row_wide ∙ wide ∙ r.plan_is.width_is);
+      many = (let sum = length-append rows (row ∷ []) in omega (arith, sum));
+      few = (let sum = length-append rows (row ∷ []) in omega (arith, sum));
+      wide = all_more rows row r.come.wide (lines_are.row_wide ∙ wide ∙ r.plan_is.width_is);
     };
     i = r.i;
     whole = r.whole;
     part = r.part ++ row ∷ [];
-    all = ap (λ z. z ++ row ∷ []) r.all ∙ append_assoc r.whole r.part (row ∷ []);
+    all = rw r.all (append_assoc r.whole r.part (row ∷ []));
     at = r.at;
     front = r.front;
     stripes = r.stripes;
-    in_stripe = (let sum = length-append r.part (row ∷ []) in omega (arith, in_stripe_is, r.in_stripe, sum));
-    few = (let sum = length-append r.part (row ∷ []) in omega (arith, fewer, r.in_stripe, r.plan_is.stripe_rows_is, sum));
+    in_stripe = (let sum = length-append r.part (row ∷ []) in omega (arith, sum));
+    few = (let sum = length-append r.part (row ∷ []) in omega (arith, sum));
     pushed = r.pushed ++ put.more;
     running = record {
-      codes = subst (λ n. EncoderIsAt e n.state.place (r.pushed ++ put.more)) (sym next_is) (subst (λ n. EncoderIsAt e n.place (r.pushed ++ put.more)) state_is put.codes);
-      is_held = subst (λ n. IsHeldBy move n (after_rows mode move 0 (first_row_start c) (r.part ++ row ∷ [])) kept learned window) (sym many) (subst (λ n. IsHeldBy move (suc (length r.part)) n kept learned window) (sym next_is) (record {
+      codes = rw (next_is, ← state_is) put.codes;
+      is_held = rw (many, next_is) (record {
         at_top = r.running.is_held.at_top;
-        offset_is = put.offset_is ∙ r.running.is_held.offset_is ∙ moved_before move (length r.part) (offset_at move (length r.part) b.offset) r.running.is_held.at_top;
+        offset_is = put.offset_is ∙ r.running.is_held.offset_is ∙ moved_before move (length r.part) r.running.is_held.at_top;
         previous_is = put.flag_is ∙ ap (λ m. may_be_typical m (lines_with b row)) r.plan_is.shape_is.mode_is;
         learned_is = put.taught ∙ ap (λ n. n.learned) state_is;
         third = b.second;
         lines_are = lines_are;
-      }));
+      });
       two_line = two_line ∙ r.running.two_line;
       most = most ∙ r.running.most;
       tallied = subst (λ lines. IsCountedTo image.width (counted_of (record v { kept = kept })) tally lines) (sym (lines_more mode move 0 (first_row_start c) r.part row))
           (subst (λ w. IsCountedTo w (counted_of (record v { kept = kept })) tally (lines_down c.above c.second r.part ++ lines_with b row ∷ [])) r.plan_is.width_is
-          (counts (lines_down c.above c.second r.part) (lines_with b row) (let many_lines = length-lines_down c.above c.second r.part in omega (arith, many_lines, fewer, few_rows, r.in_stripe)) lines_are
+          (counts (lines_down c.above c.second r.part) (lines_with b row) (let many_lines = length-lines_down c.above c.second r.part in omega arith) lines_are
           (subst (λ w. IsCountedTo w (counted_of (record v { kept = kept })) v.tally (lines_down c.above c.second r.part)) (sym r.plan_is.width_is)
           (subst (λ o. IsCountedTo image.width o v.tally (lines_down c.above c.second r.part)) (sym (counted_same kept put.offset_is)) r.running.tallied))));
     };
     names_to = r.names_to;
     none_named = r.none_named;
     counts = r.counts;
-    sent = subst (Sends origin text') (append_assoc r.front (move_bytes image.settings image.width r.at ++ r.pushed) put.more ∙ ap (λ z. r.front ++ z) (append_assoc (move_bytes image.settings image.width r.at) r.pushed put.more))
-        (Sends-more origin mid text' (r.front ++ (move_bytes image.settings image.width r.at ++ r.pushed)) put.more r.sent put.appended);
+    sent = rw (← append_assoc (move_bytes image.settings image.width r.at) r.pushed put.more, ← append_assoc r.front (move_bytes image.settings image.width r.at ++ r.pushed) put.more)
+        (Sends-more put.more r.sent put.appended);
   }
 
   -- the target refused a byte of it
-  pub row_cut : WritingLaws → v.in_stripe < v.plan.stripe_rows → RowCut (record { place = b.state.place; learned = v.learned }) r.pushed (canonical_events v.plan.shape v.kept (lines_with b row)) mid text' → StreamCut image (rows ++ row ∷ []) origin text'
+  pub row_cut : WritingLaws → v.in_stripe < v.plan.stripe_rows →
+      RowCut (record { place = b.state.place; learned = v.learned }) r.pushed (canonical_events v.plan.shape v.kept (lines_with b row)) mid text' → StreamCut image (rows ++ row ∷ []) origin text'
   row_cut laws fewer cut = record {
     bytes = (r.front ++ (move_bytes image.settings image.width r.at ++ r.pushed)) ++ cut.done;
-    sent = Sends-more origin mid text' (r.front ++ (move_bytes image.settings image.width r.at ++ r.pushed)) cut.done r.sent cut.appended;
-    begins = λ raster m. subst (λ z. IsBeginning z (jbg image.settings raster)) (sym bytes_are)
-        (part_begins image r.i r.whole r.at r.front r.plan_is.some r.stripes (r.part ++ row ∷ []) (move_bytes image.settings image.width r.at ++ (r.pushed ++ cut.done)) few begins raster
+    sent = Sends-more cut.done r.sent cut.appended;
+    begins = λ raster m. rw bytes_are (part_begins r.plan_is.some r.stripes (r.part ++ row ∷ []) (move_bytes image.settings image.width r.at ++ (r.pushed ++ cut.done)) few begins
         (subst (λ z. MayCome image z raster) all m)
-        (let long = come_long image (r.whole ++ (r.part ++ row ∷ [])) raster (subst (λ z. MayCome image z raster) all m) in omega (arith, long, length-append r.whole (r.part ++ row ∷ []), length-append r.part (row ∷ []), r.stripes.many)));
+        (let long = come_long (subst (λ z. MayCome image z raster) all m) in omega (arith, length-append r.whole (r.part ++ row ∷ []), length-append r.part (row ∷ []))));
   } where
     all : rows ++ row ∷ [] ≡ r.whole ++ (r.part ++ row ∷ [])
-    all = ap (λ z. z ++ row ∷ []) r.all ∙ append_assoc r.whole r.part (row ∷ [])
+    all = rw r.all (append_assoc r.whole r.part (row ∷ []))
 
     few : length (r.part ++ row ∷ []) ≤ image.settings.stripe_rows
-    few = let sum = length-append r.part (row ∷ []) in omega (arith, fewer, r.in_stripe, r.plan_is.stripe_rows_is, sum)
+    few = let sum = length-append r.part (row ∷ []) in omega (arith, sum)
 
     bytes_are : (r.front ++ (move_bytes image.settings image.width r.at ++ r.pushed)) ++ cut.done ≡ r.front ++ (move_bytes image.settings image.width r.at ++ (r.pushed ++ cut.done))
-    bytes_are = append_assoc r.front (move_bytes image.settings image.width r.at ++ r.pushed) cut.done ∙ ap (λ z. r.front ++ z) (append_assoc (move_bytes image.settings image.width r.at) r.pushed cut.done)
+    bytes_are = rw (append_assoc, append_assoc)
 
     front_is : IsStuffedFront ((r.pushed ++ cut.done) ++ cut.left) (after b.state cut.events).place
     front_is = subst (λ l. IsStuffedFront ((r.pushed ++ cut.done) ++ cut.left) (after (record { place = b.state.place; learned = l }) cut.events).place) r.running.is_held.learned_is cut.begins
@@ -262,7 +271,8 @@ module _ (image : Image) (rows : List (List Bool)) (row : List Bool) (v : RowVie
     at : length r.part ≡ 0 + length r.part
     at = omega arith
 
-    begins : (later : List (List Bool)) → IsBeginning (move_bytes image.settings image.width r.at ++ (r.pushed ++ cut.done)) (stripe_bytes (next_stripe image.settings image.width r.at ((r.part ++ row ∷ []) ++ later)))
+    begins : (later : List (List Bool)) → IsBeginning (move_bytes image.settings image.width r.at ++ (r.pushed ++ cut.done))
+        (stripe_bytes (next_stripe image.settings image.width r.at ((r.part ++ row ∷ []) ++ later)))
     begins later =
         let p = fails_begins laws mode move c r.part row (length (r.part ++ row ∷ []) + length later) cut.events cut.rest (r.pushed ++ cut.done) cut.left
         (ap (λ n. row_events mode (lines_with b row) (offset_at move n b.offset) b.previous (next_flag mode b row)) (sym at) ∙ sym events_are ∙ cut.all_are)
@@ -281,29 +291,32 @@ module _ (image : Image) (rows : List (List Bool)) (v : RowView) (window : Held)
   -- no stripe runs
   pub stands_waiting : v.in_stripe ≡ 0 → Stands image rows v window origin text' → Waits image rows v window origin text'
   stands_waiting none (inl w) = w
-  stands_waiting none (inr r) = absurd (omega (arith, r.1, none))
+  stands_waiting none (inr r) = absurd (omega arith)
 
   -- one runs
   pub stands_running : 0 < v.in_stripe → Stands image rows v window origin text' → Runs image rows v window origin text'
-  stands_running some (inl w) = absurd (omega (arith, w.in_stripe, some))
+  stands_running some (inl w) = absurd (omega arith)
   stands_running some (inr r) = r.0
 
 -- ---- a stripe ends
 
-module _ (image : Image) (rows : List (List Bool)) (v : RowView) (window : Held) (origin : Origin) (mid text' : Option (List ℕ)) (some : 0 < v.in_stripe) (r : Runs image rows v window origin mid) where
+module _ {image : Image} {rows : List (List Bool)} {v : RowView} {window : Held} {origin : Origin} {mid : Option (List ℕ)} (text' : Option (List ℕ)) (some : 0 < v.in_stripe)
+    (r : Runs image rows v window origin mid) where
   abbrev last : RowStart
   last = row_start_in image.settings image.width r.at r.part
 
   some_part : 0 < length r.part
-  some_part = omega (arith, some, r.in_stripe)
+  some_part = omega arith
 
-  bytes_of : (laws : WritingLaws) (code more : List ℕ) → Rattle.qm_core.specs.Code.IsCode last.state.place code → r.pushed ++ more ≡ stuffed code ++ marker_bytes v.plan.reset
-      → (r.front ++ (move_bytes image.settings image.width r.at ++ r.pushed)) ++ more ≡ r.front ++ stripe_bytes (next_stripe image.settings image.width r.at r.part)
-  bytes_of laws code more is all =
+  bytes_of : {code : List ℕ} (laws : WritingLaws) (more : List ℕ) → Rattle.qm_core.specs.Code.IsCode last.state.place code → r.pushed ++ more ≡ stuffed code ++ marker_bytes v.plan.reset →
+      (r.front ++ (move_bytes image.settings image.width r.at ++ r.pushed)) ++ more ≡ r.front ++ stripe_bytes (next_stripe image.settings image.width r.at r.part)
+  bytes_of {code} laws more is all =
       append_assoc r.front (move_bytes image.settings image.width r.at ++ r.pushed) more
       ∙ ap (λ z. r.front ++ z) (append_assoc (move_bytes image.settings image.width r.at) r.pushed more)
       ∙ ap (λ z. r.front ++ (move_bytes image.settings image.width r.at ++ z)) all
-      ∙ ap (λ z. r.front ++ (move_bytes image.settings image.width r.at ++ (stuffed z ++ marker_bytes v.plan.reset))) ((laws.one_code last.state.place (rows_place laws (mode_of image.settings.options) (next_move image.settings image.width r.at) 0 (first_row_start r.at.carry) r.part laws.start_is_place)).only code is)
+      ∙ ap (λ z. r.front ++ (move_bytes image.settings image.width r.at ++ (stuffed z ++ marker_bytes v.plan.reset)))
+      ((laws.one_code last.state.place (rows_place laws (mode_of image.settings.options) (next_move image.settings image.width r.at) 0
+      (first_row_start r.at.carry) r.part laws.start_is_place)).only code is)
       ∙ ap (λ b. r.front ++ (move_bytes image.settings image.width r.at ++ (stuffed (code_of last.state.place) ++ marker_bytes b))) r.plan_is.reset_is
 
   -- what is held after its rows, and its move
@@ -317,14 +330,14 @@ module _ (image : Image) (rows : List (List Bool)) (v : RowView) (window : Held)
     lines_are = r.running.is_held.lines_are;
   } where
     moved : (n : ℕ) → length r.part ≡ n → offset_at (next_move image.settings image.width r.at) (length r.part) last.offset ≡ last.offset
-    moved zero e = absurd (omega (arith, e, some_part))
-    moved (suc n) e = ap (λ k. offset_at (next_move image.settings image.width r.at) k last.offset) e ∙ sym (moved_before (next_move image.settings image.width r.at) n last.offset r.running.is_held.at_top)
+    moved zero e = absurd (omega (arith, some_part))
+    moved (suc n) e = ap (λ k. offset_at (next_move image.settings image.width r.at) k last.offset) e ∙ sym (moved_before (next_move image.settings image.width r.at) n r.running.is_held.at_top)
 
   counted_none : (lines : List Lines) → counted_of v ≡ None → IsCountedTo image.width (counted_of v) v.tally lines → (current : ℕ) → CountsLines v.tally image.width current []
   counted_none lines none counts = subst (λ o. IsCountedTo image.width o v.tally lines) none counts
 
-  counted_some : (lines : List Lines) (offset : ℕ) → counted_of v ≡ Some offset → IsCountedTo image.width (counted_of v) v.tally lines → CountsLines v.tally image.width offset lines
-  counted_some lines offset is counts = subst (λ o. IsCountedTo image.width o v.tally lines) is counts
+  counted_some : {offset : ℕ} {lines : List Lines} → counted_of v ≡ Some offset → IsCountedTo image.width (counted_of v) v.tally lines → CountsLines v.tally image.width offset lines
+  counted_some {lines} is counts = subst (λ o. IsCountedTo image.width o v.tally lines) is counts
 
   -- what was counted chooses the next move
   tallied : (r.i + 1) * image.settings.stripe_rows < image.limit → IsTallied image.settings image.width (next_encoder_start image.settings image.width r.at r.part) v.tally
@@ -342,12 +355,13 @@ module _ (image : Image) (rows : List (List Bool)) (v : RowView) (window : Held)
     same : (if v.plan.reset then 0 else v.kept.offset) ≡ next.carry.offset
     same = current image.settings.reset r.plan_is.reset_is
 
-    by_count : (b : Bool) → v.is_counted ≡ b → (0 < length (candidates (mode_of image.settings.options).two_line image.settings.most_offset) → b ≡ true) → IsTallied image.settings image.width next v.tally
+    by_count : (b : Bool) → v.is_counted ≡ b → (0 < length (candidates (mode_of image.settings.options).two_line image.settings.most_offset) → b ≡ true) →
+        IsTallied image.settings image.width next v.tally
     by_count true is counts = record {
       two_line = r.running.two_line;
       most = r.running.most;
       lines = lines;
-      counts = subst (λ o. CountsLines v.tally image.width o lines) same (counted_some lines (if v.plan.reset then 0 else v.kept.offset) (ap (λ z. if z then Some (if v.plan.reset then 0 else v.kept.offset) else None) is) r.running.tallied);
+      counts = subst (λ o. CountsLines v.tally image.width o lines) same (counted_some (ap (λ z. if z then Some (if v.plan.reset then 0 else v.kept.offset) else None) is) r.running.tallied);
       lines_are = λ _. refl;
     }
     by_count false is counts = record {
@@ -358,11 +372,14 @@ module _ (image : Image) (rows : List (List Bool)) (v : RowView) (window : Held)
       lines_are = λ some'. absurd (let e : false ≡ true = counts some' in let bot : ⊥ = cc in bot);
     }
 
-  pub stripe_ended : (laws : WritingLaws) (e : Encoder) (kept : Kept) (learned : List Estimate) (window' : Held) (text'' : Option (List ℕ)) (in_stripe : ℕ) → in_stripe ≡ 0 → EncoderIsAt e start []
-      → ((last' : RowStart) → IsHeldBy None 0 last' v.kept v.learned window → IsHeldBy None 0 (first_row_start (next_stripe_start v.plan.width v.plan.reset last')) kept learned window')
-      → (code more : List ℕ) → Rattle.qm_core.specs.Code.IsCode last.state.place code → r.pushed ++ more ≡ stuffed code ++ marker_bytes v.plan.reset → Appends mid text' more → Rattle.std.specs.Io.KnownBytes.Keeps text' text''
-      → StripeEnded image v.in_stripe rows (encoder_at (record v { kept = kept; learned = learned; encoder = e; in_stripe = in_stripe }) window' text'') origin
-  stripe_ended laws e kept learned window' text'' in_stripe none codes goes code more is all put keeps = record {
+  pub stripe_ended : {in_stripe : ℕ} {code : List ℕ} (laws : WritingLaws) (e : Encoder) (kept : Kept) (learned : List Estimate) (window' : Held) (text'' : Option (List ℕ)) →
+      in_stripe ≡ 0 →
+      EncoderIsAt e start [] →
+      ((last' : RowStart) → IsHeldBy None 0 last' v.kept v.learned window → IsHeldBy None 0 (first_row_start (next_stripe_start v.plan.width v.plan.reset last')) kept learned window') →
+      (more : List ℕ) → Rattle.qm_core.specs.Code.IsCode last.state.place code → r.pushed ++ more ≡ stuffed code ++ marker_bytes v.plan.reset → Appends mid text' more →
+      Rattle.std.specs.Io.KnownBytes.Keeps text' text'' →
+      StripeEnded image v.in_stripe rows (encoder_at (record v { kept = kept; learned = learned; encoder = e; in_stripe = in_stripe }) window' text'') origin
+  stripe_ended {in_stripe} laws e kept learned window' text'' none codes goes more is all put keeps = record {
     plan_is = r.plan_is;
     come = r.come;
     i = r.i;
@@ -382,14 +399,15 @@ module _ (image : Image) (rows : List (List Bool)) (v : RowView) (window : Held)
       is_held = subst (λ w. IsHeldBy None 0 (first_row_start (next_stripe_start w image.settings.reset last)) kept learned window') r.plan_is.width_is
           (subst (λ b. IsHeldBy None 0 (first_row_start (next_stripe_start v.plan.width b last)) kept learned window') r.plan_is.reset_is (goes last behind));
       is_tallied = tallied more';
-      named_is = r.none_named ∙ sym (get_or_past image.settings.named (suc r.at.stripe) None (let is : r.at.stripe ≡ r.i = r.stripes.stripe_is in omega (arith, is, r.names_to)));
+      named_is = r.none_named ∙ sym (get_or_past image.settings.named (suc r.at.stripe) None (let is = r.stripes.stripe_is in omega arith));
     };
-    sent = Sends-keeps origin text' text'' (r.front ++ stripe_bytes (next_stripe image.settings image.width r.at r.part))
-        (subst (Sends origin text') (bytes_of laws code more is all) (Sends-more origin mid text' (r.front ++ (move_bytes image.settings image.width r.at ++ r.pushed)) more r.sent put)) keeps;
+    sent = Sends-keeps
+        (subst (Sends origin text') (bytes_of laws more is all) (Sends-more more r.sent put)) keeps;
   }
 
-  pub stripe_cut : (laws : WritingLaws) (code more : List ℕ) → Rattle.qm_core.specs.Code.IsCode last.state.place code → r.pushed ++ more ≡ stuffed code ++ marker_bytes v.plan.reset → AppendsBeginning mid text' more → StripeBegun image v.in_stripe rows origin text'
-  stripe_cut laws code more is all cut = record {
+  pub stripe_cut : {code more : List ℕ} (laws : WritingLaws) → Rattle.qm_core.specs.Code.IsCode last.state.place code → r.pushed ++ more ≡ stuffed code ++ marker_bytes v.plan.reset →
+      AppendsBeginning mid text' more → StripeBegun image v.in_stripe rows origin text'
+  stripe_cut {more} laws is all cut = record {
     i = r.i;
     whole = r.whole;
     part = r.part;
@@ -400,7 +418,7 @@ module _ (image : Image) (rows : List (List Bool)) (v : RowView) (window : Held)
     many = sym r.in_stripe;
     some = some_part;
     few = r.few;
-    sent = subst (SendsBeginning origin text') (bytes_of laws code more is all) (sends_after origin mid text' (r.front ++ (move_bytes image.settings image.width r.at ++ r.pushed)) more r.sent cut);
+    sent = subst (SendsBeginning origin text') (bytes_of laws more is all) (sends_after r.sent cut);
   }
 
 -- ---- from a stripe that was ended
@@ -414,11 +432,12 @@ module _ (image : Image) (count : ℕ) (rows : List (List Bool)) (v : RowView) (
     i = e.i + 1;
     at = next_encoder_start image.settings image.width e.at e.part;
     front = e.front ++ stripe_bytes (next_stripe image.settings image.width e.at e.part);
-    stripes = subst (λ z. StripesWhole image (e.i + 1) z (next_encoder_start image.settings image.width e.at e.part) (e.front ++ stripe_bytes (next_stripe image.settings image.width e.at e.part))) (sym e.all)
-        (whole_more image e.i e.whole e.at e.front e.plan_is.some e.stripes e.part (e.many ∙ full ∙ e.plan_is.stripe_rows_is));
+    stripes = subst (λ z. StripesWhole image (e.i + 1) z (next_encoder_start image.settings image.width e.at e.part)
+        (e.front ++ stripe_bytes (next_stripe image.settings image.width e.at e.part))) (sym e.all)
+        (whole_more e.plan_is.some e.stripes e.part (e.many ∙ full ∙ e.plan_is.stripe_rows_is));
     in_stripe = e.in_stripe;
     codes = e.codes;
-    names_to = omega (arith, e.names_to);
+    names_to = omega arith;
     on_course = e.on_course;
     sent = e.sent;
   }
@@ -429,46 +448,47 @@ module _ (image : Image) (count : ℕ) (rows : List (List Bool)) (v : RowView) (
     bytes = e.sent.front;
     sent = e.sent.sends;
     begins = λ raster b.
-        let m : MayCome image (e.whole ++ e.part) raster = subst (λ z. MayCome image z raster) e.all b in
-        let long = come_long image (e.whole ++ e.part) raster m in
+        let m = subst (λ z. MayCome image z raster) e.all b in
+        let long = come_long m in
         let sum = length-append e.whole e.part in
         let full_part : length e.part ≡ image.settings.stripe_rows = e.many ∙ full in
-        front_begins image.settings raster (e.i + 1) e.sent.front
-        (let inside = inside_of (height raster) image.settings.stripe_rows e.i some (omega (arith, long, sum, e.stripes.many, full_part, some)) in omega (arith, inside))
+        front_begins image.settings raster (e.i + 1)
+        (let inside = inside_of (height raster) image.settings.stripe_rows e.i some (omega (arith, sum)) in omega arith)
         (record {
           rest = e.sent.rest;
           bytes_are =
-              sym (stripe_more image e.i e.whole e.at e.front some e.stripes e.part raster m (omega (arith, long, sum, e.stripes.many, full_part, some)) (omega (arith, long, sum, e.stripes.many, full_part)))
+              sym (stripe_more some e.stripes e.part m (omega (arith, sum)) (omega (arith, sum)))
               ∙ e.sent.text_is;
         });
   }
 
 -- ---- an image ends
 
-count_is : (n l c : ℕ) → 1 ≤ l → n ≤ c * l → c * l < n + l → stripe_count n l ≡ c
-count_is n l c some from to = went (less_or_not c (stripe_count n l)) (less_or_not (stripe_count n l) c) where
+count_is : {c : ℕ} (n l : ℕ) → 1 ≤ l → n ≤ c * l → c * l < n + l → stripe_count n l ≡ c
+count_is {c} n l some from to = went (less_or_not c (stripe_count n l)) (less_or_not (stripe_count n l) c) where
   times : (n ≤ stripe_count n l * l) × (stripe_count n l * l < n + l)
   times = div_ceil_times n l some
 
   went : (c < stripe_count n l) ⊎ (stripe_count n l ≤ c) → (stripe_count n l < c) ⊎ (c ≤ stripe_count n l) → stripe_count n l ≡ c
   went (inl h) k =
-      let up : (c + 1) * l ≤ stripe_count n l * l = Rattle.std.proofs.Math.Nat.mul-le-mul_right l (omega (arith, h)) in
+      let up : (c + 1) * l ≤ stripe_count n l * l = Rattle.std.proofs.Math.Nat.mul-le-mul_right l (omega arith) in
       let sum : (c + 1) * l ≡ c * l + 1 * l = Rattle.std.proofs.Math.Nat.add-mul c 1 l in
       let high = times.1 in
-      absurd (omega (arith, up, sum, from, high))
+      absurd (omega (arith, sum))
   went (inr h) (inl k) =
-      let up : (stripe_count n l + 1) * l ≤ c * l = Rattle.std.proofs.Math.Nat.mul-le-mul_right l (omega (arith, k)) in
+      let up : (stripe_count n l + 1) * l ≤ c * l = Rattle.std.proofs.Math.Nat.mul-le-mul_right l (omega arith) in
       let sum : (stripe_count n l + 1) * l ≡ stripe_count n l * l + 1 * l = Rattle.std.proofs.Math.Nat.add-mul (stripe_count n l) 1 l in
       let low = times.0 in
-      absurd (omega (arith, up, sum, to, low))
-  went (inr h) (inr k) = omega (arith, h, k)
+      absurd (omega (arith, sum))
+  went (inr h) (inr k) = omega arith
 
-not_some : (o : Option ℕ) → o ≡ None → is_some o ≡ false
-not_some o none = ap is_some none
+not_some : {o : Option ℕ} → o ≡ None → is_some o ≡ false
+not_some none = ap is_some none
 
-module _ (image : Image) (rows : List (List Bool)) (v : RowView) (plan : IsPlan image v.plan) (come : HaveCome image.width image.limit rows v.rows) (some : 0 < v.rows) (whole : v.plan.may_end ≡ false → v.rows ≡ v.plan.limit) where
+module _ {image : Image} {rows : List (List Bool)} (v : RowView) (plan : IsPlan image v.plan) (come : HaveCome image.width image.limit rows v.rows) (some : 0 < v.rows)
+    (whole : v.plan.may_end ≡ false → v.rows ≡ v.plan.limit) where
   all_rows : image.settings.announced ≡ None → length rows ≡ image.limit
-  all_rows none = (let full = whole (plan.may_end_is ∙ not_some image.settings.announced none) in omega (arith, full, plan.limit_is, come.many))
+  all_rows none = (let full = whole (plan.may_end_is ∙ not_some none) in omega arith)
 
   -- the image itself may come
   pub itself : MayCome image rows (raster_of image.width rows)
@@ -476,8 +496,8 @@ module _ (image : Image) (rows : List (List Bool)) (v : RowView) (plan : IsPlan 
     proper = record {
       width_from = plan.width_from;
       width_to = plan.width_to;
-      height_from = omega (arith, some, come.many);
-      height_to = omega (arith, come.few, plan.limit_to);
+      height_from = omega arith;
+      height_to = omega arith;
       rows = come.wide;
     };
     width_is = refl;
@@ -490,76 +510,94 @@ module _ (image : Image) (rows : List (List Bool)) (v : RowView) (plan : IsPlan 
   announced_at = plan.announced_is ∙ same_announced image.settings.announced image.limit (length rows) (λ none. sym (all_rows none))
 
   -- no stripe runs
-  pub waits_ended : (window : Held) (origin : Origin) (text' : Option (List ℕ)) → Waits image rows v window origin text' → StripesEnded image rows v origin text'
-  waits_ended window origin text' w = record {
+  pub waits_ended : {window : Held} {origin : Origin} {text' : Option (List ℕ)} → Waits image rows v window origin text' → StripesEnded image rows v origin text'
+  waits_ended {origin} {text'} w = record {
     rows_are = come.many;
     reset_is = plan.reset_is;
     announced_is = announced_at;
     sent = subst (Sends origin text')
-        ((stands_here image w.i rows w.at w.front w.stripes).front_is (raster_of image.width rows) itself
-        ∙ ap (jbg_up_to image.settings (raster_of image.width rows)) (sym (count_is (length rows) image.settings.stripe_rows w.i plan.some (omega (arith, w.stripes.many)) (omega (arith, w.stripes.many, plan.some))))) w.sent;
+        ((stands_here w.stripes).front_is (raster_of image.width rows) itself
+        ∙ ap (jbg_up_to image.settings (raster_of image.width rows)) (sym (count_is (length rows) image.settings.stripe_rows plan.some (omega arith) (omega arith)))) w.sent;
   }
 
-module _ (image : Image) (count : ℕ) (rows whole part : List (List Bool)) (i : ℕ) (at : EncoderStart) (front : List ℕ) (some : 1 ≤ image.settings.stripe_rows) (all : rows ≡ whole ++ part) (stripes : StripesWhole image i whole at front)
-    (some_part : 0 < length part) (few : length part ≤ image.settings.stripe_rows) (m : MayCome image rows (raster_of image.width rows)) where
+module _ {image : Image} {rows whole : List (List Bool)} {i : ℕ} {at : EncoderStart} {front : List ℕ} (count : ℕ) (part : List (List Bool)) (some : 1 ≤ image.settings.stripe_rows)
+    (all : rows ≡ whole ++ part) (stripes : StripesWhole image i whole at front) (some_part : 0 < length part) (few : length part ≤ image.settings.stripe_rows)
+    (m : MayCome image rows (raster_of image.width rows)) where
   sum : length rows ≡ i * image.settings.stripe_rows + length part
-  sum = (let lengths : length rows ≡ length (whole ++ part) = ap length all in omega (arith, lengths, length-append whole part, stripes.many))
+  sum = (let lengths : length rows ≡ length (whole ++ part) = ap length all in omega (arith, length-append whole part))
 
   -- the stripes with this one are all
-  pub last_stripe : front ++ stripe_bytes (next_stripe image.settings image.width at part) ≡ jbg_up_to image.settings (raster_of image.width rows) (stripe_count (length rows) image.settings.stripe_rows)
+  pub last_stripe : front ++ stripe_bytes (next_stripe image.settings image.width at part) ≡ jbg_up_to image.settings (raster_of image.width rows)
+      (stripe_count (length rows) image.settings.stripe_rows)
   last_stripe =
-      stripe_more image i whole at front some stripes part (raster_of image.width rows) (subst (λ z. MayCome image z (raster_of image.width rows)) all m) (omega (arith, sum, some_part)) (omega (arith, sum, few))
-      ∙ ap (jbg_up_to image.settings (raster_of image.width rows)) (sym (count_is (length rows) image.settings.stripe_rows (i + 1) some (omega (arith, sum, few, product)) (omega (arith, sum, some_part, product))))
+      stripe_more some stripes part (subst (λ z. MayCome image z (raster_of image.width rows)) all m) (omega (arith, sum, some_part)) (omega (arith, sum, few))
+      ∙ ap (jbg_up_to image.settings (raster_of image.width rows))
+      (sym (count_is (length rows) image.settings.stripe_rows some (omega (arith, sum, few, product)) (omega (arith, sum, some_part, product))))
     where
       product : (i + 1) * image.settings.stripe_rows ≡ i * image.settings.stripe_rows + 1 * image.settings.stripe_rows
       product = Rattle.std.proofs.Math.Nat.add-mul i 1 image.settings.stripe_rows
 
-pub ended_stripes : (image : Image) (count : ℕ) (rows : List (List Bool)) (v v' : RowView) (window window' : Held) (origin : Origin) (mid text' : Option (List ℕ)) → 0 < v.rows → (v.plan.may_end ≡ false → v.rows ≡ v.plan.limit)
-    → Runs image rows v window origin mid → StripeEnded image count rows (encoder_at v' window' text') origin → StripesEnded image rows v' origin text'
-ended_stripes image count rows v v' window window' origin mid text' some whole r e = record {
+pub ended_stripes : {image : Image} {count : ℕ} {rows : List (List Bool)} {v v' : RowView} {window : Held} {origin : Origin} {mid text' : Option (List ℕ)} (window' : Held) → 0 < v.rows →
+    (v.plan.may_end ≡ false → v.rows ≡ v.plan.limit) → Runs image rows v window origin mid → StripeEnded image count rows (encoder_at v' window' text') origin →
+    StripesEnded image rows v' origin text'
+ended_stripes {image} {count} {rows} {v} {origin} {text'} window' some whole r e = record {
   rows_are = e.come.many;
   reset_is = e.plan_is.reset_is;
-  announced_is = e.plan_is.announced_is ∙ same_announced image.settings.announced image.limit (length rows) (λ none. sym (all_rows image rows v r.plan_is r.come some whole none));
-  sent = subst (Sends origin text') (last_stripe image count rows e.whole e.part e.i e.at e.front r.plan_is.some e.all e.stripes e.some e.few (itself image rows v r.plan_is r.come some whole)) e.sent;
+  announced_is = e.plan_is.announced_is ∙ same_announced image.settings.announced image.limit (length rows) (λ none. sym (all_rows v r.plan_is r.come some whole none));
+  sent = subst (Sends origin text') (last_stripe count e.part r.plan_is.some e.all e.stripes e.some e.few (itself v r.plan_is r.come some whole)) e.sent;
 }
 
 -- no more than a beginning of the last stripe was written
-pub cut_stripes : (image : Image) (count : ℕ) (rows : List (List Bool)) (v : RowView) (window : Held) (origin : Origin) (mid text' : Option (List ℕ)) → 0 < v.rows → (v.plan.may_end ≡ false → v.rows ≡ v.plan.limit)
-    → Runs image rows v window origin mid → StripeBegun image count rows origin text' → SendsBeginning origin text' (jbg image.settings (raster_of image.width rows))
-cut_stripes image count rows v window origin mid text' some whole r e =
-    sends_longer origin text' (jbg_up_to image.settings (raster_of image.width rows) (stripe_count (length rows) image.settings.stripe_rows)) (ending image.settings (length rows))
-    (subst (SendsBeginning origin text') (last_stripe image count rows e.whole e.part e.i e.at e.front r.plan_is.some e.all e.stripes e.some e.few (itself image rows v r.plan_is r.come some whole)) e.sent)
+pub cut_stripes : {image : Image} {count : ℕ} {rows : List (List Bool)} {v : RowView} {window : Held} {origin : Origin} {mid text' : Option (List ℕ)} → 0 < v.rows →
+    (v.plan.may_end ≡ false → v.rows ≡ v.plan.limit) → Runs image rows v window origin mid → StripeBegun image count rows origin text' →
+    SendsBeginning origin text' (jbg image.settings (raster_of image.width rows))
+cut_stripes {image} {count} {rows} {v} {origin} {text'} some whole r e =
+    sends_longer (ending image.settings (length rows))
+    (subst (SendsBeginning origin text') (last_stripe count e.part r.plan_is.some e.all e.stripes e.some e.few (itself v r.plan_is r.come some whole)) e.sent)
 
-module _ (image : Image) (rows : List (List Bool)) (v : RowView) (origin : Origin) (mid text' : Option (List ℕ)) (e : StripesEnded image rows v origin mid) where
+module _ {image : Image} {rows : List (List Bool)} {v : RowView} {origin : Origin} {mid : Option (List ℕ)} (text' : Option (List ℕ)) (e : StripesEnded image rows v origin mid) where
   ending_is : ending_of v.plan.announced v.plan.reset v.rows ≡ ending image.settings (length rows)
   ending_is =
-      ap (λ n. ending_of n v.plan.reset v.rows) e.announced_is ∙ ap (λ b. ending_of (unwrap_or image.settings.announced (length rows)) b v.rows) e.reset_is ∙ ap (ending_of (unwrap_or image.settings.announced (length rows)) image.settings.reset) e.rows_are
+      ap (λ n. ending_of n v.plan.reset v.rows) e.announced_is ∙ ap (λ b. ending_of (unwrap_or image.settings.announced (length rows)) b v.rows) e.reset_is
+      ∙ ap (ending_of (unwrap_or image.settings.announced (length rows)) image.settings.reset) e.rows_are
 
   pub stream_ended : Appends mid text' (ending_of v.plan.announced v.plan.reset v.rows) → Sends origin text' (jbg image.settings (raster_of image.width rows))
-  stream_ended last = Sends-more origin mid text' (jbg_up_to image.settings (raster_of image.width rows) (stripe_count (length rows) image.settings.stripe_rows)) (ending image.settings (length rows)) e.sent (subst (Appends mid text') ending_is last)
+  stream_ended last = Sends-more (ending image.settings (length rows)) e.sent (subst (Appends mid text') ending_is last)
 
   pub ending_cut : AppendsBeginning mid text' (ending_of v.plan.announced v.plan.reset v.rows) → SendsBeginning origin text' (jbg image.settings (raster_of image.width rows))
-  ending_cut last = sends_after origin mid text' (jbg_up_to image.settings (raster_of image.width rows) (stripe_count (length rows) image.settings.stripe_rows)) (ending image.settings (length rows)) e.sent (subst (AppendsBeginning mid text') ending_is last)
+  ending_cut last = sends_after e.sent (subst (AppendsBeginning mid text') ending_is last)
 
 -- ---- an image begins
 
-pub none_stand : (image : Image) (v : RowView) (window : Held) (text text' : Option (List ℕ)) → IsPlan image v.plan → v.rows ≡ 0 → v.in_stripe ≡ 0 → v.named ≡ None → image.settings.named ≡ [] → EncoderIsAt v.encoder start [] → v.kept.offset ≡ 0 → v.kept.previous_typical ≡ false → v.learned ≡ fresh
-    → HasLines window (white_lines image.width) → is_two_line v.tally ≡ (mode_of image.settings.options).two_line → most_of v.tally ≡ image.settings.most_offset → ((width' current : ℕ) → CountsLines v.tally width' current []) → Appends text text' (head_of image.settings image.width image.limit)
-    → Stands image [] v window (here text) text'
-none_stand image v window text text' plan rows_is none nameless unnamed codes offset previous learned white two_line most counts put = inl (record {
+-- the fields before the first row
+pub record IsUnused (s : Settings) (v : RowView) : Type 0 where
+  pub rows_is : v.rows ≡ 0
+  pub in_stripe : v.in_stripe ≡ 0
+  pub nameless : v.named ≡ None
+  pub codes : EncoderIsAt v.encoder start []
+  pub offset_is : v.kept.offset ≡ 0
+  pub previous_is : v.kept.previous_typical ≡ false
+  pub learned_is : v.learned ≡ fresh
+  pub two_line : is_two_line v.tally ≡ (mode_of s.options).two_line
+  pub most : most_of v.tally ≡ s.most_offset
+  pub counts : (width current : ℕ) → CountsLines v.tally width current []
+
+pub none_stand : {image : Image} {v : RowView} {window : Held} {text text' : Option (List ℕ)} → IsPlan image v.plan → image.settings.named ≡ [] → IsUnused image.settings v →
+    HasLines window (white_lines image.width) → Appends text text' (head_of image.settings image.width image.limit) → Stands image [] v window (here text) text'
+none_stand {image} plan unnamed u white put = inl (record {
   plan_is = plan;
-  come = record { many = rows_is; few = omega arith; wide = tt };
+  come = record { many = u.rows_is; few = omega arith; wide = tt };
   i = 0;
   at = first_encoder_start image.width;
   front = head_of image.settings image.width image.limit;
-  stripes = none_whole image;
-  in_stripe = none;
-  codes = codes;
-  names_to = (let none_are : length image.settings.named ≡ 0 = ap length unnamed in omega (arith, none_are));
+  stripes = none_whole;
+  in_stripe = u.in_stripe;
+  codes = u.codes;
+  names_to = (let none_are : length image.settings.named ≡ 0 = ap length unnamed in omega arith);
   on_course = λ _. record {
-    is_held = record { at_top = tt; offset_is = offset; previous_is = previous; learned_is = learned; third = white_row image.width; lines_are = white };
-    is_tallied = record { two_line = two_line; most = most; lines = []; counts = counts image.width 0; lines_are = λ _. refl };
-    named_is = nameless ∙ sym (ap (λ names. slice_index_or names 0 None) unnamed);
+    is_held = record { at_top = tt; offset_is = u.offset_is; previous_is = u.previous_is; learned_is = u.learned_is; third = white_row image.width; lines_are = white };
+    is_tallied = record { two_line = u.two_line; most = u.most; lines = []; counts = u.counts image.width 0; lines_are = λ _. refl };
+    named_is = u.nameless ∙ sym (ap (λ names. slice_index_or names 0 None) unnamed);
   };
-  sent = sent_here text text' _ put;
+  sent = sent_here put;
 })

@@ -1,6 +1,6 @@
 -- The output for each raster that is still possible.
-use Rattle.std.proofs.Common.{◌≡◌, ℕ, zero, suc, ◌+◌, ◌-◌, ◌*◌, ◌<◌, ◌≤◌, ◌⊎◌, inl, inr, nat_lt, true, false, Bool, List, [], ◌++◌, length, take, map, refl, sym, ◌∙◌, ap, subst, arith, Option, None, Some, append_assoc, append-nil, length-append, option_to_list}
-use Rattle.std.specs.Prelude.{min, unwrap_or, flat_map, slice_index_or, option_map}
+use Rattle.std.proofs.Common.{◌≡◌, ℕ, zero, suc, ◌+◌, ◌-◌, ◌*◌, ◌<◌, ◌≤◌, ◌⊎◌, inl, inr, nat_lt, true, false, Bool, List, [], ◌++◌, length, refl, sym, ◌∙◌, ap, subst, arith, Option, None, Some, append_assoc, append-nil, length-append}
+use Rattle.std.specs.Prelude.{min, unwrap_or, option_map}
 use Rattle.std.proofs.lemmas.Grind.{div_ceil_times}
 use Rattle.std.proofs.lemmas.Bool.Decides.{nat_tests}
 use Rattle.std.proofs.lemmas.List.{take-take}
@@ -10,66 +10,62 @@ use Rattle.raster_core.specs.Offset.{chosen_offset}
 use Rattle.t85_core.specs.Coding.{mode_of}
 use Rattle.t85_core.specs.Steps.State.{first_row_start, next_stripe_start}
 use Rattle.raster_core.specs.Raster.{Raster, height, white_row}
-use Rattle.t85_core.specs.Header.{header_bytes}
-use Rattle.t85_core.specs.Grammar.{Comment, Stripe, segment_bytes, stripe_bytes, stripe_count}
-use Rattle.t85_core.specs.Jbg.{Settings, moved_to, move_segments, coding_of, coded_stripe, head_of, stripes_up_to, jbg_up_to, jbg, ending, written_options}
+use Rattle.t85_core.specs.Grammar.{Stripe, stripe_bytes, stripe_count}
+use Rattle.t85_core.specs.Jbg.{Settings, moved_to, move_segments, coding_of, coded_stripe, head_of, stripes_up_to, jbg_up_to, jbg, ending}
 use Rattle.t85_core.specs.Encode.{IsBeginning}
 use Rattle.t85_core.specs.Steps.Written.{EncoderStart, after_rows, lines_down, first_encoder_start, next_stripe, next_encoder_start}
-use Rattle.t85_core.specs.Steps.Looked.{CourseAt}
 use Rattle.t85_core.specs.Steps.RowStream.{FrontStands, StripesWhole}
 use Rattle.t85_core.specs.RowImage.{MayCome, Image, SameNames, naming}
 use Rattle.t85_core.proofs.Encodings.EncoderStarts.{CourseGoes, course_begins, course_step, stripes_more}
 use Rattle.t85_core.proofs.Encodings.RowsOn.{RowsGoOn, front_splits, rows_continue, rows_go_on}
 
 -- a raster that begins with rows begins with the first of them
-pub come_first : (image : Image) (first rows : List (List Bool)) (raster : Raster) → MayCome image (first ++ rows) raster → MayCome image first raster
-come_first image first rows raster b = record {
+pub come_first : {image : Image} {raster : Raster} {first : List (List Bool)} (rows : List (List Bool)) → MayCome image (first ++ rows) raster → MayCome image first raster
+come_first {raster} {first} rows b = record {
   proper = b.proper;
   width_is = b.width_is;
   height_to = b.height_to;
   height_is = b.height_is;
   first =
-      sym (take-take (length first) (length (first ++ rows)) raster.rows (omega (arith, length-append first rows)))
-      ∙ ap (take (length first)) b.first ∙ take-append_seam first rows;
+      rw (← take-take (length first) (length (first ++ rows)) raster.rows (omega (arith, length-append first rows)), b.first) (take-append_seam first rows);
 }
 
 -- it has them all
-pub come_long : (image : Image) (rows : List (List Bool)) (raster : Raster) → MayCome image rows raster → length rows ≤ height raster
-come_long image rows raster b = (front_splits raster.rows rows b.first).0
+pub come_long : {image : Image} {rows : List (List Bool)} {raster : Raster} → MayCome image rows raster → length rows ≤ height raster
+come_long {rows} {raster} b = (front_splits b.first).0
 
 pub same_announced : (o : Option ℕ) (a b : ℕ) → (o ≡ None → a ≡ b) → unwrap_or o a ≡ unwrap_or o b
 same_announced None a b h = h refl
 same_announced (Some n) a b h = refl
 
 -- the head of each raster that may come
-pub come_head : (image : Image) (rows : List (List Bool)) (raster : Raster) → MayCome image rows raster → head_of image.settings image.width image.limit ≡ head_of image.settings raster.width (height raster)
-come_head image rows raster b =
-    ap (λ w. head_of image.settings w image.limit) (sym b.width_is)
-    ∙ ap (λ n. header_bytes (record { xd = raster.width; yd = n; l0 = image.settings.stripe_rows; mx = image.settings.most_offset; options = written_options image.settings }) ++ flat_map segment_bytes (map Comment (option_to_list image.settings.comment)))
-    (same_announced image.settings.announced image.limit (height raster) (λ none. sym (b.height_is none)))
+pub come_head : {image : Image} {rows : List (List Bool)} {raster : Raster} → MayCome image rows raster →
+    head_of image.settings image.width image.limit ≡ head_of image.settings raster.width (height raster)
+come_head {image} {raster} b =
+    rw (← b.width_is, same_announced image.settings.announced image.limit (height raster) (λ none. sym (b.height_is none)))
 
 -- nothing but the head
-none_stands : (image : Image) → FrontStands image 0 [] (first_encoder_start image.width) (head_of image.settings image.width image.limit)
-none_stands image = record {
-  front_is = λ raster b. come_head image [] raster b ∙ sym (append-nil (head_of image.settings raster.width (height raster)));
-  course = λ raster b _. subst (λ w. CourseAt image.settings raster 0 (first_encoder_start w)) b.width_is (course_begins image.settings raster);
+none_stands : {image : Image} → FrontStands image 0 [] (first_encoder_start image.width) (head_of image.settings image.width image.limit)
+none_stands {image} = record {
+  front_is = λ raster b. come_head b ∙ sym (append-nil (head_of image.settings raster.width (height raster)));
+  course = λ raster b _. rw (← b.width_is) (course_begins);
 }
 
-pub none_whole : (image : Image) → StripesWhole image 0 [] (first_encoder_start image.width) (head_of image.settings image.width image.limit)
-none_whole image = record {
+pub none_whole : {image : Image} → StripesWhole image 0 [] (first_encoder_start image.width) (head_of image.settings image.width image.limit)
+none_whole = record {
   many = omega arith;
   stripe_is = refl;
-  stands = λ names _. none_stands (naming image names);
+  stands = λ names _. none_stands;
 }
 
 -- where the encoder stands with the names that were given
-pub stands_here : (image : Image) (i : ℕ) (rows : List (List Bool)) (at : EncoderStart) (front : List ℕ) → StripesWhole image i rows at front → FrontStands image i rows at front
-stands_here image i rows at front so = so.stands image.settings.named (λ j _. refl)
+pub stands_here : {image : Image} {i : ℕ} {rows : List (List Bool)} {at : EncoderStart} {front : List ℕ} → StripesWhole image i rows at front → FrontStands image i rows at front
+stands_here {image} so = so.stands image.settings.named (λ j _. refl)
 
 -- the same where later stripes get other names
-pub stands_anew : (image : Image) (i : ℕ) (rows : List (List Bool)) (at : EncoderStart) (front : List ℕ) → StripesWhole image i rows at front
-    → (names : List (Option ℕ)) → SameNames i image.settings.named names → StripesWhole (naming image names) i rows at front
-stands_anew image i rows at front so names same = record {
+pub stands_anew : {image : Image} {i : ℕ} {rows : List (List Bool)} {at : EncoderStart} {front : List ℕ} → StripesWhole image i rows at front → (names : List (Option ℕ)) →
+    SameNames i image.settings.named names → StripesWhole (naming image names) i rows at front
+stands_anew so names same = record {
   many = so.many;
   stripe_is = so.stripe_is;
   stands = λ names' same'. so.stands names' (λ j lt. same j lt ∙ same' j lt);
@@ -89,7 +85,7 @@ inside_of n l i some within = went (less_or_not i (stripe_count n l)) where
   went (inr h) =
       let times = (div_ceil_times n l some).0 in
       let down : stripe_count n l * l ≤ i * l = Rattle.std.proofs.Math.Nat.mul-le-mul_right l h in
-      absurd (omega (arith, times, down, within))
+      absurd (omega (arith, within))
 
 -- the first stripes begin more of them
 stripes_begin : (s : Settings) (raster : Raster) (n m : ℕ) → IsBeginning (stripes_up_to s raster n) (stripes_up_to s raster (n + m))
@@ -100,13 +96,13 @@ stripes_begin s raster n (suc m) =
     record {
       rest = b.rest ++ stripe_bytes (coded_stripe (coding_of s raster) (n + m));
       bytes_are =
-          ap (stripes_up_to s raster) same ∙ stripes_more s raster (n + m) ∙ ap (λ z. z ++ stripe_bytes (coded_stripe (coding_of s raster) (n + m))) b.bytes_are
-          ∙ append_assoc (stripes_up_to s raster n) b.rest (stripe_bytes (coded_stripe (coding_of s raster) (n + m)));
+          rw (same, stripes_more s raster (n + m), b.bytes_are) (append_assoc (stripes_up_to s raster n) b.rest (stripe_bytes (coded_stripe (coding_of s raster) (n + m))));
     }
 
 -- a beginning of the stream up to some stripe is one of the stream
-pub front_begins : (s : Settings) (raster : Raster) (n : ℕ) (bytes : List ℕ) → n ≤ stripe_count (height raster) s.stripe_rows → IsBeginning bytes (jbg_up_to s raster n) → IsBeginning bytes (jbg s raster)
-front_begins s raster n bytes few b = record { rest = b.rest ++ (more.rest ++ ending s (height raster)); bytes_are = all_are } where
+pub front_begins : {bytes : List ℕ} (s : Settings) (raster : Raster) (n : ℕ) → n ≤ stripe_count (height raster) s.stripe_rows → IsBeginning bytes (jbg_up_to s raster n) →
+    IsBeginning bytes (jbg s raster)
+front_begins {bytes} s raster n few b = record { rest = b.rest ++ (more.rest ++ ending s (height raster)); bytes_are = all_are } where
   count : ℕ
   count = stripe_count (height raster) s.stripe_rows
 
@@ -114,7 +110,7 @@ front_begins s raster n bytes few b = record { rest = b.rest ++ (more.rest ++ en
   head = head_of s raster.width (height raster)
 
   same : n + (count - n) ≡ count
-  same = omega (arith, few)
+  same = omega arith
 
   more : IsBeginning (stripes_up_to s raster n) (stripes_up_to s raster count)
   more = subst (λ k. IsBeginning (stripes_up_to s raster n) (stripes_up_to s raster k)) same (stripes_begin s raster n (count - n))
@@ -130,81 +126,86 @@ front_begins s raster n bytes few b = record { rest = b.rest ++ (more.rest ++ en
 -- a stripe more
 pub up_to_more : (s : Settings) (raster : Raster) (i : ℕ) → jbg_up_to s raster (i + 1) ≡ jbg_up_to s raster i ++ stripe_bytes (coded_stripe (coding_of s raster) i)
 up_to_more s raster i =
-    ap (λ z. head_of s raster.width (height raster) ++ z) (stripes_more s raster i)
-    ∙ sym (append_assoc (head_of s raster.width (height raster)) (stripes_up_to s raster i) (stripe_bytes (coded_stripe (coding_of s raster) i)))
+    rw (stripes_more s raster i, ← append_assoc (head_of s raster.width (height raster)) (stripes_up_to s raster i) (stripe_bytes (coded_stripe (coding_of s raster) i)))
 
-module _ (image : Image) (i : ℕ) (whole : List (List Bool)) (at : EncoderStart) (front : List ℕ) (some : 1 ≤ image.settings.stripe_rows) (so : StripesWhole image i whole at front) where
+module _ {image : Image} {i : ℕ} {whole : List (List Bool)} {at : EncoderStart} {front : List ℕ} (some : 1 ≤ image.settings.stripe_rows) (so : StripesWhole image i whole at front) where
   abbrev l : ℕ
   l = image.settings.stripe_rows
 
   here : FrontStands image i whole at front
-  here = stands_here image i whole at front so
+  here = stands_here so
 
   -- the stripe of a raster that begins so
-  pub stripe_comes : (part : List (List Bool)) (raster : Raster) → MayCome image (whole ++ part) raster → i * l < height raster → length part ≡ min l (height raster - i * l) → CourseGoes image.settings raster i at part
-  stripe_comes part raster b within enough =
-      course_step image.settings raster i at part some (inside_of (height raster) l i some within) (here.course raster (come_first image whole part raster b) within)
-      (rows_continue (white_row raster.width) raster.rows whole part (i * l) b.first so.many) enough
+  pub stripe_comes : {raster : Raster} {part : List (List Bool)} → MayCome image (whole ++ part) raster → i * l < height raster → length part ≡ min l (height raster - i * l) →
+      CourseGoes image.settings raster i at part
+  stripe_comes {raster} {part} b within enough =
+      course_step part some (inside_of (height raster) l i some within) (here.course raster (come_first part b) within)
+      (rows_continue (white_row raster.width) raster.rows whole part b.first so.many) enough
 
-  next_bytes : (part : List (List Bool)) (raster : Raster) → raster.width ≡ image.width → CourseGoes image.settings raster i at part → stripe_bytes (next_stripe image.settings image.width at part) ≡ stripe_bytes (coded_stripe (coding_of image.settings raster) i)
-  next_bytes part raster wide goes = ap stripe_bytes (subst (λ w. next_stripe image.settings w at part ≡ coded_stripe (coding_of image.settings raster) i) wide goes.stripe)
+  next_bytes : {part : List (List Bool)} {raster : Raster} → raster.width ≡ image.width → CourseGoes image.settings raster i at part →
+      stripe_bytes (next_stripe image.settings image.width at part) ≡ stripe_bytes (coded_stripe (coding_of image.settings raster) i)
+  next_bytes {part} {raster} wide goes = ap stripe_bytes (subst (λ w. next_stripe image.settings w at part ≡ coded_stripe (coding_of image.settings raster) i) wide goes.stripe)
 
   -- the stream up to there, with this stripe
-  pub stripe_more : (part : List (List Bool)) (raster : Raster) → MayCome image (whole ++ part) raster → i * l < height raster → length part ≡ min l (height raster - i * l) → front ++ stripe_bytes (next_stripe image.settings image.width at part) ≡ jbg_up_to image.settings raster (i + 1)
-  stripe_more part raster b within enough =
-      ap (λ z. z ++ stripe_bytes (next_stripe image.settings image.width at part)) (here.front_is raster (come_first image whole part raster b))
-      ∙ ap (λ z. jbg_up_to image.settings raster i ++ z) (next_bytes part raster b.width_is (stripe_comes part raster b within enough))
+  pub stripe_more : {raster : Raster} (part : List (List Bool)) → MayCome image (whole ++ part) raster → i * l < height raster → length part ≡ min l (height raster - i * l) →
+      front ++ stripe_bytes (next_stripe image.settings image.width at part) ≡ jbg_up_to image.settings raster (i + 1)
+  stripe_more {raster} part b within enough =
+      ap (λ z. z ++ stripe_bytes (next_stripe image.settings image.width at part)) (here.front_is raster (come_first part b))
+      ∙ ap (λ z. jbg_up_to image.settings raster i ++ z) (next_bytes b.width_is (stripe_comes b within enough))
       ∙ sym (up_to_more image.settings raster i)
 
   -- a beginning of each stripe that begins with these rows, after those that are whole
-  pub part_begins : (part : List (List Bool)) (bytes : List ℕ) → length part ≤ l → ((later : List (List Bool)) → IsBeginning bytes (stripe_bytes (next_stripe image.settings image.width at (part ++ later))))
-      → (raster : Raster) → MayCome image (whole ++ part) raster → i * l < height raster → IsBeginning (front ++ bytes) (jbg image.settings raster)
-  part_begins part bytes few begins raster b within =
-      front_begins image.settings raster (i + 1) (front ++ bytes) (let inside = inside_of (height raster) l i some within in omega (arith, inside)) (record {
+  pub part_begins : {raster : Raster} (part : List (List Bool)) (bytes : List ℕ) → length part ≤ l →
+      ((later : List (List Bool)) → IsBeginning bytes (stripe_bytes (next_stripe image.settings image.width at (part ++ later)))) → MayCome image (whole ++ part) raster →
+      i * l < height raster →
+      IsBeginning (front ++ bytes) (jbg image.settings raster)
+  part_begins {raster} part bytes few begins b within =
+      front_begins image.settings raster (i + 1) (let inside = inside_of (height raster) l i some within in omega arith) (record {
         rest = p.rest;
         bytes_are =
             up_to_more image.settings raster i
             ∙ ap (λ z. z ++ stripe_bytes (coded_stripe (coding_of image.settings raster) i)) (sym (here.front_is raster first))
-            ∙ ap (λ z. front ++ z) (sym (next_bytes (part ++ go.later) raster b.width_is goes) ∙ p.bytes_are)
+            ∙ ap (λ z. front ++ z) (sym (next_bytes b.width_is goes) ∙ p.bytes_are)
             ∙ sym (append_assoc front bytes p.rest);
       })
     where
       first : MayCome image whole raster
-      first = come_first image whole part raster b
+      first = come_first part b
 
       long : length part ≤ min l (height raster - i * l)
-      long = (let all = come_long image (whole ++ part) raster b in omega (arith, all, length-append whole part, so.many, few))
+      long = (let all = come_long b in omega (arith, all, length-append whole part))
 
       go : RowsGoOn (white_row raster.width) raster.rows (i * l) l part
-      go = rows_go_on (white_row raster.width) raster.rows whole part (i * l) l b.first so.many long
+      go = rows_go_on whole b.first so.many long
 
       goes : CourseGoes image.settings raster i at (part ++ go.later)
-      goes = course_step image.settings raster i at (part ++ go.later) some (inside_of (height raster) l i some within) (here.course raster first within) go.continues (length-append part go.later ∙ go.many)
+      goes = course_step (part ++ go.later) some (inside_of (height raster) l i some within) (here.course raster first within) go.continues (length-append part go.later ∙ go.many)
 
       p : IsBeginning bytes (stripe_bytes (next_stripe image.settings image.width at (part ++ go.later)))
       p = begins go.later
 
   rows_more : (part : List (List Bool)) → length part ≡ l → length (whole ++ part) ≡ (i + 1) * l
-  rows_more part enough = let product : (i + 1) * l ≡ i * l + 1 * l = Rattle.std.proofs.Math.Nat.add-mul i 1 l in omega (arith, length-append whole part, so.many, enough, product)
+  rows_more part enough = let product : (i + 1) * l ≡ i * l + 1 * l = Rattle.std.proofs.Math.Nat.add-mul i 1 l in omega (arith, length-append whole part)
 
   -- a stripe with all its rows
-  part_stands : (part : List (List Bool)) → length part ≡ l → FrontStands image (i + 1) (whole ++ part) (next_encoder_start image.settings image.width at part) (front ++ stripe_bytes (next_stripe image.settings image.width at part))
+  part_stands : (part : List (List Bool)) → length part ≡ l →
+      FrontStands image (i + 1) (whole ++ part) (next_encoder_start image.settings image.width at part) (front ++ stripe_bytes (next_stripe image.settings image.width at part))
   part_stands part enough = record {
-    front_is = λ raster b. stripe_more part raster b (within raster b) (all raster b);
-    course = λ raster b more. subst (λ w. CourseAt image.settings raster (i + 1) (next_encoder_start image.settings w at part)) b.width_is
-        ((stripe_comes part raster b (within raster b) (all raster b)).next (inside_of (height raster) l (i + 1) some more));
+    front_is = λ raster b. stripe_more part b (within raster b) (all raster b);
+    course = λ raster b more. rw (← b.width_is) ((stripe_comes b (within raster b) (all raster b)).next (inside_of (height raster) l (i + 1) some more));
   } where
     long : (raster : Raster) → MayCome image (whole ++ part) raster → i * l + l ≤ height raster
-    long raster b = (let has = come_long image (whole ++ part) raster b in omega (arith, has, length-append whole part, so.many, enough))
+    long raster b = (let has = come_long b in omega (arith, length-append whole part))
 
     within : (raster : Raster) → MayCome image (whole ++ part) raster → i * l < height raster
-    within raster b = omega (arith, long raster b, some)
+    within raster b = omega (arith, long raster b)
 
     all : (raster : Raster) → MayCome image (whole ++ part) raster → length part ≡ min l (height raster - i * l)
-    all raster b = omega (arith, long raster b, enough)
+    all raster b = omega (arith, long raster b)
 
 -- what is written for a stripe is the same where its own name is
-module _ (image : Image) (i : ℕ) (whole : List (List Bool)) (at : EncoderStart) (front : List ℕ) (some : 1 ≤ image.settings.stripe_rows) (so : StripesWhole image i whole at front) (part : List (List Bool)) (enough : length part ≡ image.settings.stripe_rows) where
+module _ {image : Image} {i : ℕ} {whole : List (List Bool)} {at : EncoderStart} {front : List ℕ} (some : 1 ≤ image.settings.stripe_rows) (so : StripesWhole image i whole at front)
+    (part : List (List Bool)) (enough : length part ≡ image.settings.stripe_rows) where
   start_with : Option (ℕ × ℕ) → EncoderStart
   start_with move = record {
     stripe = suc at.stripe;
@@ -220,17 +221,17 @@ module _ (image : Image) (i : ℕ) (whole : List (List Bool)) (at : EncoderStart
   }
 
   move_named : Option ℕ → Option (ℕ × ℕ)
-  move_named name = option_map (λ t. (0, t)) (moved_to name at.carry.offset (chosen_offset (mode_of image.settings.options).two_line image.settings.most_offset image.width at.counted at.carry.offset))
+  move_named name = option_map (λ t. (0, t)) (moved_to name at.carry.offset
+      (chosen_offset (mode_of image.settings.options).two_line image.settings.most_offset image.width at.counted at.carry.offset))
 
   -- with all its rows, whatever is named for the stripes after it
   pub whole_more : StripesWhole image (i + 1) (whole ++ part) (next_encoder_start image.settings image.width at part) (front ++ stripe_bytes (next_stripe image.settings image.width at part))
   unfolding start_with stripe_with move_named
   whole_more = record {
-    many = rows_more image i whole at front some so part enough;
-    stripe_is = (let is : at.stripe ≡ i = so.stripe_is in omega (arith, is));
+    many = rows_more some so part enough;
+    stripe_is = (let is = so.stripe_is in omega arith);
     stands = λ names same.
-        let anew = stands_anew image i whole at front so names (λ j lt. same j (omega (arith, lt))) in
-        let name : slice_index_or names at.stripe None ≡ slice_index_or image.settings.named at.stripe None = sym (same at.stripe (let is : at.stripe ≡ i = so.stripe_is in omega (arith, is))) in
-        subst (λ move. FrontStands (naming image names) (i + 1) (whole ++ part) (start_with move) (front ++ stripe_bytes (stripe_with move))) (ap move_named name)
-        (part_stands (naming image names) i whole at front some anew part enough);
+        let anew = stands_anew so names (λ j lt. same j (omega arith)) in
+        let name = sym (same at.stripe (let is = so.stripe_is in omega arith)) in
+        rw (← name) (part_stands some anew part enough);
   }

@@ -18,20 +18,22 @@ cleared width w = next_cleared width (next_cleared width (next_cleared width w))
 abbrev AreSmall : List ℕ → Type 0
 AreSmall bytes = (k : ℕ) → slice_index bytes k < 256
 
-module _ (width : ℕ) (some : 1 ≤ width) (w0 w1 w2 w3 : Held) (wide : w0.width ≡ width) (e1 : w1 ≡ next_cleared width w0) (e2 : w2 ≡ next_cleared width w1) (e3 : w3 ≡ next_cleared width w2) where
+module _ {width : ℕ} {w1 w2 w3 : Held} (some : 1 ≤ width) (w0 : Held) (wide : w0.width ≡ width) (e1 : w1 ≡ next_cleared width w0) (e2 : w2 ≡ next_cleared width w1)
+    (e3 : w3 ≡ next_cleared width w2) where
   third : w3 ≡ cleared width w0
-  third = e3 ∙ ap (next_cleared width) (e2 ∙ ap (next_cleared width) e1)
+  third = rw (e3, e2, e1)
 
-  pub cleared_lined : MaskedIsPacked → length w0.second ≡ bytes_of_row width → length w1.second ≡ bytes_of_row width → length w2.second ≡ bytes_of_row width → AreSmall w1.current → AreSmall w2.current → AreSmall w3.current → IsLined w3
-  cleared_lined packed long1 long2 long3 small1 small2 small3 = subst IsLined (sym third) (
+  pub cleared_lined : MaskedIsPacked → length w0.second ≡ bytes_of_row width → length w1.second ≡ bytes_of_row width → length w2.second ≡ bytes_of_row width → AreSmall w1.current →
+      AreSmall w2.current → AreSmall w3.current → IsLined w3
+  cleared_lined packed long1 long2 long3 small1 small2 small3 = rw third (
     record { row = pixels_of width (masked_row width w0.current); above = pixels_of width (masked_row width w0.above); second = pixels_of width (masked_row width w0.second) },
     record {
       row_is = is w0.current (sym (ap (λ w. length w.second) (e2 ∙ ap (next_cleared width) e1)) ∙ long3) (subst (λ w. AreSmall w.current) third small3);
       above_is = is w0.above (sym (ap (λ w. length w.second) e1) ∙ long2) (subst (λ w. AreSmall w.current) (e2 ∙ ap (next_cleared width) e1) small2);
       second_is = is w0.second long1 (subst (λ w. AreSmall w.current) e1 small1);
-      row_wide = pixels_many width (masked_row width w0.current) ∙ sym wide;
-      above_wide = pixels_many width (masked_row width w0.above) ∙ sym wide;
-      second_wide = pixels_many width (masked_row width w0.second) ∙ sym wide;
+      row_wide = pixels_many (masked_row width w0.current) ∙ sym wide;
+      above_wide = pixels_many (masked_row width w0.above) ∙ sym wide;
+      second_wide = pixels_many (masked_row width w0.second) ∙ sym wide;
     },
   ) where
     is : (row : List ℕ) → length row ≡ bytes_of_row width → AreSmall (masked_row width row) → masked_row width row ≡ packed_row (pixels_of width (masked_row width row))
@@ -40,10 +42,7 @@ module _ (width : ℕ) (some : 1 ≤ width) (w0 w1 w2 w3 : Held) (wide : w0.widt
 
   pub cleared_stays : PackedStays → IsLined w0 → w3 ≡ w0
   cleared_stays stays (lines, has) =
-      third
-      ∙ ap (λ r. record { width = w0.width; current = r; above = masked_row width w0.above; second = masked_row width w0.second }) (same w0.current lines.row has.row_is has.row_wide)
-      ∙ ap (λ r. record { width = w0.width; current = w0.current; above = r; second = masked_row width w0.second }) (same w0.above lines.above has.above_is has.above_wide)
-      ∙ ap (λ r. record { width = w0.width; current = w0.current; above = w0.above; second = r }) (same w0.second lines.second has.second_is has.second_wide)
+      rw (third, same w0.current lines.row has.row_is has.row_wide, same w0.above lines.above has.above_is has.above_wide, same w0.second lines.second has.second_is has.second_wide)
     where
       same : (bytes : List ℕ) (row : List Rattle.std.proofs.Common.Bool) → bytes ≡ packed_row row → length row ≡ w0.width → masked_row width bytes ≡ bytes
-      same bytes row is long = ap (masked_row width) (is ∙ sym (same_row row)) ∙ stays width row some (long ∙ wide) ∙ same_row row ∙ sym is
+      same bytes row is long = rw (is, ← same_row, stays width row some (long ∙ wide), same_row, ← is)

@@ -39,20 +39,20 @@ body_of (Comment text) = big_bytes 4 (length text) ++ text
 pub one_number : (a b : ℕ) (x y : List ℕ) → a < 2 ^ 32 → b < 2 ^ 32 → big_bytes 4 a ++ x ≡ big_bytes 4 b ++ y → (a ≡ b) × (x ≡ y)
 one_number a b x y p q e = (sym (row_of a x p) ∙ ap (big_number 4) e ∙ row_of b y q, ap (drop 4) e)
 
-pub one_segment : (h : Fields) → IsAccepted h → (s t : Segment) (x y : List ℕ) → IsLegal h s → IsLegal h t → segment_bytes s ++ x ≡ segment_bytes t ++ y → (s ≡ t) × (x ≡ y)
-one_segment h ok (NewLength a) (NewLength b) x y p q e =
-    let k = one_number a b x y (omega (arith, p.2, ok.height_to)) (omega (arith, q.2, ok.height_to)) (ap (drop 2) e) in
+pub one_segment : {h : Fields} → IsAccepted h → (s t : Segment) (x y : List ℕ) → IsLegal h s → IsLegal h t → segment_bytes s ++ x ≡ segment_bytes t ++ y → (s ≡ t) × (x ≡ y)
+one_segment ok (NewLength a) (NewLength b) x y p q e =
+    let k = one_number a b x y (omega arith) (omega arith) (ap (drop 2) e) in
     (ap NewLength k.0, k.1)
-one_segment h ok (Move row offset) (Move row' offset') x y p q e =
-    let k = one_number row row' (offset ∷ 0 ∷ x) (offset' ∷ 0 ∷ y) (omega (arith, p.0, ok.stripe_to)) (omega (arith, q.0, ok.stripe_to)) (ap (drop 2) e) in
+one_segment ok (Move row offset) (Move row' offset') x y p q e =
+    let k = one_number row row' (offset ∷ 0 ∷ x) (offset' ∷ 0 ∷ y) (omega arith) (omega arith) (ap (drop 2) e) in
     let o : offset ∷ 0 ∷ x ≡ offset' ∷ 0 ∷ y = k.1 in
     let same : offset ≡ offset' = cc in
     (ap (λ r. Move r offset) k.0 ∙ ap (Move row') same, (cc))
-one_segment h ok (Comment text) (Comment text') x y p q e =
+one_segment ok (Comment text) (Comment text') x y p q e =
     let k = one_number (length text) (length text') (text ++ x) (text' ++ y) p q (ap (drop 2) e) in
     let front : text ≡ text' = sym (take_at text x (length text) refl) ∙ ap (take (length text)) k.1 ∙ ap (λ n. take n (text' ++ y)) k.0 ∙ take_at text' y (length text') refl in
     (ap Comment front, sym (drop_at text x (length text) refl) ∙ ap (drop (length text)) k.1 ∙ ap (λ n. drop n (text' ++ y)) k.0 ∙ drop_at text' y (length text') refl)
-one_segment h ok s t x y p q e = absurd (let bot : ⊥ = cc in bot)
+one_segment ok s t x y p q e = absurd (let bot : ⊥ = cc in bot)
 
 -- no segment begins as a code byte does
 pub no_segment_in_code : (b : ℕ) (x y : List ℕ) (s : Segment) → stuff b ++ x ≡ segment_bytes s ++ y → ⊥
@@ -71,32 +71,32 @@ pub record EndsPieces (h : Fields) (Fits : List Segment → Type 0) (segments : 
   pub no_code : NoCode x
   pub no_segment : code ≡ [] → (s : Segment) (z : List ℕ) → IsLegal h s → Fits (segments ++ s ∷ []) → x ≡ segment_bytes s ++ z → ⊥
 
-module _ (h : Fields) (ok : IsAccepted h) (Fits : List Segment → Type 0) (closed : (ss ts : List Segment) → Fits (ss ++ ts) → Fits ss) where
-  no_segment_before : (before : List Segment) (c x y : List ℕ) (t : Segment) → IsLegal h t → Fits (before ++ t ∷ []) → EndsPieces h Fits before c x → stuffed c ++ x ≡ segment_bytes t ++ y → ⊥
-  no_segment_before before [] x y t legal fits ends e = ends.no_segment refl t y legal fits e
-  no_segment_before before (b ∷ c) x y t legal fits ends e = no_segment_in_code b (stuffed c ++ x) y t (sym (stuffed_cons b c x) ∙ e)
+module _ {h : Fields} (ok : IsAccepted h) (Fits : List Segment → Type 0) (closed : (ss ts : List Segment) → Fits (ss ++ ts) → Fits ss) where
+  no_segment_before : {before : List Segment} {c x : List ℕ} (y : List ℕ) (t : Segment) → IsLegal h t → Fits (before ++ t ∷ []) → EndsPieces h Fits before c x →
+      stuffed c ++ x ≡ segment_bytes t ++ y → ⊥
+  no_segment_before {c = []} y t legal fits ends e = ends.no_segment refl t y legal fits e
+  no_segment_before {c = (b ∷ c)} {x} y t legal fits ends e = no_segment_in_code b (stuffed c ++ x) y t (sym (stuffed_cons b c x) ∙ e)
 
   -- the cut of a stripe is the only one
-  pub one_cut : (before ss ts : List Segment) (c d x y : List ℕ)
-      → flat_map segment_bytes ss ++ (stuffed c ++ x) ≡ flat_map segment_bytes ts ++ (stuffed d ++ y)
-      → AllByRecursion (IsLegal h) ss → AllByRecursion (IsLegal h) ts → Fits (before ++ ss) → Fits (before ++ ts)
-      → EndsPieces h Fits (before ++ ss) c x → EndsPieces h Fits (before ++ ts) d y
-      → (ss ≡ ts) × (c ≡ d) × (x ≡ y)
-  one_cut before [] [] c d x y e p q f g ends ends' = let k = one_code c d x y e ends.no_code ends'.no_code in (refl, k.0, k.1)
-  one_cut before [] (t ∷ ts) c d x y e p q f g ends ends' =
+  pub one_cut : {c d x y : List ℕ} (before ss ts : List Segment) → flat_map segment_bytes ss ++ (stuffed c ++ x) ≡ flat_map segment_bytes ts ++ (stuffed d ++ y) →
+      AllByRecursion (IsLegal h) ss →
+      AllByRecursion (IsLegal h) ts → Fits (before ++ ss) → Fits (before ++ ts) → EndsPieces h Fits (before ++ ss) c x → EndsPieces h Fits (before ++ ts) d y →
+      (ss ≡ ts) × (c ≡ d) × (x ≡ y)
+  one_cut {c} {d} {x} {y} before [] [] e p q f g ends ends' = let k = one_code c d x y e ends.no_code ends'.no_code in (refl, k.0, k.1)
+  one_cut {c} {d} {x} {y} before [] (t ∷ ts) e p q f g ends ends' =
       let fits : Fits (before ++ t ∷ []) = closed (before ++ t ∷ []) ts (subst Fits (sym (append_assoc before (t ∷ []) ts)) g) in
-      absurd (no_segment_before before c x (flat_map segment_bytes ts ++ (stuffed d ++ y)) t q.0 fits (subst (λ u. EndsPieces h Fits u c x) (append-nil before) ends)
+      absurd (no_segment_before (flat_map segment_bytes ts ++ (stuffed d ++ y)) t q.0 fits (subst (λ u. EndsPieces h Fits u c x) (append-nil before) ends)
       (e ∙ append_assoc (segment_bytes t) (flat_map segment_bytes ts) (stuffed d ++ y)))
-  one_cut before (s ∷ ss) [] c d x y e p q f g ends ends' =
+  one_cut {c} {d} {x} {y} before (s ∷ ss) [] e p q f g ends ends' =
       let fits : Fits (before ++ s ∷ []) = closed (before ++ s ∷ []) ss (subst Fits (sym (append_assoc before (s ∷ []) ss)) f) in
-      absurd (no_segment_before before d y (flat_map segment_bytes ss ++ (stuffed c ++ x)) s p.0 fits (subst (λ u. EndsPieces h Fits u d y) (append-nil before) ends')
+      absurd (no_segment_before (flat_map segment_bytes ss ++ (stuffed c ++ x)) s p.0 fits (subst (λ u. EndsPieces h Fits u d y) (append-nil before) ends')
       (sym e ∙ append_assoc (segment_bytes s) (flat_map segment_bytes ss) (stuffed c ++ x)))
-  one_cut before (s ∷ ss) (t ∷ ts) c d x y e p q f g ends ends' =
-      let first = one_segment h ok s t (flat_map segment_bytes ss ++ (stuffed c ++ x)) (flat_map segment_bytes ts ++ (stuffed d ++ y)) p.0 q.0
+  one_cut {c} {d} {x} {y} before (s ∷ ss) (t ∷ ts) e p q f g ends ends' =
+      let first = one_segment ok s t (flat_map segment_bytes ss ++ (stuffed c ++ x)) (flat_map segment_bytes ts ++ (stuffed d ++ y)) p.0 q.0
       (sym (append_assoc (segment_bytes s) (flat_map segment_bytes ss) (stuffed c ++ x)) ∙ e ∙ append_assoc (segment_bytes t) (flat_map segment_bytes ts) (stuffed d ++ y)) in
       let a : before ++ s ∷ ss ≡ (before ++ s ∷ []) ++ ss = sym (append_assoc before (s ∷ []) ss) in
       let b : before ++ t ∷ ts ≡ (before ++ s ∷ []) ++ ts = ap (λ u. before ++ u ∷ ts) (sym first.0) ∙ sym (append_assoc before (s ∷ []) ts) in
-      let rest = one_cut (before ++ s ∷ []) ss ts c d x y first.1 p.1 q.1 (subst Fits a f) (subst Fits b g)
+      let rest = one_cut (before ++ s ∷ []) ss ts first.1 p.1 q.1 (subst Fits a f) (subst Fits b g)
       (subst (λ u. EndsPieces h Fits u c x) a ends) (subst (λ u. EndsPieces h Fits u d y) b ends') in
       (ap (λ z. z ∷ ss) first.0 ∙ ap (λ z. t ∷ z) rest.0, rest.1, rest.2)
 
@@ -104,7 +104,8 @@ module _ (h : Fields) (ok : IsAccepted h) (Fits : List Segment → Type 0) (clos
 
 -- a stripe, cut before its end marker
 pub cut_at_marker : (s : Stripe) (x : List ℕ) → stripe_bytes s ++ x ≡ flat_map segment_bytes s.segments ++ (stuffed s.code ++ (marker_bytes s.reset ++ x))
-cut_at_marker s x = append_assoc (flat_map segment_bytes s.segments) (stuffed s.code ++ marker_bytes s.reset) x ∙ ap (λ z. flat_map segment_bytes s.segments ++ z) (append_assoc (stuffed s.code) (marker_bytes s.reset) x)
+cut_at_marker s x = append_assoc (flat_map segment_bytes s.segments) (stuffed s.code ++ marker_bytes s.reset) x
+    ∙ ap (λ z. flat_map segment_bytes s.segments ++ z) (append_assoc (stuffed s.code) (marker_bytes s.reset) x)
 
 pub marker_no_code : (reset : Bool) (x : List ℕ) → NoCode (marker_bytes reset ++ x)
 marker_no_code reset x b z e = went reset (stuff_cases b) e where
@@ -134,26 +135,29 @@ IsStripe h s = IsBegun h s.segments s.code
 abbrev Any : List Segment → Type 0
 Any ss = Unit {0}
 
-pub one_stripe : (h : Fields) → IsAccepted h → (s t : Stripe) (x y : List ℕ) → IsStripe h s → IsStripe h t → stripe_bytes s ++ x ≡ stripe_bytes t ++ y → (s ≡ t) × (x ≡ y)
-one_stripe h ok s t x y p q e =
-    let cut = one_cut h ok Any (λ _ _ _. tt) [] s.segments t.segments s.code t.code (marker_bytes s.reset ++ x) (marker_bytes t.reset ++ y) (sym (cut_at_marker s x) ∙ e ∙ cut_at_marker t y)
+pub one_stripe : {h : Fields} → IsAccepted h → (s t : Stripe) (x y : List ℕ) → IsStripe h s → IsStripe h t → stripe_bytes s ++ x ≡ stripe_bytes t ++ y → (s ≡ t) × (x ≡ y)
+one_stripe {h} ok s t x y p q e =
+    let cut = one_cut ok Any (λ _ _ _. tt) [] s.segments t.segments (sym (cut_at_marker s x) ∙ e ∙ cut_at_marker t y)
     p.legal q.legal tt tt (marker_ends h Any s.segments s.code s.reset x) (marker_ends h Any t.segments t.code t.reset y) in
     let end = one_marker s.reset t.reset x y cut.2 in
     let make : List Segment × List ℕ × Bool → Stripe = λ u. record { segments = u.0; code = u.1; reset = u.2 } in
     (ap (λ z. make (z, s.code, s.reset)) cut.0 ∙ ap (λ z. make (t.segments, z, s.reset)) cut.1 ∙ ap (λ z. make (t.segments, t.code, z)) end.0, end.1)
 
 -- as many whole stripes, and the same bytes after them
-pub one_front : (h : Fields) → IsAccepted h → (ss ts : List Stripe) (x y : List ℕ) → AllByRecursion (IsStripe h) ss → AllByRecursion (IsStripe h) ts → length ss ≡ length ts → flat_map stripe_bytes ss ++ x ≡ flat_map stripe_bytes ts ++ y → (ss ≡ ts) × (x ≡ y)
-one_front h ok [] [] x y p q n e = (refl, e)
-one_front h ok (s ∷ ss) (t ∷ ts) x y p q n e =
-    let first = one_stripe h ok s t (flat_map stripe_bytes ss ++ x) (flat_map stripe_bytes ts ++ y) p.0 q.0 (sym (append_assoc (stripe_bytes s) (flat_map stripe_bytes ss) x) ∙ e ∙ append_assoc (stripe_bytes t) (flat_map stripe_bytes ts) y) in
-    let fewer : length ss ≡ length ts = omega (arith, n) in
-    let rest = one_front h ok ss ts x y p.1 q.1 fewer first.1 in
+pub one_front : {h : Fields} → IsAccepted h → (ss ts : List Stripe) (x y : List ℕ) → AllByRecursion (IsStripe h) ss → AllByRecursion (IsStripe h) ts → length ss ≡ length ts →
+    flat_map stripe_bytes ss ++ x ≡ flat_map stripe_bytes ts ++ y → (ss ≡ ts) × (x ≡ y)
+one_front ok [] [] x y p q n e = (refl, e)
+one_front ok (s ∷ ss) (t ∷ ts) x y p q n e =
+    let first = one_stripe ok s t (flat_map stripe_bytes ss ++ x) (flat_map stripe_bytes ts ++ y) p.0 q.0
+    (sym (append_assoc (stripe_bytes s) (flat_map stripe_bytes ss) x) ∙ e ∙ append_assoc (stripe_bytes t) (flat_map stripe_bytes ts) y) in
+    let fewer : length ss ≡ length ts = omega arith in
+    let rest = one_front ok ss ts x y p.1 q.1 fewer first.1 in
     (ap (λ z. z ∷ ss) first.0 ∙ ap (λ z. t ∷ z) rest.0, rest.1)
-one_front h ok ss ts x y p q n e = absurd (omega (arith, n))
+one_front ok ss ts x y p q n e = absurd (omega arith)
 
-pub one_parts : (h : Fields) → IsAccepted h → (ss ts : List Stripe) (x y : List ℕ) → AllByRecursion (IsStripe h) ss → AllByRecursion (IsStripe h) ts → length ss ≡ length ts → flat_map stripe_bytes ss ++ x ≡ flat_map stripe_bytes ts ++ y → ss ≡ ts
-one_parts h ok ss ts x y p q n e = (one_front h ok ss ts x y p q n e).0
+pub one_parts : {h : Fields} → IsAccepted h → (ss ts : List Stripe) (x y : List ℕ) → AllByRecursion (IsStripe h) ss → AllByRecursion (IsStripe h) ts → length ss ≡ length ts →
+    flat_map stripe_bytes ss ++ x ≡ flat_map stripe_bytes ts ++ y → ss ≡ ts
+one_parts ok ss ts x y p q n e = (one_front ok ss ts x y p q n e).0
 
 -- ---- a stripe that isn't whole
 
@@ -163,8 +167,8 @@ spot_of height k n = record { height = height; entities = k; heights = n }
 none_some : {f : Fault} → None ≡ Some f → ⊥
 none_some e = cc
 
-pub no_code_in : (h : Fields) (spot : Spot) (m : ℕ) (c : Bool) (rest : List ℕ) (f : Fault) → rest_fault h spot m c rest ≡ Some f → NoCode rest
-no_code_in h spot m c rest f e b z is = went (stuff_cases b) where
+pub no_code_in : {f : Fault} (h : Fields) (spot : Spot) (m : ℕ) (c : Bool) (rest : List ℕ) → rest_fault h spot m c rest ≡ Some f → NoCode rest
+no_code_in {f} h spot m c rest e b z is = went (stuff_cases b) where
   plain : b ≢ 255 → (y : List ℕ) → rest_fault h spot m c (b ∷ y) ≡ Some f → ⊥
   plain n [] e = let t : nat_eq b 255 ≡ false = grind (arith, nat_tests) in none_some (ap (λ u. cond u (Some Truncated) None) (sym t) ∙ e)
   plain n (y ∷ ys) e = let t : nat_eq b 255 ≡ false = grind (arith, nat_tests) in none_some (ap (λ u. cond u (escape_fault h spot m c y ys) None) (sym t) ∙ e)
@@ -173,15 +177,15 @@ no_code_in h spot m c rest f e b z is = went (stuff_cases b) where
   went (inl p) = none_some (subst (λ u. rest_fault h spot m c u ≡ Some f) (is ∙ ap (λ u. u ++ z) p.1) e)
   went (inr p) = plain p.0 z (subst (λ u. rest_fault h spot m c u ≡ Some f) (is ∙ ap (λ u. u ++ z) p.1) e)
 
-pub no_marker_fault : (h : Fields) (spot : Spot) (m : ℕ) (c reset : Bool) (x : List ℕ) (f : Fault) → rest_fault h spot m c (marker_bytes reset ++ x) ≡ Some f → ⊥
-no_marker_fault h spot m c true x f k = none_some k
-no_marker_fault h spot m c false x f k = none_some k
+pub no_marker_fault : {f : Fault} (h : Fields) (spot : Spot) (m : ℕ) (c reset : Bool) (x : List ℕ) → rest_fault h spot m c (marker_bytes reset ++ x) ≡ Some f → ⊥
+no_marker_fault h spot m c true x k = none_some k
+no_marker_fault h spot m c false x k = none_some k
 
 -- a height that may be in use is valid after so many data entities
 abbrev pub Suits : Fields → ℕ → ℕ → Type 0
 Suits h height k = 1 ≤ height → is_valid_length h k height ≡ true
 
-module _ (h : Fields) (ok : IsAccepted h) (height k n : ℕ) (suits : Suits h height k) where
+module _ {h : Fields} (ok : IsAccepted h) (height k n : ℕ) (suits : Suits h height k) where
   -- segments that may be in one stripe, after n heights
   pub record Fits (ss : List Segment) : Type 0 where
     pub one_move : count_by is_move ss ≤ 1
@@ -190,48 +194,51 @@ module _ (h : Fields) (ok : IsAccepted h) (height k n : ℕ) (suits : Suits h he
   fits_closed : (ss ts : List Segment) → Fits (ss ++ ts) → Fits ss
   fits_closed ss ts f = record { one_move = few ss ts f.one_move; gives = gives_left height n ss ts f.gives } where
     few : (ss ts : List Segment) → count_by is_move (ss ++ ts) ≤ 1 → count_by is_move ss ≤ 1
-    few ss ts e = let c = sum_by-append (λ y. cond (is_move y) 1 0) ss ts in omega (arith, c, e)
+    few ss ts e = let c = sum_by-append (λ y. cond (is_move y) 1 0) ss ts in omega arith
 
-  fault_ends : (segments : List Segment) (code rest : List ℕ) (f : Fault) →
-      rest_fault h (spot_of height k (n + length (lengths segments))) (count_by is_move segments) (not (is_nil code)) rest ≡ Some f → EndsPieces h Fits segments code rest
-  fault_ends segments code rest f e = record {
-    no_code = no_code_in h (spot_of height k (n + length (lengths segments))) (count_by is_move segments) (not (is_nil code)) rest f e;
-    no_segment = λ nil s z legal fits is. no s z legal fits is (subst (λ u. rest_fault h (spot_of height k (n + length (lengths segments))) (count_by is_move segments) (not (is_nil u)) rest ≡ Some f) nil e);
+  fault_ends : {f : Fault} (segments : List Segment) (code rest : List ℕ) →
+      rest_fault h (spot_of height k (n + length (lengths segments))) (count_by is_move segments) (not (is_nil code)) rest ≡ Some f →
+      EndsPieces h Fits segments code rest
+  fault_ends {f} segments code rest e = record {
+    no_code = no_code_in h (spot_of height k (n + length (lengths segments))) (count_by is_move segments) (not (is_nil code)) rest e;
+    no_segment = λ nil s z legal fits is. no s z legal fits is
+        (subst (λ u. rest_fault h (spot_of height k (n + length (lengths segments))) (count_by is_move segments) (not (is_nil u)) rest ≡ Some f) nil e);
   } where
     no : (s : Segment) (z : List ℕ) → IsLegal h s → Fits (segments ++ s ∷ []) → rest ≡ segment_bytes s ++ z →
         rest_fault h (spot_of height k (n + length (lengths segments))) (count_by is_move segments) false rest ≡ Some f → ⊥
     no (NewLength a) z legal fits is e =
         let given = gives_right height n segments (NewLength a ∷ []) fits.gives in
         let same : a ≡ height = given.this.0 in
-        let none : n + length (lengths segments) ≡ 0 = (let one : (n + length (lengths segments)) + 1 ≤ 1 = given.one in omega (arith, one)) in
+        let none : n + length (lengths segments) ≡ 0 = (let one : (n + length (lengths segments)) + 1 ≤ 1 = given.one in omega arith) in
         let e1 : length_fault h (spot_of height k (n + length (lengths segments))) (big_bytes 4 a ++ z) ≡ Some f =
         subst (λ u. rest_fault h (spot_of height k (n + length (lengths segments))) (count_by is_move segments) false u ≡ Some f) is e in
         let e2 : length_fault h (spot_of height k 0) (big_bytes 4 a ++ z) ≡ Some f = subst (λ u. length_fault h (spot_of height k u) (big_bytes 4 a ++ z) ≡ Some f) none e1 in
         let e3 : length_fault h (spot_of height k 0) (big_bytes 4 height ++ z) ≡ Some f = subst (λ u. length_fault h (spot_of height k 0) (big_bytes 4 u ++ z) ≡ Some f) same e2 in
-        none_some (sym (length_whole h height k legal.0 z (omega (arith, legal.2, same, ok.height_to)) (suits (omega (arith, legal.1, same)))) ∙ e3)
+        none_some (sym (length_whole h height k legal.0 z (omega arith) (suits (omega arith))) ∙ e3)
     no (Move row offset) z legal fits is e =
-        let none : count_by is_move segments ≡ 0 = (let c = count_push is_move segments (Move row offset) in omega (arith, c, fits.one_move)) in
+        let none : count_by is_move segments ≡ 0 = (let c = count_push is_move segments (Move row offset) in omega arith) in
         let e1 : move_fault h (count_by is_move segments) (big_bytes 4 row ++ offset ∷ 0 ∷ z) ≡ Some f =
         subst (λ u. rest_fault h (spot_of height k (n + length (lengths segments))) (count_by is_move segments) false u ≡ Some f) is e in
         let e2 : move_fault h 0 (big_bytes 4 row ++ offset ∷ 0 ∷ z) ≡ Some f = subst (λ u. move_fault h u (big_bytes 4 row ++ offset ∷ 0 ∷ z) ≡ Some f) none e1 in
-        none_some (sym (move_whole h row offset z (omega (arith, legal.0, ok.stripe_to)) legal.0 legal.1) ∙ e2)
+        none_some (sym (move_whole h row offset z (omega arith) legal.0 legal.1) ∙ e2)
     no (Comment text) z legal fits is e =
         let e1 : comment_fault (big_bytes 4 (length text) ++ (text ++ z)) ≡ Some f =
         subst (λ u. rest_fault h (spot_of height k (n + length (lengths segments))) (count_by is_move segments) false u ≡ Some f) is e in
         none_some (sym (comment_whole text z legal) ∙ e1)
 
-  left_fits : (tail : List ℕ) (f : Fault) (q : StripeFault h (spot_of height k n) tail f) → Fits q.segments
-  left_fits tail f q = record { one_move = q.begun.one_move; gives = q.gives }
+  left_fits : {tail : List ℕ} {f : Fault} (q : StripeFault h (spot_of height k n) tail f) → Fits q.segments
+  left_fits q = record { one_move = q.begun.one_move; gives = q.gives }
 
-  left_ends : (tail : List ℕ) (f : Fault) (q : StripeFault h (spot_of height k n) tail f) → EndsPieces h Fits q.segments q.code q.rest
-  left_ends tail f q = fault_ends q.segments q.code q.rest f q.rest_has
+  left_ends : {tail : List ℕ} {f : Fault} (q : StripeFault h (spot_of height k n) tail f) → EndsPieces h Fits q.segments q.code q.rest
+  left_ends q = fault_ends q.segments q.code q.rest q.rest_has
 
   -- a stripe that isn't whole is no stripe
-  no_stripe_in_fault : (s : Stripe) (x tail : List ℕ) (f : Fault) → IsStripe h s → GiveOnly height n s.segments → StripeFault h (spot_of height k n) tail f → stripe_bytes s ++ x ≡ tail → ⊥
-  no_stripe_in_fault s x tail f p g q e =
-      let cut = one_cut h ok Fits fits_closed [] s.segments q.segments s.code q.code (marker_bytes s.reset ++ x) q.rest (sym (cut_at_marker s x) ∙ e ∙ q.bytes_are)
-      p.legal q.begun.legal (record { one_move = p.one_move; gives = g }) (left_fits tail f q) (marker_ends h Fits s.segments s.code s.reset x) (left_ends tail f q) in
-      no_marker_fault h (spot_of height k (n + length (lengths q.segments))) (count_by is_move q.segments) (not (is_nil q.code)) s.reset x f
+  no_stripe_in_fault : {tail : List ℕ} {f : Fault} (s : Stripe) (x : List ℕ) → IsStripe h s → GiveOnly height n s.segments → StripeFault h (spot_of height k n) tail f →
+      stripe_bytes s ++ x ≡ tail → ⊥
+  no_stripe_in_fault {f} s x p g q e =
+      let cut = one_cut ok Fits fits_closed [] s.segments q.segments (sym (cut_at_marker s x) ∙ e ∙ q.bytes_are)
+      p.legal q.begun.legal (record { one_move = p.one_move; gives = g }) (left_fits q) (marker_ends h Fits s.segments s.code s.reset x) (left_ends q) in
+      no_marker_fault h (spot_of height k (n + length (lengths q.segments))) (count_by is_move q.segments) (not (is_nil q.code)) s.reset x
       (subst (λ z. rest_fault h (spot_of height k (n + length (lengths q.segments))) (count_by is_move q.segments) (not (is_nil q.code)) z ≡ Some f) (sym cut.2) q.rest_has)
 
 -- two cuts of a stripe that isn't whole are one
@@ -241,11 +248,13 @@ pub record SameStripeFault {h : Fields} {spot spot' : Spot} {x y : List ℕ} {f 
   pub rest : p.rest ≡ q.rest
   pub fault : f ≡ g
 
-pub one_stripe_fault : (h : Fields) → IsAccepted h → (height k n : ℕ) → Suits h height k → (x y : List ℕ) (f g : Fault) (p : StripeFault h (spot_of height k n) x f) (q : StripeFault h (spot_of height k n) y g) → x ≡ y → SameStripeFault p q
-one_stripe_fault h ok height k n suits x y f g p q e =
-    let cut = one_cut h ok (Fits h ok height k n suits) (fits_closed h ok height k n suits) [] p.segments q.segments p.code q.code p.rest q.rest (sym p.bytes_are ∙ e ∙ q.bytes_are)
-    p.begun.legal q.begun.legal (left_fits h ok height k n suits x f p) (left_fits h ok height k n suits y g q)
-    (left_ends h ok height k n suits x f p) (left_ends h ok height k n suits y g q) in
+pub one_stripe_fault : {h : Fields} {x y : List ℕ} {f g : Fault} → IsAccepted h → (height k n : ℕ) → Suits h height k →
+    (p : StripeFault h (spot_of height k n) x f) (q : StripeFault h (spot_of height k n) y g) →
+    x ≡ y → SameStripeFault p q
+one_stripe_fault {h} {f} {g} ok height k n suits p q e =
+    let cut = one_cut ok (Fits ok height k n suits) (fits_closed ok height k n suits) [] p.segments q.segments (sym p.bytes_are ∙ e ∙ q.bytes_are)
+    p.begun.legal q.begun.legal (left_fits ok height k n suits p) (left_fits ok height k n suits q)
+    (left_ends ok height k n suits p) (left_ends ok height k n suits q) in
     let same : rest_fault h (spot_of height k (n + length (lengths p.segments))) (count_by is_move p.segments) (not (is_nil p.code)) p.rest
     ≡ rest_fault h (spot_of height k (n + length (lengths q.segments))) (count_by is_move q.segments) (not (is_nil q.code)) q.rest =
     ap (λ z. rest_fault h (spot_of height k (n + length (lengths z))) (count_by is_move z) (not (is_nil p.code)) p.rest) cut.0
@@ -260,13 +269,13 @@ one_stripe_fault h ok height k n suits x y f g p q e =
 abbrev pub spot_on : ℕ → ℕ → ℕ → List Stripe → Spot
 spot_on height k n ss = spot_of height (k + length ss) (n + length (lengths (all_segments ss)))
 
-module _ (h : Fields) (ok : IsAccepted h) (height most : ℕ) (suits : (k : ℕ) → k ≤ most → Suits h height k) where
+module _ {h : Fields} (ok : IsAccepted h) (height most : ℕ) (suits : (k : ℕ) → k ≤ most → Suits h height k) where
   -- what is left after the first of them stands where it stood
   onward : (k n : ℕ) (s : Stripe) (ss : List Stripe) → spot_on height k n (s ∷ ss) ≡ spot_on height (suc k) (n + length (lengths s.segments)) ss
   onward k n s ss =
       let a : k + suc (length ss) ≡ suc k + length ss = omega arith in
       let c = many_lengths s.segments (all_segments ss) in
-      let b : n + length (lengths (all_segments (s ∷ ss))) ≡ (n + length (lengths s.segments)) + length (lengths (all_segments ss)) = omega (arith, c) in
+      let b : n + length (lengths (all_segments (s ∷ ss))) ≡ (n + length (lengths s.segments)) + length (lengths (all_segments ss)) = omega arith in
       ap (λ u. spot_of height u (n + length (lengths (all_segments (s ∷ ss))))) a ∙ ap (spot_of height (suc k + length ss)) b
 
   here : (k n : ℕ) → spot_on height k n [] ≡ spot_of height k n
@@ -275,43 +284,46 @@ module _ (h : Fields) (ok : IsAccepted h) (height most : ℕ) (suits : (k : ℕ)
       let b : n + 0 ≡ n = omega arith in
       ap (λ u. spot_of height u (n + 0)) a ∙ ap (spot_of height k) b
 
-  first_gives : (n : ℕ) (s : Stripe) (ss : List Stripe) → GiveOnly height n (all_segments (s ∷ ss)) → GiveOnly height n s.segments
-  first_gives n s ss g = gives_left height n s.segments (all_segments ss) g
+  first_gives : {n : ℕ} (s : Stripe) (ss : List Stripe) → GiveOnly height n (all_segments (s ∷ ss)) → GiveOnly height n s.segments
+  first_gives {n} s ss g = gives_left height n s.segments (all_segments ss) g
 
-  rest_gives : (n : ℕ) (s : Stripe) (ss : List Stripe) → GiveOnly height n (all_segments (s ∷ ss)) → GiveOnly height (n + length (lengths s.segments)) (all_segments ss)
-  rest_gives n s ss g = gives_right height n s.segments (all_segments ss) g
+  rest_gives : {n : ℕ} (s : Stripe) (ss : List Stripe) → GiveOnly height n (all_segments (s ∷ ss)) → GiveOnly height (n + length (lengths s.segments)) (all_segments ss)
+  rest_gives {n} s ss g = gives_right height n s.segments (all_segments ss) g
 
   -- whole stripes, or fewer and one that isn't whole
-  pub never_both : (k n : ℕ) (ss ts : List Stripe) (x tail : List ℕ) (f : Fault) → AllByRecursion (IsStripe h) ss → AllByRecursion (IsStripe h) ts → GiveOnly height n (all_segments ss) →
+  pub never_both : {tail : List ℕ} {f : Fault} (k n : ℕ) (ss ts : List Stripe) (x : List ℕ) → AllByRecursion (IsStripe h) ss → AllByRecursion (IsStripe h) ts →
+      GiveOnly height n (all_segments ss) →
       k + length ts ≤ most → length ts < length ss → StripeFault h (spot_on height k n ts) tail f → flat_map stripe_bytes ss ++ x ≡ flat_map stripe_bytes ts ++ tail → ⊥
-  never_both k n [] ts x tail f p q g le less w e = omega (arith, less)
-  never_both k n (s ∷ ss) [] x tail f p q g le less w e =
-      no_stripe_in_fault h ok height k n (suits k (omega (arith, le))) s (flat_map stripe_bytes ss ++ x) tail f p.0 (first_gives n s ss g) (subst (λ u. StripeFault h u tail f) (here k n) w)
+  never_both k n [] ts x p q g le less w e = omega arith
+  never_both {tail} {f} k n (s ∷ ss) [] x p q g le less w e =
+      no_stripe_in_fault ok height k n (suits k (omega arith)) s (flat_map stripe_bytes ss ++ x) p.0 (first_gives s ss g) (subst (λ u. StripeFault h u tail f) (here k n) w)
       (sym (append_assoc (stripe_bytes s) (flat_map stripe_bytes ss) x) ∙ e)
-  never_both k n (s ∷ ss) (t ∷ ts) x tail f p q g le less w e =
-      let first = one_stripe h ok s t (flat_map stripe_bytes ss ++ x) (flat_map stripe_bytes ts ++ tail) p.0 q.0 (sym (append_assoc (stripe_bytes s) (flat_map stripe_bytes ss) x) ∙ e ∙ append_assoc (stripe_bytes t) (flat_map stripe_bytes ts) tail) in
+  never_both {tail} {f} k n (s ∷ ss) (t ∷ ts) x p q g le less w e =
+      let first = one_stripe ok s t (flat_map stripe_bytes ss ++ x) (flat_map stripe_bytes ts ++ tail) p.0 q.0
+      (sym (append_assoc (stripe_bytes s) (flat_map stripe_bytes ss) x) ∙ e ∙ append_assoc (stripe_bytes t) (flat_map stripe_bytes ts) tail) in
       let w' : StripeFault h (spot_on height (suc k) (n + length (lengths s.segments)) ts) tail f =
       subst (λ u. StripeFault h (spot_on height (suc k) (n + length (lengths u.segments)) ts) tail f) (sym first.0) (subst (λ u. StripeFault h u tail f) (onward k n t ts) w) in
-      never_both (suc k) (n + length (lengths s.segments)) ss ts x tail f p.1 q.1 (rest_gives n s ss g) (omega (arith, le)) (omega (arith, less)) w' first.1
+      never_both (suc k) (n + length (lengths s.segments)) ss ts x p.1 q.1 (rest_gives s ss g) (omega arith) (omega arith) w' first.1
 
   -- two cuts that end in a stripe that isn't whole have the same stripes, and leave the same bytes
-  pub same_front : (k n : ℕ) (ss ts : List Stripe) (x y : List ℕ) (f g : Fault) → AllByRecursion (IsStripe h) ss → AllByRecursion (IsStripe h) ts →
-      GiveOnly height n (all_segments ss) → GiveOnly height n (all_segments ts) → k + length ss ≤ most → k + length ts ≤ most →
-      StripeFault h (spot_on height k n ss) x f → StripeFault h (spot_on height k n ts) y g → flat_map stripe_bytes ss ++ x ≡ flat_map stripe_bytes ts ++ y → (ss ≡ ts) × (x ≡ y)
-  same_front k n [] [] x y f g p q gs gt ls lt v w e = (refl, e)
-  same_front k n (s ∷ ss) [] x y f g p q gs gt ls lt v w e =
-      absurd (no_stripe_in_fault h ok height k n (suits k (omega (arith, lt))) s (flat_map stripe_bytes ss ++ x) y g p.0 (first_gives n s ss gs) (subst (λ u. StripeFault h u y g) (here k n) w)
+  pub same_front : {x y : List ℕ} {f g : Fault} (k n : ℕ) (ss ts : List Stripe) → AllByRecursion (IsStripe h) ss → AllByRecursion (IsStripe h) ts → GiveOnly height n (all_segments ss) →
+      GiveOnly height n (all_segments ts) → k + length ss ≤ most → k + length ts ≤ most → StripeFault h (spot_on height k n ss) x f → StripeFault h (spot_on height k n ts) y g →
+      flat_map stripe_bytes ss ++ x ≡ flat_map stripe_bytes ts ++ y → (ss ≡ ts) × (x ≡ y)
+  same_front k n [] [] p q gs gt ls lt v w e = (refl, e)
+  same_front {x} {y} {g} k n (s ∷ ss) [] p q gs gt ls lt v w e =
+      absurd (no_stripe_in_fault ok height k n (suits k (omega arith)) s (flat_map stripe_bytes ss ++ x) p.0 (first_gives s ss gs) (subst (λ u. StripeFault h u y g) (here k n) w)
       (sym (append_assoc (stripe_bytes s) (flat_map stripe_bytes ss) x) ∙ e))
-  same_front k n [] (t ∷ ts) x y f g p q gs gt ls lt v w e =
-      absurd (no_stripe_in_fault h ok height k n (suits k (omega (arith, ls))) t (flat_map stripe_bytes ts ++ y) x f q.0 (first_gives n t ts gt) (subst (λ u. StripeFault h u x f) (here k n) v)
+  same_front {x} {y} {f} k n [] (t ∷ ts) p q gs gt ls lt v w e =
+      absurd (no_stripe_in_fault ok height k n (suits k (omega arith)) t (flat_map stripe_bytes ts ++ y) q.0 (first_gives t ts gt) (subst (λ u. StripeFault h u x f) (here k n) v)
       (sym (append_assoc (stripe_bytes t) (flat_map stripe_bytes ts) y) ∙ sym e))
-  same_front k n (s ∷ ss) (t ∷ ts) x y f g p q gs gt ls lt v w e =
-      let first = one_stripe h ok s t (flat_map stripe_bytes ss ++ x) (flat_map stripe_bytes ts ++ y) p.0 q.0 (sym (append_assoc (stripe_bytes s) (flat_map stripe_bytes ss) x) ∙ e ∙ append_assoc (stripe_bytes t) (flat_map stripe_bytes ts) y) in
+  same_front {x} {y} {f} {g} k n (s ∷ ss) (t ∷ ts) p q gs gt ls lt v w e =
+      let first = one_stripe ok s t (flat_map stripe_bytes ss ++ x) (flat_map stripe_bytes ts ++ y) p.0 q.0
+      (sym (append_assoc (stripe_bytes s) (flat_map stripe_bytes ss) x) ∙ e ∙ append_assoc (stripe_bytes t) (flat_map stripe_bytes ts) y) in
       let back = sym first.0 in
       let w' : StripeFault h (spot_on height (suc k) (n + length (lengths s.segments)) ts) y g =
       subst (λ u. StripeFault h (spot_on height (suc k) (n + length (lengths u.segments)) ts) y g) back (subst (λ u. StripeFault h u y g) (onward k n t ts) w) in
-      let gt' : GiveOnly height (n + length (lengths s.segments)) (all_segments ts) = subst (λ u. GiveOnly height (n + length (lengths u.segments)) (all_segments ts)) back (rest_gives n t ts gt) in
-      let rest = same_front (suc k) (n + length (lengths s.segments)) ss ts x y f g p.1 q.1 (rest_gives n s ss gs) gt' (omega (arith, ls)) (omega (arith, lt))
+      let gt' : GiveOnly height (n + length (lengths s.segments)) (all_segments ts) = subst (λ u. GiveOnly height (n + length (lengths u.segments)) (all_segments ts)) back (rest_gives t ts gt) in
+      let rest = same_front (suc k) (n + length (lengths s.segments)) ss ts p.1 q.1 (rest_gives s ss gs) gt' (omega arith) (omega arith)
       (subst (λ u. StripeFault h u x f) (onward k n s ss) v) w' first.1 in
       (ap (λ z. z ∷ ss) first.0 ∙ ap (λ z. t ∷ z) rest.0, rest.1)
 
@@ -322,27 +334,29 @@ module _ (h : Fields) (ok : IsAccepted h) (height most : ℕ) (suits : (k : ℕ)
       ap (λ u. spot_of height u (length (lengths (all_segments ss)))) a ∙ ap (spot_of height (0 + length ss)) b
 
   -- a body has its parts, or it is broken
-  pub parts_or_fault : (ss ts : List Stripe) (x tail : List ℕ) (f : Fault) → AllByRecursion (IsStripe h) ss → AllByRecursion (IsStripe h) ts → GiveOnly height 0 (all_segments ss) →
-      length ts ≤ most → length ts < length ss → StripeFault h (spot_after height ts) tail f → flat_map stripe_bytes ss ++ x ≡ flat_map stripe_bytes ts ++ tail → ⊥
-  parts_or_fault ss ts x tail f p q g le less w e =
-      never_both 0 0 ss ts x tail f p q g (omega (arith, le)) less (subst (λ u. StripeFault h u tail f) (after_is ts) w) e
+  pub parts_or_fault : {tail : List ℕ} {f : Fault} (ss ts : List Stripe) (x : List ℕ) → AllByRecursion (IsStripe h) ss → AllByRecursion (IsStripe h) ts →
+      GiveOnly height 0 (all_segments ss) →
+      length ts ≤ most →
+      length ts < length ss → StripeFault h (spot_after height ts) tail f → flat_map stripe_bytes ss ++ x ≡ flat_map stripe_bytes ts ++ tail → ⊥
+  parts_or_fault {tail} {f} ss ts x p q g le less w e =
+      never_both 0 0 ss ts x p q g (omega arith) less (subst (λ u. StripeFault h u tail f) (after_is ts) w) e
 
   -- two cuts that end in a stripe that isn't whole are one
   pub record SameCut {x y : List ℕ} {f g : Fault} (ss ts : List Stripe) (v : StripeFault h (spot_after height ss) x f) (w : StripeFault h (spot_after height ts) y g) : Type 0 where
     pub stripes : ss ≡ ts
     pub broken : SameStripeFault v w
 
-  pub one_broken : (ss ts : List Stripe) (x y : List ℕ) (f g : Fault) → AllByRecursion (IsStripe h) ss → AllByRecursion (IsStripe h) ts →
-      GiveOnly height 0 (all_segments ss) → GiveOnly height 0 (all_segments ts) → length ss ≤ most → length ts ≤ most →
-      (v : StripeFault h (spot_after height ss) x f) (w : StripeFault h (spot_after height ts) y g) → flat_map stripe_bytes ss ++ x ≡ flat_map stripe_bytes ts ++ y → SameCut ss ts v w
-  one_broken ss ts x y f g p q gs gt ls lt v w e =
-      let front = same_front 0 0 ss ts x y f g p q gs gt (omega (arith, ls)) (omega (arith, lt))
+  pub one_broken : {x y : List ℕ} {f g : Fault} (ss ts : List Stripe) → AllByRecursion (IsStripe h) ss → AllByRecursion (IsStripe h) ts → GiveOnly height 0 (all_segments ss) →
+      GiveOnly height 0 (all_segments ts) → length ss ≤ most → length ts ≤ most → (v : StripeFault h (spot_after height ss) x f) (w : StripeFault h (spot_after height ts) y g) →
+      flat_map stripe_bytes ss ++ x ≡ flat_map stripe_bytes ts ++ y → SameCut ss ts v w
+  one_broken {x} {y} {f} {g} ss ts p q gs gt ls lt v w e =
+      let front = same_front 0 0 ss ts p q gs gt (omega arith) (omega arith)
       (subst (λ u. StripeFault h u x f) (after_is ss) v) (subst (λ u. StripeFault h u y g) (after_is ts) w) e in
       made ts front.0 y front.1 w
     where
       made : (us : List Stripe) → ss ≡ us → (z : List ℕ) → x ≡ z → (w : StripeFault h (spot_after height us) z g) → SameCut ss us v w
       made us same = subst (λ us. (z : List ℕ) → x ≡ z → (w : StripeFault h (spot_after height us) z g) → SameCut ss us v w) same
-          (λ z left w. record { stripes = refl; broken = one_stripe_fault h ok height (length ss) (length (lengths (all_segments ss))) (suits (length ss) ls) x z f g v w left })
+          (λ z left w. record { stripes = refl; broken = one_stripe_fault ok height (length ss) (length (lengths (all_segments ss))) (suits (length ss) ls) v w left })
 
 -- ---- a code that goes on
 
@@ -356,68 +370,78 @@ code_front (b ∷ c) (b' ∷ d) x y e q =
     (rest.0, ap (λ z. z ∷ d) (sym first.0) ∙ ap (λ z. b ∷ z) rest.1)
 
 -- a code that has begun goes on in the same stripe
-begun_cut : (h : Fields) → IsAccepted h → (Fits : List Segment → Type 0) → ((ss ts : List Segment) → Fits (ss ++ ts) → Fits ss) → (before ss ts : List Segment) (b : ℕ) (c d x y : List ℕ)
-    → flat_map segment_bytes ss ++ (stuffed (b ∷ c) ++ x) ≡ flat_map segment_bytes ts ++ (stuffed d ++ y)
-    → AllByRecursion (IsLegal h) ss → AllByRecursion (IsLegal h) ts → Fits (before ++ ss)
-    → EndsPieces h Fits (before ++ ts) d y
-    → (ss ≡ ts) × (more : List ℕ) × (d ≡ (b ∷ c) ++ more)
-begun_cut h ok Fits closed before [] [] b c d x y e p q f ends = let k = code_front (b ∷ c) d x y e ends.no_code in (refl, k.0, k.1)
-begun_cut h ok Fits closed before [] (t ∷ ts) b c d x y e p q f ends =
-    absurd (no_segment_in_code b (stuffed c ++ x) (flat_map segment_bytes ts ++ (stuffed d ++ y)) t (sym (stuffed_cons b c x) ∙ e ∙ append_assoc (segment_bytes t) (flat_map segment_bytes ts) (stuffed d ++ y)))
-begun_cut h ok Fits closed before (s ∷ ss) [] b c d x y e p q f ends =
+begun_cut : {h : Fields} {Fits : List Segment → Type 0} {d y : List ℕ} → IsAccepted h → ((ss ts : List Segment) → Fits (ss ++ ts) → Fits ss) →
+    (before ss ts : List Segment) (b : ℕ) (c x : List ℕ) →
+    flat_map segment_bytes ss ++ (stuffed (b ∷ c) ++ x) ≡ flat_map segment_bytes ts ++ (stuffed d ++ y) → AllByRecursion (IsLegal h) ss → AllByRecursion (IsLegal h) ts →
+    Fits (before ++ ss) →
+    EndsPieces h Fits (before ++ ts) d y → (ss ≡ ts) × (more : List ℕ) × (d ≡ (b ∷ c) ++ more)
+begun_cut {Fits} {d} {y} ok closed before [] [] b c x e p q f ends = let k = code_front (b ∷ c) d x y e ends.no_code in (refl, k.0, k.1)
+begun_cut {Fits} {d} {y} ok closed before [] (t ∷ ts) b c x e p q f ends =
+    absurd (no_segment_in_code b (stuffed c ++ x) (flat_map segment_bytes ts ++ (stuffed d ++ y)) t
+    (sym (stuffed_cons b c x) ∙ e ∙ append_assoc (segment_bytes t) (flat_map segment_bytes ts) (stuffed d ++ y)))
+begun_cut {h} {Fits} {d} {y} ok closed before (s ∷ ss) [] b c x e p q f ends =
     let fits : Fits (before ++ s ∷ []) = closed (before ++ s ∷ []) ss (subst Fits (sym (append_assoc before (s ∷ []) ss)) f) in
-    absurd (no_segment_before h ok Fits closed before d y (flat_map segment_bytes ss ++ (stuffed (b ∷ c) ++ x)) s p.0 fits (subst (λ u. EndsPieces h Fits u d y) (append-nil before) ends)
+    absurd (no_segment_before ok Fits closed (flat_map segment_bytes ss ++ (stuffed (b ∷ c) ++ x)) s p.0 fits (subst (λ u. EndsPieces h Fits u d y) (append-nil before) ends)
     (sym e ∙ append_assoc (segment_bytes s) (flat_map segment_bytes ss) (stuffed (b ∷ c) ++ x)))
-begun_cut h ok Fits closed before (s ∷ ss) (t ∷ ts) b c d x y e p q f ends =
-    let first = one_segment h ok s t (flat_map segment_bytes ss ++ (stuffed (b ∷ c) ++ x)) (flat_map segment_bytes ts ++ (stuffed d ++ y)) p.0 q.0
+begun_cut {h} {Fits} {d} {y} ok closed before (s ∷ ss) (t ∷ ts) b c x e p q f ends =
+    let first = one_segment ok s t (flat_map segment_bytes ss ++ (stuffed (b ∷ c) ++ x)) (flat_map segment_bytes ts ++ (stuffed d ++ y)) p.0 q.0
     (sym (append_assoc (segment_bytes s) (flat_map segment_bytes ss) (stuffed (b ∷ c) ++ x)) ∙ e ∙ append_assoc (segment_bytes t) (flat_map segment_bytes ts) (stuffed d ++ y)) in
     let a : before ++ s ∷ ss ≡ (before ++ s ∷ []) ++ ss = sym (append_assoc before (s ∷ []) ss) in
     let k : before ++ t ∷ ts ≡ (before ++ s ∷ []) ++ ts = ap (λ u. before ++ u ∷ ts) (sym first.0) ∙ sym (append_assoc before (s ∷ []) ts) in
-    let rest = begun_cut h ok Fits closed (before ++ s ∷ []) ss ts b c d x y first.1 p.1 q.1 (subst Fits a f) (subst (λ u. EndsPieces h Fits u d y) k ends) in
+    let rest = begun_cut ok closed (before ++ s ∷ []) ss ts b c x first.1 p.1 q.1 (subst Fits a f) (subst (λ u. EndsPieces h Fits u d y) k ends) in
     (ap (λ z. z ∷ ss) first.0 ∙ ap (λ z. t ∷ z) rest.0, rest.1, rest.2)
 
 -- in a whole stripe
-pub begun_in_stripe : (h : Fields) → IsAccepted h → (ss : List Segment) (b : ℕ) (c x : List ℕ) (t : Stripe) (y : List ℕ) → IsBegun h ss (b ∷ c) → IsStripe h t →
+pub begun_in_stripe : {h : Fields} {ss : List Segment} {b : ℕ} {c : List ℕ} → IsAccepted h → (x : List ℕ) (t : Stripe) (y : List ℕ) → IsBegun h ss (b ∷ c) → IsStripe h t →
     flat_map segment_bytes ss ++ (stuffed (b ∷ c) ++ x) ≡ stripe_bytes t ++ y → (ss ≡ t.segments) × (more : List ℕ) × (t.code ≡ (b ∷ c) ++ more)
-begun_in_stripe h ok ss b c x t y p q e =
-    begun_cut h ok Any (λ _ _ _. tt) [] ss t.segments b c t.code x (marker_bytes t.reset ++ y) (e ∙ cut_at_marker t y) p.legal q.legal tt (marker_ends h Any t.segments t.code t.reset y)
+begun_in_stripe {h} {ss} {b} {c} ok x t y p q e =
+    begun_cut ok (λ _ _ _. tt) [] ss t.segments b c x (e ∙ cut_at_marker t y) p.legal q.legal tt (marker_ends h Any t.segments t.code t.reset y)
 
 -- in one that isn't whole
-pub begun_in_fault : (h : Fields) → IsAccepted h → (height k n : ℕ) → Suits h height k → (ss : List Segment) (b : ℕ) (c x tail : List ℕ) (f : Fault) → IsBegun h ss (b ∷ c) → GiveOnly height n ss →
+pub begun_in_fault : {h : Fields} {height n b : ℕ} {ss : List Segment} {c tail : List ℕ} {f : Fault} → IsAccepted h → (k : ℕ) → Suits h height k → (x : List ℕ) →
+    IsBegun h ss (b ∷ c) →
+    GiveOnly height n ss →
     (w : StripeFault h (spot_of height k n) tail f) → flat_map segment_bytes ss ++ (stuffed (b ∷ c) ++ x) ≡ tail → (ss ≡ w.segments) × (more : List ℕ) × (w.code ≡ (b ∷ c) ++ more)
-begun_in_fault h ok height k n suits ss b c x tail f p g w e =
-    begun_cut h ok (Fits h ok height k n suits) (fits_closed h ok height k n suits) [] ss w.segments b c w.code x w.rest (e ∙ w.bytes_are) p.legal w.begun.legal
-    (record { one_move = p.one_move; gives = g }) (left_ends h ok height k n suits tail f w)
+begun_in_fault {height} {n} {b} {ss} {c} ok k suits x p g w e =
+    begun_cut ok (fits_closed ok height k n suits) [] ss w.segments b c x (e ∙ w.bytes_are) p.legal w.begun.legal
+    (record { one_move = p.one_move; gives = g }) (left_ends ok height k n suits w)
 
 -- a whole stripe that is at the front of one that isn't
-pub stripe_in_fault : (h : Fields) → IsAccepted h → (height k n : ℕ) → Suits h height k → (s : Stripe) (x tail : List ℕ) (f : Fault) → IsStripe h s → GiveOnly height n s.segments →
+pub stripe_in_fault : {h : Fields} {height n : ℕ} {tail : List ℕ} {f : Fault} → IsAccepted h → (k : ℕ) → Suits h height k → (s : Stripe) (x : List ℕ) → IsStripe h s →
+    GiveOnly height n s.segments →
     StripeFault h (spot_of height k n) tail f → stripe_bytes s ++ x ≡ tail → ⊥
-stripe_in_fault h ok height k n suits s x tail f p g q e = no_stripe_in_fault h ok height k n suits s x tail f p g q e
+stripe_in_fault {height} {n} ok k suits s x p g q e = no_stripe_in_fault ok height k n suits s x p g q e
 
-module _ (h : Fields) (ok : IsAccepted h) (height most : ℕ) (suits : (k : ℕ) → k ≤ most → Suits h height k) where
-  first_on : (k n : ℕ) (ss ts : List Stripe) (x y : List ℕ) → AllByRecursion (IsStripe h) ss → AllByRecursion (IsStripe h) ts → GiveOnly height n (all_segments ss) → k + length ts ≤ most →
+module _ {h : Fields} (ok : IsAccepted h) (height most : ℕ) (suits : (k : ℕ) → k ≤ most → Suits h height k) where
+  first_on : (k n : ℕ) (ss ts : List Stripe) (x y : List ℕ) → AllByRecursion (IsStripe h) ss → AllByRecursion (IsStripe h) ts → GiveOnly height n (all_segments ss) →
+      k + length ts ≤ most →
       (length ss ≤ length ts) ⊎ ((f : Fault) × StripeFault h (spot_on height k n ts) y f) → flat_map stripe_bytes ss ++ x ≡ flat_map stripe_bytes ts ++ y →
       (later : List Stripe) × (ts ≡ ss ++ later) × (x ≡ flat_map stripe_bytes later ++ y)
   first_on k n [] ts x y p q g le w e = (ts, refl, e)
-  first_on k n (s ∷ ss) [] x y p q g le (inl m) e = absurd (omega (arith, m))
+  first_on k n (s ∷ ss) [] x y p q g le (inl m) e = absurd (omega arith)
   first_on k n (s ∷ ss) [] x y p q g le (inr w) e =
-      absurd (no_stripe_in_fault h ok height k n (suits k (omega (arith, le))) s (flat_map stripe_bytes ss ++ x) y w.0 p.0 (first_gives h ok height most suits n s ss g)
-      (subst (λ u. StripeFault h u y w.0) (here h ok height most suits k n) w.1) (sym (append_assoc (stripe_bytes s) (flat_map stripe_bytes ss) x) ∙ e))
+      absurd (no_stripe_in_fault ok height k n (suits k (omega arith)) s (flat_map stripe_bytes ss ++ x) p.0 (first_gives ok height most suits s ss g)
+      (subst (λ u. StripeFault h u y w.0) (here ok height most suits k n) w.1) (sym (append_assoc (stripe_bytes s) (flat_map stripe_bytes ss) x) ∙ e))
   first_on k n (s ∷ ss) (t ∷ ts) x y p q g le w e =
-      let first = one_stripe h ok s t (flat_map stripe_bytes ss ++ x) (flat_map stripe_bytes ts ++ y) p.0 q.0 (sym (append_assoc (stripe_bytes s) (flat_map stripe_bytes ss) x) ∙ e ∙ append_assoc (stripe_bytes t) (flat_map stripe_bytes ts) y) in
-      let rest = first_on (suc k) (n + length (lengths s.segments)) ss ts x y p.1 q.1 (rest_gives h ok height most suits n s ss g) (omega (arith, le)) (fewer first.0 w) first.1 in
+      let first = one_stripe ok s t (flat_map stripe_bytes ss ++ x) (flat_map stripe_bytes ts ++ y) p.0 q.0
+      (sym (append_assoc (stripe_bytes s) (flat_map stripe_bytes ss) x) ∙ e ∙ append_assoc (stripe_bytes t) (flat_map stripe_bytes ts) y) in
+      let rest = first_on (suc k) (n + length (lengths s.segments)) ss ts x y p.1 q.1 (rest_gives ok height most suits s ss g) (omega arith) (fewer first.0 w) first.1 in
       (rest.0, ap (λ z. z ∷ ts) (sym first.0) ∙ ap (λ z. s ∷ z) rest.1, rest.2)
     where
       fewer : s ≡ t → (length (s ∷ ss) ≤ length (t ∷ ts)) ⊎ ((f : Fault) × StripeFault h (spot_on height k n (t ∷ ts)) y f) →
           (length ss ≤ length ts) ⊎ ((f : Fault) × StripeFault h (spot_on height (suc k) (n + length (lengths s.segments)) ts) y f)
-      fewer same (inl m) = inl (omega (arith, m))
-      fewer same (inr u) = inr (u.0, subst (λ z. StripeFault h (spot_on height (suc k) (n + length (lengths z.segments)) ts) y u.0) (sym same) (subst (λ z. StripeFault h z y u.0) (onward h ok height most suits k n t ts) u.1))
+      fewer same (inl m) = inl (omega arith)
+      fewer same (inr u) = inr (
+        u.0,
+        subst (λ z. StripeFault h (spot_on height (suc k) (n + length (lengths z.segments)) ts) y u.0) (sym same)
+            (subst (λ z. StripeFault h z y u.0) (onward ok height most suits k n t ts) u.1),
+      )
 
   -- Whole stripes are the first of each other reading: of more stripes, or of some and one that isn't whole.
   pub first_parts : (ss ts : List Stripe) (x y : List ℕ) → AllByRecursion (IsStripe h) ss → AllByRecursion (IsStripe h) ts → GiveOnly height 0 (all_segments ss) → length ts ≤ most →
       (length ss ≤ length ts) ⊎ ((f : Fault) × StripeFault h (spot_after height ts) y f) → flat_map stripe_bytes ss ++ x ≡ flat_map stripe_bytes ts ++ y →
       (later : List Stripe) × (ts ≡ ss ++ later) × (x ≡ flat_map stripe_bytes later ++ y)
-  first_parts ss ts x y p q g le w e = first_on 0 0 ss ts x y p q g (omega (arith, le)) (turned w) e where
+  first_parts ss ts x y p q g le w e = first_on 0 0 ss ts x y p q g (omega arith) (turned w) e where
     turned : (length ss ≤ length ts) ⊎ ((f : Fault) × StripeFault h (spot_after height ts) y f) → (length ss ≤ length ts) ⊎ ((f : Fault) × StripeFault h (spot_on height 0 0 ts) y f)
     turned (inl m) = inl m
-    turned (inr u) = inr (u.0, subst (λ z. StripeFault h z y u.0) (after_is h ok height most suits ts) u.1)
+    turned (inr u) = inr (u.0, subst (λ z. StripeFault h z y u.0) (after_is ok height most suits ts) u.1)

@@ -63,8 +63,8 @@ rest_may h spot moves in_code [] = tt
 rest_may h spot moves in_code (b ∷ []) = either (b == 255) (Some Truncated) None tt tt
 rest_may h spot moves in_code (b ∷ escape ∷ bytes) = either (b == 255) (escape_fault h spot moves in_code escape bytes) None (escape_may h spot moves in_code escape bytes) tt
 
-pub header_faults : (bytes : List ℕ) (f : Fault) → header_fault bytes ≡ Some f → IsWalkFault f
-header_faults bytes f e = subst (λ o. MayRefuse o) e (header_may bytes)
+pub header_faults : {f : Fault} (bytes : List ℕ) → header_fault bytes ≡ Some f → IsWalkFault f
+header_faults bytes e = subst (λ o. MayRefuse o) e (header_may bytes)
 
 -- what may be reported of a body may be reported of a walk
 pub walk_fault : (f : Fault) → IsBodyFault f → IsWalkFault f
@@ -79,8 +79,8 @@ walk_fault Changed p = tt
 walk_fault Read p = tt
 walk_fault _ p = absurd p
 
-pub body_faults : (h : Fields) (height count : ℕ) (bytes : List ℕ) (f : Fault) → StripesFault h height count bytes f → IsBodyFault f
-body_faults h height count bytes f p = subst (λ o. MayBe o) p.tail_has.rest_has (rest_may h _ _ _ p.tail_has.rest)
+pub body_faults : {h : Fields} {height count : ℕ} {bytes : List ℕ} {f : Fault} → StripesFault h height count bytes f → IsBodyFault f
+body_faults {h} p = subst (λ o. MayBe o) p.tail_has.rest_has (rest_may h _ _ _ p.tail_has.rest)
 
 uncounted_of : (P : Fault → Type 0) → P Read → (ending f : Fault) → P (counted_as ending f) → P f
 uncounted_of P read ending Read p = read
@@ -99,5 +99,5 @@ pub unwritten : (f : Fault) → IsWalkFault f → (n : ℕ) → writes_after f n
 unwritten Write p = absurd p
 unwritten f p = λ n. refl
 
-pub rest_faults : (h : Fields) (spot : Spot) (moves : ℕ) (in_code : Bool) (bytes : List ℕ) (f : Fault) → rest_fault h spot moves in_code bytes ≡ Some f → IsWalkFault f
-rest_faults h spot moves in_code bytes f e = walk_fault f (subst (λ o. MayBe o) e (rest_may h spot moves in_code bytes))
+pub rest_faults : {f : Fault} (h : Fields) (spot : Spot) (moves : ℕ) (in_code : Bool) (bytes : List ℕ) → rest_fault h spot moves in_code bytes ≡ Some f → IsWalkFault f
+rest_faults {f} h spot moves in_code bytes e = walk_fault f (subst (λ o. MayBe o) e (rest_may h spot moves in_code bytes))

@@ -35,7 +35,7 @@ four_back a b c d z ha hb hc hd =
         ∙ ap (λ u. a ∷ b ∷ u ∷ (n % 256) ∷ []) e1 ∙ ap (λ u. a ∷ b ∷ c ∷ u ∷ []) e0
 
 four_small : (a b c d : ℕ) (z : List ℕ) → a < 256 → b < 256 → c < 256 → d < 256 → big_number 4 (a ∷ b ∷ c ∷ d ∷ z) < 2 ^ 32
-four_small a b c d z ha hb hc hd = let e : big_number 4 (a ∷ b ∷ c ∷ d ∷ z) ≡ a * 16777216 + b * 65536 + c * 256 + d = omega arith in omega (arith, e)
+four_small a b c d z ha hb hc hd = let e : big_number 4 (a ∷ b ∷ c ∷ d ∷ z) ≡ a * 16777216 + b * 65536 + c * 256 + d = omega arith in omega arith
 
 abbrev pub AreBytes : List ℕ → Type 0
 AreBytes xs = AllByRecursion (λ b. b < 256) xs
@@ -58,7 +58,8 @@ module _ (h : Fields) (spot : Spot) (moves : ℕ) where
     none : spot.heights ≡ 0
     none = grind (arith, nat_tests)
 
-    went : (xs : List ℕ) → AreBytes xs → 4 ≤ length xs → big_number 4 xs ≡ spot.height → not (is_valid_length h spot.entities (big_number 4 xs)) ≡ false → SegmentAt (255 ∷ 5 ∷ xs)
+    went : (xs : List ℕ) → AreBytes xs → 4 ≤ length xs → big_number 4 xs ≡ spot.height → not (is_valid_length h spot.entities (big_number 4 xs)) ≡ false →
+        SegmentAt (255 ∷ 5 ∷ xs)
     went (x ∷ y ∷ z ∷ w ∷ xs) a long g v =
         let valid = valid_parts h spot.entities (big_number 4 (x ∷ y ∷ z ∷ w ∷ xs)) (not_false _ v) in
         record {
@@ -66,10 +67,10 @@ module _ (h : Fields) (spot : Spot) (moves : ℕ) where
           more = xs;
           tail_is = ap (λ u. 255 ∷ 5 ∷ (u ++ xs)) (sym (four_back x y z w xs a.0 a.1.0 a.1.1.0 a.1.1.1.0));
           legal = (variable, valid.0, valid.1);
-          one_move = omega (arith, few);
+          one_move = omega arith;
           gives = record { one = omega (arith, none); this = (g, tt) };
         }
-    went xs a long g v = absurd (omega (arith, long))
+    went xs a long g v = absurd (omega arith)
 
   move_at : (bytes : List ℕ) → AreBytes bytes → move_fault h moves bytes ≡ None → spot.heights ≤ 1 → SegmentAt (255 ∷ 6 ∷ bytes)
   move_at bytes all e once = went bytes all (grind (arith, nat_tests)) (grind (arith, nat_tests)) where
@@ -82,18 +83,19 @@ module _ (h : Fields) (spot : Spot) (moves : ℕ) where
         record {
           segment = Move (big_number 4 (x ∷ y ∷ z ∷ w ∷ o ∷ last ∷ xs)) o;
           more = xs;
-          tail_is = ap (λ v. 255 ∷ 6 ∷ (v ++ o ∷ last ∷ xs)) (sym (four_back x y z w (o ∷ last ∷ xs) a.0 a.1.0 a.1.1.0 a.1.1.1.0)) ∙ ap (λ v. 255 ∷ 6 ∷ (big_bytes 4 (big_number 4 (x ∷ y ∷ z ∷ w ∷ o ∷ last ∷ xs)) ++ o ∷ v ∷ xs)) zero_last;
+          tail_is = ap (λ v. 255 ∷ 6 ∷ (v ++ o ∷ last ∷ xs)) (sym (four_back x y z w (o ∷ last ∷ xs) a.0 a.1.0 a.1.1.0 a.1.1.1.0))
+              ∙ ap (λ v. 255 ∷ 6 ∷ (big_bytes 4 (big_number 4 (x ∷ y ∷ z ∷ w ∷ o ∷ last ∷ xs)) ++ o ∷ v ∷ xs)) zero_last;
           legal = (grind (arith, nat_tests), grind (arith, nat_tests));
           one_move = omega (arith, none);
           gives = gives_none spot.height spot.heights (Move (big_number 4 (x ∷ y ∷ z ∷ w ∷ o ∷ last ∷ xs)) o ∷ []) once refl;
         }
-    went xs a long g = absurd (omega (arith, long))
+    went xs a long g = absurd (omega arith)
 
   comment_at : (bytes : List ℕ) → AreBytes bytes → comment_fault bytes ≡ None → moves ≤ 1 → spot.heights ≤ 1 → SegmentAt (255 ∷ 7 ∷ bytes)
   comment_at bytes all e few once = went bytes all (grind (arith, nat_tests)) (grind (arith, nat_tests)) where
     went : (xs : List ℕ) → AreBytes xs → 4 ≤ length xs → 4 + big_number 4 xs ≤ length xs → SegmentAt (255 ∷ 7 ∷ xs)
     went (x ∷ y ∷ z ∷ w ∷ xs) a long g =
-        let le : big_number 4 (x ∷ y ∷ z ∷ w ∷ xs) ≤ length xs = omega (arith, g) in
+        let le : big_number 4 (x ∷ y ∷ z ∷ w ∷ xs) ≤ length xs = omega arith in
         let many : length (take (big_number 4 (x ∷ y ∷ z ∷ w ∷ xs)) xs) ≡ big_number 4 (x ∷ y ∷ z ∷ w ∷ xs) = length-take-le (big_number 4 (x ∷ y ∷ z ∷ w ∷ xs)) xs le in
         let small = four_small x y z w xs a.0 a.1.0 a.1.1.0 a.1.1.1.0 in
         record {
@@ -102,12 +104,13 @@ module _ (h : Fields) (spot : Spot) (moves : ℕ) where
           tail_is =
               ap (λ v. 255 ∷ 7 ∷ (v ++ xs)) (sym (four_back x y z w xs a.0 a.1.0 a.1.1.0 a.1.1.1.0) ∙ ap (big_bytes 4) (sym many))
               ∙ ap (λ v. 255 ∷ 7 ∷ (big_bytes 4 (length (take (big_number 4 (x ∷ y ∷ z ∷ w ∷ xs)) xs)) ++ v)) (sym (take-append-drop (big_number 4 (x ∷ y ∷ z ∷ w ∷ xs)) xs))
-              ∙ ap (λ v. 255 ∷ 7 ∷ v) (sym (append_assoc (big_bytes 4 (length (take (big_number 4 (x ∷ y ∷ z ∷ w ∷ xs)) xs))) (take (big_number 4 (x ∷ y ∷ z ∷ w ∷ xs)) xs) (drop (big_number 4 (x ∷ y ∷ z ∷ w ∷ xs)) xs)));
-          legal = omega (arith, small, many);
-          one_move = omega (arith, few);
+              ∙ ap (λ v. 255 ∷ 7 ∷ v) (sym (append_assoc (big_bytes 4 (length (take (big_number 4 (x ∷ y ∷ z ∷ w ∷ xs)) xs))) (take (big_number 4 (x ∷ y ∷ z ∷ w ∷ xs)) xs)
+              (drop (big_number 4 (x ∷ y ∷ z ∷ w ∷ xs)) xs)));
+          legal = omega arith;
+          one_move = omega arith;
           gives = gives_none spot.height spot.heights (Comment (take (big_number 4 (x ∷ y ∷ z ∷ w ∷ xs)) xs) ∷ []) once refl;
         }
-    went xs a long g = absurd (omega (arith, long))
+    went xs a long g = absurd (omega arith)
 
   -- what is at the front of a rest: a code byte, an end marker, or before the code a segment
   pub data Front (in_code : Bool) (tail : List ℕ) : Type 0 where

@@ -1,5 +1,5 @@
 -- A body has one height, and at a height in use one fault, or none and its parts.
-use Rattle.std.proofs.Common.{◌≡◌, ◌≢◌, inl, inr, ◌≤◌, ◌+◌, ℕ, true, List, [], ◌∷◌, ◌++◌, Some, length, drop, refl, sym, ap, ◌∙◌, subst, arith}
+use Rattle.std.proofs.Common.{◌≡◌, ◌≢◌, inl, inr, ◌≤◌, ◌+◌, ℕ, true, List, [], ◌∷◌, ◌++◌, Some, length, drop, refl, sym, ap, ◌∙◌, arith}
 use Rattle.std.specs.Prelude.{flat_map}
 use Rattle.byteorder.specs.Endian.{big_bytes}
 use Rattle.t85_core.specs.declared.fault.Fault.{Fault}
@@ -14,20 +14,20 @@ use Rattle.t85_core.proofs.Walks.Segments.{length_changed}
 use Rattle.t85_core.proofs.Grammar.Cut.{one_number, Suits, spot_of, SameCut, one_broken, parts_or_fault}
 
 -- a height in use is valid up to its last data entity
-pub suits_in_use : (h : Fields) (height : ℕ) → IsInUse h height → (k : ℕ) → k ≤ stripe_count height h.l0 → Suits h height k
-suits_in_use h height u k few _ = valid_in_use h height k u.accepted.stripe_from u.from u.to few
+pub suits_in_use : {h : Fields} {height : ℕ} → IsInUse h height → (k : ℕ) → k ≤ stripe_count height h.l0 → Suits h height k
+suits_in_use {h} {height} u k few _ = valid_in_use h height k u.accepted.stripe_from u.from u.to few
 
 module _ (h : Fields) (height : ℕ) (body : List ℕ) where
   pub whole_or_broken_at : (f : Fault) → IsInUse h height → Parts h height body → BodyFault h height body f → ⊥
   whole_or_broken_at f u p b =
-      parts_or_fault h u.accepted height (stripe_count height h.l0) (suits_in_use h height u) p.stripes b.stripes p.rest b.tail f p.each b.each p.gives
-      (omega (arith, b.fewer)) (omega (arith, p.count, b.fewer)) b.tail_has (sym p.body_is ∙ b.bytes_are)
+      parts_or_fault u.accepted height (stripe_count height h.l0) (suits_in_use u) p.stripes b.stripes p.rest p.each b.each p.gives
+      (omega arith) (omega arith) b.tail_has (sym p.body_is ∙ b.bytes_are)
 
   pub one_fault_of : (f g : Fault) (u : IsInUse h height) (p : BodyFault h height body f) (q : BodyFault h height body g) →
-      SameCut h u.accepted height (stripe_count height h.l0) (suits_in_use h height u) p.stripes q.stripes p.tail_has q.tail_has
+      SameCut u.accepted height (stripe_count height h.l0) (suits_in_use u) p.stripes q.stripes p.tail_has q.tail_has
   one_fault_of f g u p q =
-      one_broken h u.accepted height (stripe_count height h.l0) (suits_in_use h height u) p.stripes q.stripes p.tail q.tail f g p.each q.each p.gives q.gives
-      (omega (arith, p.fewer)) (omega (arith, q.fewer)) p.tail_has q.tail_has (sym p.bytes_are ∙ q.bytes_are)
+      one_broken u.accepted height (stripe_count height h.l0) (suits_in_use u) p.stripes q.stripes p.each q.each p.gives q.gives
+      (omega arith) (omega arith) p.tail_has q.tail_has (sym p.bytes_are ∙ q.bytes_are)
 
 -- ---- heights that are given
 
@@ -47,14 +47,14 @@ none_right ss ts e = nil_right (lengths ss) (lengths ts) (sym (lengths_append ss
 
 -- where 0 is in use, each valid height is another
 pub never_suits : (h : Fields) (most k : ℕ) → k ≤ most → Suits h 0 k
-never_suits h most k le one = absurd (omega (arith, one))
+never_suits h most k le one = absurd (omega arith)
 
-module _ (h : Fields) (ok : IsAccepted h) (body : List ℕ) where
-  pub changed : (n k m : ℕ) (rest : List ℕ) → is_variable h ≡ true → is_valid_length h k n ≡ true → m ≡ 0 → length_fault h (spot_of 0 k m) (big_bytes 4 n ++ rest) ≡ Some Changed
-  changed n k m rest variable valid none =
+module _ {h : Fields} (ok : IsAccepted h) (body : List ℕ) where
+  pub changed : {m : ℕ} (n k : ℕ) (rest : List ℕ) → is_variable h ≡ true → is_valid_length h k n ≡ true → m ≡ 0 →
+      length_fault h (spot_of 0 k m) (big_bytes 4 n ++ rest) ≡ Some Changed
+  changed n k rest variable valid none =
       let w = valid_parts h k n valid in
-      subst (λ u. length_fault h (spot_of 0 k u) (big_bytes 4 n ++ rest) ≡ Some Changed) (sym none)
-      (length_changed h 0 k variable n rest (omega (arith, w.1, ok.height_to)) valid (let other : n ≢ 0 = omega (arith, w.0) in other))
+      rw none (length_changed h 0 k variable n rest (omega arith) valid (let other : n ≢ 0 = omega arith in other))
 
   -- after what comes before it, a valid height is a fault where 0 is in use
   abbrev pub given_breaks : (n : ℕ) (g : GivesHeight h body n) → StripeFault h (spot_after 0 g.stripes) (flat_map segment_bytes g.segments ++ (segment_bytes (NewLength n) ++ g.rest)) Changed
@@ -64,34 +64,34 @@ module _ (h : Fields) (ok : IsAccepted h) (body : List ℕ) where
     rest = segment_bytes (NewLength n) ++ g.rest;
     bytes_are = refl;
     begun = g.begun;
-    gives = gives_none 0 (length (lengths (all_segments g.stripes))) g.segments (let a : length (lengths (all_segments g.stripes)) ≡ 0 = ap length (none_left (all_segments g.stripes) g.segments g.first) in omega (arith, a)) (none_right (all_segments g.stripes) g.segments g.first);
-    rest_has = changed n (length g.stripes) (length (lengths (all_segments g.stripes)) + length (lengths g.segments)) g.rest g.variable g.valid (
-        let a : length (lengths (all_segments g.stripes)) ≡ 0 = ap length (none_left (all_segments g.stripes) g.segments g.first) in
-        let b : length (lengths g.segments) ≡ 0 = ap length (none_right (all_segments g.stripes) g.segments g.first) in
-        omega (arith, a, b));
+    gives = gives_none 0 (length (lengths (all_segments g.stripes))) g.segments (let a = ap length (none_left (all_segments g.stripes) g.segments g.first) in omega arith)
+        (none_right (all_segments g.stripes) g.segments g.first);
+    rest_has = changed n (length g.stripes) g.rest g.variable g.valid (
+        let a = ap length (none_left (all_segments g.stripes) g.segments g.first) in
+        let b : length (lengths g.segments) ≡ 0 = rw (none_right (all_segments g.stripes) g.segments g.first) in
+        omega arith);
   }
 
-  pub stripes_give_none : (n : ℕ) (g : GivesHeight h body n) → GiveOnly 0 0 (all_segments g.stripes)
-  stripes_give_none n g = gives_none 0 0 (all_segments g.stripes) (omega arith) (none_left (all_segments g.stripes) g.segments g.first)
+  pub stripes_give_none : {n : ℕ} (g : GivesHeight h body n) → GiveOnly 0 0 (all_segments g.stripes)
+  stripes_give_none g = gives_none 0 0 (all_segments g.stripes) (omega arith) (none_left (all_segments g.stripes) g.segments g.first)
 
-  pub one_given : (a b : ℕ) → GivesHeight h body a → GivesHeight h body b → a ≡ b
-  one_given a b p q =
+  pub one_given : {a b : ℕ} → GivesHeight h body a → GivesHeight h body b → a ≡ b
+  one_given {a} {b} p q =
       let most : ℕ = length p.stripes + length q.stripes in
-      let cut = one_broken h ok 0 (length p.stripes + length q.stripes) (never_suits h (length p.stripes + length q.stripes)) p.stripes q.stripes
-      (flat_map segment_bytes p.segments ++ (segment_bytes (NewLength a) ++ p.rest)) (flat_map segment_bytes q.segments ++ (segment_bytes (NewLength b) ++ q.rest)) Changed Changed
-      p.each q.each (stripes_give_none a p) (stripes_give_none b q) (omega arith) (omega arith) (given_breaks a p) (given_breaks b q) (sym p.body_is ∙ q.body_is) in
+      let cut = one_broken ok 0 (length p.stripes + length q.stripes) (never_suits h (length p.stripes + length q.stripes)) p.stripes q.stripes
+      p.each q.each (stripes_give_none p) (stripes_give_none q) (omega arith) (omega arith) (given_breaks a p) (given_breaks b q) (sym p.body_is ∙ q.body_is) in
       let w = valid_parts h (length p.stripes) a p.valid in
       let v = valid_parts h (length q.stripes) b q.valid in
-      (one_number a b p.rest q.rest (omega (arith, w.1, ok.height_to)) (omega (arith, v.1, ok.height_to)) (ap (drop 2) cut.broken.rest)).0
+      (one_number a b p.rest q.rest (omega arith) (omega arith) (ap (drop 2) cut.broken.rest)).0
 
 -- the height is one
-pub one_height_of : (h : Fields) (body : List ℕ) (a b : ℕ) → IsAccepted h → IsHeight h body a → IsHeight h body b → a ≡ b
-one_height_of h body a b ok (inl p) (inl q) = one_given h ok body a b p q
-one_height_of h body a b ok (inl p) (inr q) = absurd (q.1 a p)
-one_height_of h body a b ok (inr p) (inl q) = absurd (p.1 b q)
-one_height_of h body a b ok (inr p) (inr q) = p.0 ∙ sym q.0
+pub one_height_of : {h : Fields} (body : List ℕ) (a b : ℕ) → IsAccepted h → IsHeight h body a → IsHeight h body b → a ≡ b
+one_height_of body a b ok (inl p) (inl q) = one_given ok body p q
+one_height_of body a b ok (inl p) (inr q) = absurd (q.1 a p)
+one_height_of body a b ok (inr p) (inl q) = absurd (p.1 b q)
+one_height_of body a b ok (inr p) (inr q) = p.0 ∙ sym q.0
 
 -- and in use
-pub height_within : (h : Fields) (body : List ℕ) (n : ℕ) → IsAccepted h → IsHeight h body n → IsInUse h n
-height_within h body n ok (inl g) = let w = valid_parts h (length g.stripes) n g.valid in record { accepted = ok; from = w.0; to = w.1 }
-height_within h body n ok (inr q) = let e = q.0 in record { accepted = ok; from = omega (arith, ok.height_from, e); to = omega (arith, e) }
+pub height_within : {h : Fields} (body : List ℕ) (n : ℕ) → IsAccepted h → IsHeight h body n → IsInUse h n
+height_within {h} body n ok (inl g) = let w = valid_parts h (length g.stripes) n g.valid in record { accepted = ok; from = w.0; to = w.1 }
+height_within body n ok (inr q) = let e = q.0 in record { accepted = ok; from = omega arith; to = omega arith }

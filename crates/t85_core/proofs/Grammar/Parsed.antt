@@ -21,18 +21,18 @@ stuffed_push (x ∷ code) b z = stuffed_cons x (code ++ b ∷ []) z ∙ ap (λ u
 stuff_long : (b : ℕ) → 1 ≤ length (stuff b)
 stuff_long b = went (stuff_cases b) where
   went : ((b ≡ 255) × (stuff b ≡ 255 ∷ 0 ∷ [])) ⊎ ((b ≢ 255) × (stuff b ≡ b ∷ [])) → 1 ≤ length (stuff b)
-  went (inl p) = let e : length (stuff b) ≡ 2 = ap length p.1 in omega (arith, e)
-  went (inr p) = let e : length (stuff b) ≡ 1 = ap length p.1 in omega (arith, e)
+  went (inl p) = let e : length (stuff b) ≡ 2 = ap length p.1 in omega arith
+  went (inr p) = let e : length (stuff b) ≡ 1 = ap length p.1 in omega arith
 
 pub segment_long : (s : Segment) → 1 ≤ length (segment_bytes s)
 segment_long (NewLength n) = omega arith
 segment_long (Move row offset) = omega arith
 segment_long (Comment text) = omega arith
 
-pub shorter : (xs piece more : List ℕ) (fuel : ℕ) → length xs ≤ suc fuel → 1 ≤ length piece → xs ≡ piece ++ more → length more ≤ fuel
-shorter xs piece more fuel le long e =
+pub shorter : {xs : List ℕ} (piece more : List ℕ) (fuel : ℕ) → length xs ≤ suc fuel → 1 ≤ length piece → xs ≡ piece ++ more → length more ≤ fuel
+shorter {xs} piece more fuel le long e =
     let l : length xs ≡ length piece + length more = ap length e ∙ length-append piece more in
-    omega (arith, l, le, long)
+    omega arith
 
 nothing : (code : List ℕ) → not (is_nil code) ≡ false → code ≡ []
 nothing [] e = refl
@@ -52,17 +52,19 @@ module _ (h : Fields) (height : ℕ) where
     parse_stripe : (fuel : ℕ) (segments : List Segment) (code rest : List ℕ) → length rest ≤ fuel → IsBegun h segments code → GiveOnly height n segments → AreBytes rest →
         tail ≡ flat_map segment_bytes segments ++ (stuffed code ++ rest) → Parsed k n tail
     parse_stripe zero segments code [] le begun gives all e = broken Truncated (record { segments = segments; code = code; rest = []; bytes_are = e; begun = begun; gives = gives; rest_has = refl })
-    parse_stripe zero segments code (x ∷ rest) le begun gives all e = absurd (omega (arith, le))
+    parse_stripe zero segments code (x ∷ rest) le begun gives all e = absurd (omega arith)
     parse_stripe (suc fuel) segments code rest le begun gives all e =
         look (fault_of segments code rest) refl (λ ss c r less b g a is. parse_stripe fuel ss c r less b g a is)
       where
         look : (o : Option Fault) → fault_of segments code rest ≡ o →
-            ((ss : List Segment) (c r : List ℕ) → length r ≤ fuel → IsBegun h ss c → GiveOnly height n ss → AreBytes r → tail ≡ flat_map segment_bytes ss ++ (stuffed c ++ r) → Parsed k n tail) → Parsed k n tail
+            ((ss : List Segment) (c r : List ℕ) → length r ≤ fuel → IsBegun h ss c → GiveOnly height n ss → AreBytes r → tail ≡ flat_map segment_bytes ss ++ (stuffed c ++ r) →
+            Parsed k n tail) →
+            Parsed k n tail
         look (Some f) q further = broken f (record { segments = segments; code = code; rest = rest; bytes_are = e; begun = begun; gives = gives; rest_has = q })
         look None q further = take_piece (front_of h (spot_of height k (n + length (lengths segments))) (count_by is_move segments) (not (is_nil code)) rest all begun.one_move gives.one q) where
           take_piece : Front h (spot_of height k (n + length (lengths segments))) (count_by is_move segments) (not (is_nil code)) rest → Parsed k n tail
           take_piece (code_byte b more small is) =
-              further segments (code ++ b ∷ []) more (shorter rest (stuff b) more fuel le (stuff_long b) is)
+              further segments (code ++ b ∷ []) more (shorter (stuff b) more fuel le (stuff_long b) is)
               (record { legal = begun.legal; one_move = begun.one_move; bytes = All-push (λ x. x < 256) code b begun.bytes small }) gives
               (all_right (λ x. x < 256) (stuff b) more (subst AreBytes is all))
               (e ∙ ap (λ u. flat_map segment_bytes segments ++ (stuffed code ++ u)) is ∙ ap (λ u. flat_map segment_bytes segments ++ u) (sym (stuffed_push code b more)))
@@ -70,9 +72,9 @@ module _ (h : Fields) (height : ℕ) where
               whole (record { segments = segments; code = code; reset = reset }) more begun gives
               (e ∙ ap (λ u. flat_map segment_bytes segments ++ (stuffed code ++ u)) is ∙ sym (cut_at_marker (record { segments = segments; code = code; reset = reset }) more))
           take_piece (segment_at none at) =
-              further (segments ++ at.segment ∷ []) [] at.more (shorter rest (segment_bytes at.segment) at.more fuel le (segment_long at.segment) at.tail_is)
-              (record { legal = All-push (IsLegal h) segments at.segment begun.legal at.legal; one_move = (let c = count_push is_move segments at.segment in omega (arith, c, at.one_move)); bytes = tt })
-              (gives_both height n segments (at.segment ∷ []) gives at.gives)
+              further (segments ++ at.segment ∷ []) [] at.more (shorter (segment_bytes at.segment) at.more fuel le (segment_long at.segment) at.tail_is)
+              (record { legal = All-push (IsLegal h) segments at.segment begun.legal at.legal; one_move = (let c = count_push is_move segments at.segment in omega arith); bytes = tt })
+              (gives_both height n (at.segment ∷ []) gives at.gives)
               (all_right (λ x. x < 256) (segment_bytes at.segment) at.more (subst AreBytes at.tail_is all))
               (e ∙ ap (λ u. flat_map segment_bytes segments ++ (stuffed u ++ rest)) (nothing code none) ∙ ap (λ u. flat_map segment_bytes segments ++ u) at.tail_is
               ∙ sym (append_assoc (flat_map segment_bytes segments) (segment_bytes at.segment) at.more)
@@ -94,19 +96,21 @@ module _ (h : Fields) (height : ℕ) where
       went (broken f left) further =
           let a : k ≡ k + 0 = omega arith in
           let b : n ≡ n + 0 = omega arith in
-          some_there [] f tail (omega arith) tt (gives_none height n [] once refl) (subst (λ u. StripeFault h (spot_of height (k + 0) u) tail f) b (subst (λ u. StripeFault h (spot_of height u n) tail f) a left)) refl
+          some_there [] f tail (omega arith) tt (gives_none height n [] once refl)
+          (subst (λ u. StripeFault h (spot_of height (k + 0) u) tail f) b (subst (λ u. StripeFault h (spot_of height u n) tail f) a left)) refl
       went (whole s more begun gives is) further = next (further (n + length (lengths s.segments)) more gives.one (all_right (λ x. x < 256) (stripe_bytes s) more (subst AreBytes is all))) where
         joined : (ss : List Stripe) (z : List ℕ) → more ≡ flat_map stripe_bytes ss ++ z → tail ≡ flat_map stripe_bytes (s ∷ ss) ++ z
         joined ss z q = is ∙ ap (λ u. stripe_bytes s ++ u) q ∙ sym (append_assoc (stripe_bytes s) (flat_map stripe_bytes ss) z)
 
         next : Read (suc k) (n + length (lengths s.segments)) m more → Read k n (suc m) tail
-        next (all_there ss rest many each gs q) = all_there (s ∷ ss) rest (ap suc many) (begun, each) (gives_both height n s.segments (all_segments ss) gives gs) (joined ss rest q)
+        next (all_there ss rest many each gs q) = all_there (s ∷ ss) rest (ap suc many) (begun, each) (gives_both height n (all_segments ss) gives gs) (joined ss rest q)
         next (some_there ss f t less each gs left q) =
             let a : suc k + length ss ≡ k + suc (length ss) = omega arith in
             let c = many_lengths s.segments (all_segments ss) in
-            let b : (n + length (lengths s.segments)) + length (lengths (all_segments ss)) ≡ n + length (lengths (all_segments (s ∷ ss))) = omega (arith, c) in
-            some_there (s ∷ ss) f t (omega (arith, less)) (begun, each) (gives_both height n s.segments (all_segments ss) gives gs)
-            (subst (λ u. StripeFault h (spot_of height (k + suc (length ss)) u) t f) b (subst (λ u. StripeFault h (spot_of height u ((n + length (lengths s.segments)) + length (lengths (all_segments ss)))) t f) a left)) (joined ss t q)
+            let b : (n + length (lengths s.segments)) + length (lengths (all_segments ss)) ≡ n + length (lengths (all_segments (s ∷ ss))) = omega arith in
+            some_there (s ∷ ss) f t (omega arith) (begun, each) (gives_both height n (all_segments ss) gives gs)
+            (subst (λ u. StripeFault h (spot_of height (k + suc (length ss)) u) t f) b
+            (subst (λ u. StripeFault h (spot_of height u ((n + length (lengths s.segments)) + length (lengths (all_segments ss)))) t f) a left)) (joined ss t q)
 
   -- so many whole stripes and a rest, or fewer and one that isn't whole
   pub data Cut (m : ℕ) (body : List ℕ) : Type 0 where

@@ -21,14 +21,14 @@ use Rattle.t85_core.proofs.Grammar.Fronts.{AreBytes, Front, code_byte, end_marke
 use Rattle.t85_core.proofs.Grammar.Parsed.{Cut, enough, too_few, cut_of, shorter, segment_long}
 use Rattle.t85_core.proofs.Grammar.Heights.{never_suits, given_breaks, stripes_give_none}
 
-module _ (h : Fields) (ok : IsAccepted h) where
+module _ {h : Fields} (ok : IsAccepted h) where
   -- a valid height is at the front, or none is
   data HeightAt (k : ℕ) (rest : List ℕ) : Type 0 where
     there : (n : ℕ) (more : List ℕ) → is_valid_length h k n ≡ true → rest ≡ segment_bytes (NewLength n) ++ more → HeightAt k rest
     nowhere : ((n : ℕ) (more : List ℕ) → is_valid_length h k n ≡ true → rest ≡ segment_bytes (NewLength n) ++ more → ⊥) → HeightAt k rest
 
   short : (k : ℕ) (rest : List ℕ) → length rest < 6 → HeightAt k rest
-  short k rest less = nowhere (λ n more valid e. let l : length rest ≡ length (segment_bytes (NewLength n) ++ more) = ap length e in omega (arith, less, l))
+  short k rest less = nowhere (λ n more valid e. let l = ap length e in omega arith)
 
   height_at : (k : ℕ) (rest : List ℕ) → AreBytes rest → HeightAt k rest
   height_at k (a ∷ b ∷ x ∷ y ∷ z ∷ w ∷ more) all = went (cases_eq a 255) (cases_eq b 5) where
@@ -41,11 +41,11 @@ module _ (h : Fields) (ok : IsAccepted h) where
         there (big_number 4 (x ∷ y ∷ z ∷ w ∷ more)) more v (ap (λ u. 255 ∷ 5 ∷ (u ++ more)) (sym (four_back x y z w more four.0 four.1.0 four.1.1.0 four.1.1.1.0)))
     judged false v = nowhere (λ n tail valid e.
         let parts = valid_parts h k n valid in
-        let same : big_number 4 (x ∷ y ∷ z ∷ w ∷ more) ≡ n = ap (λ u. big_number 4 (drop 2 u)) e ∙ row_of n tail (omega (arith, parts.1, ok.height_to)) in
+        let same : big_number 4 (x ∷ y ∷ z ∷ w ∷ more) ≡ n = ap (λ u. big_number 4 (drop 2 u)) e ∙ row_of n tail (omega arith) in
         true≢false (sym valid ∙ ap (is_valid_length h k) (sym same) ∙ v))
 
     went : (a ≡ 255) ⊎ (a ≢ 255) → (b ≡ 5) ⊎ (b ≢ 5) → HeightAt k (a ∷ b ∷ x ∷ y ∷ z ∷ w ∷ more)
-    went (inl p) (inl q) = subst (λ u. HeightAt k (u ∷ b ∷ x ∷ y ∷ z ∷ w ∷ more)) (sym p) (subst (λ u. HeightAt k (255 ∷ u ∷ x ∷ y ∷ z ∷ w ∷ more)) (sym q) (judged (is_valid_length h k (big_number 4 (x ∷ y ∷ z ∷ w ∷ more))) refl))
+    went (inl p) (inl q) = rw (p, q) (judged (is_valid_length h k (big_number 4 (x ∷ y ∷ z ∷ w ∷ more))) refl)
     went (inr p) q = nowhere (λ n tail valid e. p (first_two n (big_bytes 4 n ++ tail) e).0)
     went (inl p) (inr q) = nowhere (λ n tail valid e. q (first_two n (big_bytes 4 n ++ tail) e).1)
   height_at k rest all = short k rest (omega arith)
@@ -69,8 +69,9 @@ module _ (h : Fields) (ok : IsAccepted h) where
   look_fault k rest = rest_fault h (spot_of 0 k 0) 1 false rest
 
   look_at : (fuel k : ℕ) (rest : List ℕ) → length rest ≤ fuel → AreBytes rest → Look k rest
-  look_at zero k [] le all = ended [] [] tt tt (λ n more v e. let l : 0 ≡ length (segment_bytes (NewLength n) ++ more) = ap length e in omega (arith, l)) (λ text more s e. let l : 0 ≡ length (segment_bytes (Comment text) ++ more) = ap length e in omega (arith, l)) refl
-  look_at zero k (b ∷ rest) le all = absurd (omega (arith, le))
+  look_at zero k [] le all = ended [] [] tt tt (λ n more v e. let l = ap length e in omega arith) (λ text more s e. let l : 0 ≡ length (segment_bytes (Comment text) ++ more) = ap length e in
+      omega arith) refl
+  look_at zero k (b ∷ rest) le all = absurd (omega arith)
   look_at (suc fuel) k rest le all = went (height_at k rest all) (λ r less a. look_at fuel k r less a) where
     went : HeightAt k rest → ((r : List ℕ) → length r ≤ fuel → AreBytes r → Look k r) → Look k rest
     went (there n more v e) further = found [] n more tt tt v e
@@ -86,20 +87,20 @@ module _ (h : Fields) (ok : IsAccepted h) where
         by (NewLength n) e =
             let legal : IsLegal h (NewLength n) = subst (IsLegal h) e at.legal in
             let given : GiveOnly 0 0 (NewLength n ∷ []) = subst (λ u. GiveOnly 0 0 (u ∷ [])) e at.gives in
-            absurd (omega (arith, legal.1, given.this.0))
+            absurd (omega (arith, legal.1))
         by (Move row offset) e =
             let few : 1 + cond (is_move (Move row offset)) 1 0 ≤ 1 = subst (λ u. 1 + cond (is_move u) 1 0 ≤ 1) e at.one_move in
-            absurd (omega (arith, few))
-        by (Comment text) e = next (further at.more (shorter rest (segment_bytes at.segment) at.more fuel le (segment_long at.segment) at.tail_is)
+            absurd (omega arith)
+        by (Comment text) e = next (further at.more (shorter (segment_bytes at.segment) at.more fuel le (segment_long at.segment) at.tail_is)
             (all_right (λ x. x < 256) (segment_bytes at.segment) at.more (subst AreBytes at.tail_is all))) where
               legal : IsLegal h (Comment text)
               legal = subst (IsLegal h) e at.legal
 
               is : rest ≡ segment_bytes (Comment text) ++ at.more
-              is = at.tail_is ∙ ap (λ u. segment_bytes u ++ at.more) e
+              is = rw (at.tail_is, e)
 
               joined : (cs : List Segment) (z : List ℕ) → at.more ≡ flat_map segment_bytes cs ++ z → rest ≡ flat_map segment_bytes (Comment text ∷ cs) ++ z
-              joined cs z q = is ∙ ap (λ u. segment_bytes (Comment text) ++ u) q ∙ sym (append_assoc (segment_bytes (Comment text)) (flat_map segment_bytes cs) z)
+              joined cs z q = rw (is, q, ← append_assoc (segment_bytes (Comment text)) (flat_map segment_bytes cs) z)
 
               next : Look k at.more → Look k rest
               next (found cs n more c l v q) = found (Comment text ∷ cs) n more (refl, c) (legal, l) v (joined cs (segment_bytes (NewLength n) ++ more) q)
@@ -121,22 +122,25 @@ module _ (h : Fields) (ok : IsAccepted h) where
   no_moves (s ∷ cs) c = absurd (true≢false (sym c.0))
 
   pub comments_make_none : (cs : List Segment) → AllByRecursion (λ s. IsTrue (is_comment s)) cs → count_by is_move cs ≤ 1
-  comments_make_none cs c = let e = no_moves cs c in omega (arith, e)
+  comments_make_none cs c = let e = no_moves cs c in omega arith
 
   -- where the look ended there is no height
-  no_look : (k n : ℕ) (cs ds : List Segment) (last more : List ℕ) → AllByRecursion (λ s. IsTrue (is_comment s)) cs → AllByRecursion (IsLegal h) cs → AllByRecursion (λ s. IsTrue (is_comment s)) ds → AllByRecursion (IsLegal h) ds →
+  no_look : (k n : ℕ) (cs ds : List Segment) (last more : List ℕ) → AllByRecursion (λ s. IsTrue (is_comment s)) cs → AllByRecursion (IsLegal h) cs →
+      AllByRecursion (λ s. IsTrue (is_comment s)) ds → AllByRecursion (IsLegal h) ds →
       is_valid_length h k n ≡ true →
       ((n : ℕ) (more : List ℕ) → is_valid_length h k n ≡ true → last ≡ segment_bytes (NewLength n) ++ more → ⊥) →
       ((text more : List ℕ) → length text < 2 ^ 32 → last ≡ segment_bytes (Comment text) ++ more → ⊥) →
       flat_map segment_bytes cs ++ last ≡ flat_map segment_bytes ds ++ (segment_bytes (NewLength n) ++ more) → ⊥
   no_look k n [] [] last more c l d m valid no_height no_comment e = no_height n more valid e
   no_look k n [] (Comment text ∷ ds) last more c l d m valid no_height no_comment e =
-      no_comment text (flat_map segment_bytes ds ++ (segment_bytes (NewLength n) ++ more)) m.0 (e ∙ append_assoc (segment_bytes (Comment text)) (flat_map segment_bytes ds) (segment_bytes (NewLength n) ++ more))
+      no_comment text (flat_map segment_bytes ds ++ (segment_bytes (NewLength n) ++ more)) m.0
+      (e ∙ append_assoc (segment_bytes (Comment text)) (flat_map segment_bytes ds) (segment_bytes (NewLength n) ++ more))
   no_look k n [] (s ∷ ds) last more c l d m valid no_height no_comment e = true≢false (sym d.0)
-  no_look k n (Comment text ∷ cs) [] last more c l d m valid no_height no_comment e = let s : 7 ≡ 5 = second e in omega (arith, s)
+  no_look k n (Comment text ∷ cs) [] last more c l d m valid no_height no_comment e = let s = second e in omega (arith, s)
   no_look k n (Comment text ∷ cs) (Comment text' ∷ ds) last more c l d m valid no_height no_comment e =
-      let first = one_segment h ok (Comment text) (Comment text') (flat_map segment_bytes cs ++ last) (flat_map segment_bytes ds ++ (segment_bytes (NewLength n) ++ more)) l.0 m.0
-      (sym (append_assoc (segment_bytes (Comment text)) (flat_map segment_bytes cs) last) ∙ e ∙ append_assoc (segment_bytes (Comment text')) (flat_map segment_bytes ds) (segment_bytes (NewLength n) ++ more)) in
+      let first = one_segment ok (Comment text) (Comment text') (flat_map segment_bytes cs ++ last) (flat_map segment_bytes ds ++ (segment_bytes (NewLength n) ++ more)) l.0 m.0
+      (sym (append_assoc (segment_bytes (Comment text)) (flat_map segment_bytes cs) last) ∙ e
+      ∙ append_assoc (segment_bytes (Comment text')) (flat_map segment_bytes ds) (segment_bytes (NewLength n) ++ more)) in
       no_look k n cs ds last more c.1 l.1 d.1 m.1 valid no_height no_comment first.1
   no_look k n (Comment text ∷ cs) (s ∷ ds) last more c l d m valid no_height no_comment e = true≢false (sym d.0)
   no_look k n (s ∷ cs) ds last more c l d m valid no_height no_comment e = true≢false (sym c.0)
@@ -147,7 +151,8 @@ module _ (h : Fields) (ok : IsAccepted h) where
   all_legal [] each = tt
   all_legal (s ∷ ss) each = All-append (IsLegal h) s.segments (all_segments ss) each.0.legal (all_legal ss each.1)
 
-  both_none : (ss : List Stripe) (ts : List Segment) → AreStripes h ss → AllByRecursion (IsLegal h) ts → GiveOnly 0 0 (all_segments ss) → AllByRecursion (λ n. n ≡ 0) (lengths ts) → lengths (all_segments ss ++ ts) ≡ []
+  both_none : (ss : List Stripe) (ts : List Segment) → AreStripes h ss → AllByRecursion (IsLegal h) ts → GiveOnly 0 0 (all_segments ss) → AllByRecursion (λ n. n ≡ 0) (lengths ts) →
+      lengths (all_segments ss ++ ts) ≡ []
   both_none ss ts each legal g k =
       let a = legal_give_none h (all_segments ss) (all_legal ss each) g.this in
       let b = legal_give_none h ts legal k in
@@ -158,41 +163,43 @@ module _ (h : Fields) (ok : IsAccepted h) where
   header_height body never = (h.yd, inr (refl, never))
 
   -- No height is given where the look after the last stripe ended.
-  pub never_behind : (body : List ℕ) (ss : List Stripe) (rest : List ℕ) (cs : List Segment) (last : List ℕ) → length ss ≡ stripe_count h.yd h.l0 → AreStripes h ss → GiveOnly 0 0 (all_segments ss) → body ≡ flat_map stripe_bytes ss ++ rest →
-      AllByRecursion (λ s. IsTrue (is_comment s)) cs → AllByRecursion (IsLegal h) cs →
+  pub never_behind : {body rest : List ℕ} {n : ℕ} (ss : List Stripe) (cs : List Segment) (last : List ℕ) → length ss ≡ stripe_count h.yd h.l0 → AreStripes h ss →
+      GiveOnly 0 0 (all_segments ss) →
+      body ≡ flat_map stripe_bytes ss ++ rest → AllByRecursion (λ s. IsTrue (is_comment s)) cs → AllByRecursion (IsLegal h) cs →
       ((n : ℕ) (more : List ℕ) → is_valid_length h (length ss) n ≡ true → last ≡ segment_bytes (NewLength n) ++ more → ⊥) →
-      ((text more : List ℕ) → length text < 2 ^ 32 → last ≡ segment_bytes (Comment text) ++ more → ⊥) →
-      rest ≡ flat_map segment_bytes cs ++ last → (n : ℕ) → GivesHeight h body n → ⊥
-  never_behind body ss rest cs last many each gives is c l no_height no_comment e n g = by (cases_lt (length g.stripes) (length ss)) where
+      ((text more : List ℕ) → length text < 2 ^ 32 → last ≡ segment_bytes (Comment text) ++ more → ⊥) → rest ≡ flat_map segment_bytes cs ++ last → GivesHeight h body n → ⊥
+  never_behind {body} {rest} {n} ss cs last many each gives is c l no_height no_comment e g = by (cases_lt (length g.stripes) (length ss)) where
     by : (length g.stripes < length ss) ⊎ (length ss ≤ length g.stripes) → ⊥
     by (inl less) =
-        parts_or_fault h ok 0 (length ss) (never_suits h (length ss)) ss g.stripes rest (flat_map segment_bytes g.segments ++ (segment_bytes (NewLength n) ++ g.rest)) Changed each g.each gives
-        (omega (arith, less)) less (given_breaks h ok body n g) (sym is ∙ g.body_is)
+        parts_or_fault ok 0 (length ss) (never_suits h (length ss)) ss g.stripes rest each g.each gives
+        (omega arith) less (given_breaks ok body n g) (sym is ∙ g.body_is)
     by (inr more) =
-        let same : length ss ≡ length g.stripes = omega (arith, more, many, g.within) in
-        let front = one_front h ok ss g.stripes rest (flat_map segment_bytes g.segments ++ (segment_bytes (NewLength n) ++ g.rest)) each g.each same (sym is ∙ g.body_is) in
-        no_look (length ss) n cs g.segments last g.rest c l (g.behind (sym same ∙ many)) g.begun.legal (subst (λ k. is_valid_length h k n ≡ true) (sym same) g.valid) no_height no_comment (sym e ∙ front.1)
+        let same : length ss ≡ length g.stripes = omega arith in
+        let front = one_front ok ss g.stripes rest (flat_map segment_bytes g.segments ++ (segment_bytes (NewLength n) ++ g.rest)) each g.each same (sym is ∙ g.body_is) in
+        no_look (length ss) n cs g.segments last g.rest c l (g.behind (sym same ∙ many)) g.begun.legal (rw same g.valid) no_height no_comment (sym e ∙ front.1)
 
   -- and the header's is that of the image
-  pub height_of_ended : (body : List ℕ) (ss : List Stripe) (rest : List ℕ) (cs : List Segment) (last : List ℕ) → length ss ≡ stripe_count h.yd h.l0 → AreStripes h ss → GiveOnly 0 0 (all_segments ss) → body ≡ flat_map stripe_bytes ss ++ rest →
-      AllByRecursion (λ s. IsTrue (is_comment s)) cs → AllByRecursion (IsLegal h) cs →
+  pub height_of_ended : {body rest : List ℕ} (ss : List Stripe) (cs : List Segment) (last : List ℕ) → length ss ≡ stripe_count h.yd h.l0 → AreStripes h ss →
+      GiveOnly 0 0 (all_segments ss) →
+      body ≡ flat_map stripe_bytes ss ++ rest → AllByRecursion (λ s. IsTrue (is_comment s)) cs → AllByRecursion (IsLegal h) cs →
       ((n : ℕ) (more : List ℕ) → is_valid_length h (length ss) n ≡ true → last ≡ segment_bytes (NewLength n) ++ more → ⊥) →
-      ((text more : List ℕ) → length text < 2 ^ 32 → last ≡ segment_bytes (Comment text) ++ more → ⊥) →
-      rest ≡ flat_map segment_bytes cs ++ last → IsHeight h body h.yd
-  height_of_ended body ss rest cs last many each gives is c l no_height no_comment e = inr (refl, never_behind body ss rest cs last many each gives is c l no_height no_comment e)
+      ((text more : List ℕ) → length text < 2 ^ 32 → last ≡ segment_bytes (Comment text) ++ more → ⊥) → rest ≡ flat_map segment_bytes cs ++ last → IsHeight h body h.yd
+  height_of_ended ss cs last many each gives is c l no_height no_comment e = inr (refl, λ other. never_behind ss cs last many each gives is c l no_height no_comment e)
 
   -- At height 0, a body that breaks with another error than that of a valid height contains none.
-  pub height_of_broken : (body : List ℕ) (f : Fault) → StripesFault h 0 (stripe_count h.yd h.l0) body f → (f ≡ Changed → ⊥) → IsHeight h body h.yd
-  height_of_broken body f b other = inr (refl, never) where
+  pub height_of_broken : {body : List ℕ} {f : Fault} → StripesFault h 0 (stripe_count h.yd h.l0) body f → (f ≡ Changed → ⊥) → IsHeight h body h.yd
+  height_of_broken {body} b other = inr (refl, never) where
     never : (n : ℕ) → GivesHeight h body n → ⊥
     never n g =
-        let cut = one_broken h ok 0 (length b.stripes + length g.stripes) (never_suits h (length b.stripes + length g.stripes)) b.stripes g.stripes b.tail (flat_map segment_bytes g.segments ++ (segment_bytes (NewLength n) ++ g.rest)) f Changed
-        b.each g.each b.gives (stripes_give_none h ok body n g) (omega arith) (omega arith) b.tail_has (given_breaks h ok body n g) (sym b.bytes_are ∙ g.body_is) in
+        let cut = one_broken ok 0 (length b.stripes + length g.stripes) (never_suits h (length b.stripes + length g.stripes)) b.stripes g.stripes
+        b.each g.each b.gives (stripes_give_none ok body g) (omega arith) (omega arith) b.tail_has (given_breaks ok body n g) (sym b.bytes_are ∙ g.body_is) in
         other cut.broken.fault
 
   module _ (body : List ℕ) (all : AreBytes body) (variable : is_variable h ≡ true) where
-    enough_there : (ss : List Stripe) (rest : List ℕ) → length ss ≡ stripe_count h.yd h.l0 → AreStripes h ss → GiveOnly 0 0 (all_segments ss) → body ≡ flat_map stripe_bytes ss ++ rest → (n : ℕ) × IsHeight h body n
-    enough_there ss rest many each gives is = went (look_at (length rest) (length ss) rest (omega arith) (all_right (λ x. x < 256) (flat_map stripe_bytes ss) rest (subst AreBytes is all))) where
+    enough_there : (ss : List Stripe) (rest : List ℕ) → length ss ≡ stripe_count h.yd h.l0 → AreStripes h ss → GiveOnly 0 0 (all_segments ss) →
+        body ≡ flat_map stripe_bytes ss ++ rest →
+        (n : ℕ) × IsHeight h body n
+    enough_there ss rest many each gives is = went (look_at (length rest) (length ss) rest (omega arith) (all_right (λ x. x < 256) (flat_map stripe_bytes ss) rest (rw (← is) all))) where
       went : Look (length ss) rest → (n : ℕ) × IsHeight h body n
       went (found cs n more c l v e) = (
         n,
@@ -201,23 +208,23 @@ module _ (h : Fields) (ok : IsAccepted h) where
           stripes = ss;
           segments = cs;
           rest = more;
-          body_is = is ∙ ap (λ u. flat_map stripe_bytes ss ++ u) e;
+          body_is = rw (is, e);
           each = each;
           begun = record { legal = l; one_move = comments_make_none cs c; bytes = tt };
-          first = both_none ss cs each l gives (subst (AllByRecursion (λ n. n ≡ 0)) (sym (comments_give_none cs c)) tt);
-          within = omega (arith, many);
+          first = both_none ss cs each l gives (rw comments_give_none tt);
+          within = omega arith;
           behind = λ _. c;
           valid = v;
         }),
       )
-      went (ended cs last c l no_height no_comment e) = (h.yd, height_of_ended body ss rest cs last many each gives is c l no_height no_comment e)
+      went (ended cs last c l no_height no_comment e) = (h.yd, height_of_ended ss cs last many each gives is c l no_height no_comment e)
 
     broken_there : (f : Fault) → StripesFault h 0 (stripe_count h.yd h.l0) body f → (n : ℕ) × IsHeight h body n
     broken_there f b = went (height_at (length b.stripes) b.tail_has.rest rest_bytes) (is_nil_or b.tail_has.code) where
       rest_bytes : AreBytes b.tail_has.rest
       rest_bytes =
           all_right (λ x. x < 256) (stuffed b.tail_has.code) b.tail_has.rest (all_right (λ x. x < 256) (flat_map segment_bytes b.tail_has.segments) (stuffed b.tail_has.code ++ b.tail_has.rest)
-          (subst AreBytes b.tail_has.bytes_are (all_right (λ x. x < 256) (flat_map stripe_bytes b.stripes) b.tail (subst AreBytes b.bytes_are all))))
+          (rw (← b.tail_has.bytes_are) (all_right (λ x. x < 256) (flat_map stripe_bytes b.stripes) b.tail (subst AreBytes b.bytes_are all))))
 
       is_nil_or : (code : List ℕ) → (code ≡ []) ⊎ (code ≡ [] → ⊥)
       is_nil_or [] = inl refl
@@ -226,13 +233,13 @@ module _ (h : Fields) (ok : IsAccepted h) where
       -- what is given must stand where the fault is
       same : (n : ℕ) (g : GivesHeight h body n) → (b.tail_has.code ≡ []) × (length b.stripes ≡ length g.stripes) × (b.tail_has.rest ≡ segment_bytes (NewLength n) ++ g.rest)
       same n g =
-          let cut = one_broken h ok 0 (length b.stripes + length g.stripes) (never_suits h (length b.stripes + length g.stripes)) b.stripes g.stripes b.tail (flat_map segment_bytes g.segments ++ (segment_bytes (NewLength n) ++ g.rest)) f Changed
-          b.each g.each b.gives (stripes_give_none h ok body n g) (omega arith) (omega arith) b.tail_has (given_breaks h ok body n g) (sym b.bytes_are ∙ g.body_is) in
+          let cut = one_broken ok 0 (length b.stripes + length g.stripes) (never_suits h (length b.stripes + length g.stripes)) b.stripes g.stripes
+          b.each g.each b.gives (stripes_give_none ok body g) (omega arith) (omega arith) b.tail_has (given_breaks ok body n g) (sym b.bytes_are ∙ g.body_is) in
           (cut.broken.code, ap length cut.stripes, cut.broken.rest)
 
       went : HeightAt (length b.stripes) b.tail_has.rest → (b.tail_has.code ≡ []) ⊎ (b.tail_has.code ≡ [] → ⊥) → (n : ℕ) × IsHeight h body n
       went at (inr not_nil) = header_height body (λ n g. not_nil (same n g).0)
-      went (nowhere never) (inl nil) = header_height body (λ n g. let e = same n g in never n g.rest (subst (λ k. is_valid_length h k n ≡ true) (sym e.1) g.valid) e.2)
+      went (nowhere never) (inl nil) = header_height body (λ n g. let e = same n g in never n g.rest (rw e.1 g.valid) e.2)
       went (there n more v e) (inl nil) = (
         n,
         inl (record {
@@ -240,12 +247,12 @@ module _ (h : Fields) (ok : IsAccepted h) where
           stripes = b.stripes;
           segments = b.tail_has.segments;
           rest = more;
-          body_is = b.bytes_are ∙ ap (λ u. flat_map stripe_bytes b.stripes ++ u) (b.tail_has.bytes_are ∙ ap (λ u. flat_map segment_bytes b.tail_has.segments ++ (stuffed u ++ b.tail_has.rest)) nil ∙ ap (λ u. flat_map segment_bytes b.tail_has.segments ++ u) e);
+          body_is = rw (b.bytes_are, b.tail_has.bytes_are, nil, e);
           each = b.each;
           begun = record { legal = b.tail_has.begun.legal; one_move = b.tail_has.begun.one_move; bytes = tt };
           first = both_none b.stripes b.tail_has.segments b.each b.tail_has.begun.legal b.gives b.tail_has.gives.this;
-          within = omega (arith, b.fewer);
-          behind = λ many. absurd (omega (arith, many, b.fewer));
+          within = omega arith;
+          behind = λ many. absurd (omega arith);
           valid = v;
         }),
       )

@@ -18,7 +18,6 @@ use Rattle.t85_core.specs.Header.{Fields, HeaderOf, IsAccepted, header_bytes}
 use Rattle.t85_core.specs.Grammar.{Segment, NewLength, Stripe, IsBegun, AreStripes, GiveOnly, segment_bytes, marker_bytes, lengths, all_segments, stripe_bytes, stripe_count}
 use Rattle.t85_core.specs.Coding.{Coding, HasLegalFlags, has_bit, mode_of, move_of, rows_of, lines_of, learned_at, begun, events_of, place_of}
 use Rattle.t85_core.specs.Denotes.{Denotes, EachLies, coding_in}
-use Rattle.t85_core.specs.declared.fault.Fault.TheVariants.{Changed}
 use Rattle.t85_core.specs.Height.{GivesHeight, IsHeight}
 use Rattle.t85_core.specs.Jbg.{Settings, AreSettings, IsAnnounced, written_options, header_of, ending, cut, coding_of, canonical_flags, named_for, first_choice, choice_after, current_offset, move_before, move_segments, coded_stripe, stripes_of, jbg}
 use Rattle.t85_core.specs.Steps.CoderLaws.{WritingLaws}
@@ -295,11 +294,11 @@ module _ (q : WritingLaws) (s : Settings) (raster : Raster) (proper : AreSetting
 
           by : (length g.stripes < length stripes) ⊎ (length stripes ≤ length g.stripes) → ⊥
           by (inl less) =
-              parts_or_fault h accepted 0 (length stripes) (never_suits h (length stripes)) stripes g.stripes (ending s (height raster)) (flat_map segment_bytes g.segments ++ (segment_bytes (NewLength other) ++ g.rest)) Changed
-              each g.each (gives 0) (omega (arith, less)) less (given_breaks h accepted body other g) (sym body_is ∙ g.body_is)
+              parts_or_fault accepted 0 (length stripes) (never_suits h (length stripes)) stripes g.stripes (ending s (height raster))
+              each g.each (gives 0) (omega (arith, less)) less (given_breaks accepted body other g) (sym body_is ∙ g.body_is)
           by (inr more) =
               let count : length stripes ≡ length g.stripes = omega (arith, more, many_stripes, as_many) in
-              let front = one_front h accepted stripes g.stripes (ending s (height raster)) (flat_map segment_bytes g.segments ++ (segment_bytes (NewLength other) ++ g.rest)) each g.each count (sym body_is ∙ g.body_is) in
+              let front = one_front accepted stripes g.stripes (ending s (height raster)) (flat_map segment_bytes g.segments ++ (segment_bytes (NewLength other) ++ g.rest)) each g.each count (sym body_is ∙ g.body_is) in
               not_nil (flat_map segment_bytes g.segments) (sym nothing ∙ front.1)
             where
               not_nil : (xs : List ℕ) → [] ≡ xs ++ (segment_bytes (NewLength other) ++ g.rest) → ⊥

@@ -49,7 +49,7 @@ coded h n body raster p = record {
 pub one_raster_at : (q : CoderLaws) (h : Fields) (n : ℕ) (body : List ℕ) (one other : Raster) → IsAccepted h → n < 2 ^ 32 →
     DenotesAt h n body one → DenotesAt h n body other → other ≡ one
 one_raster_at k h n body one other ok small p q =
-    let stripes = one_parts h ok q.parts.stripes p.parts.stripes q.parts.rest p.parts.rest q.parts.each p.parts.each (q.parts.count ∙ sym p.parts.count) (sym q.parts.body_is ∙ p.parts.body_is) in
+    let stripes = one_parts ok q.parts.stripes p.parts.stripes q.parts.rest p.parts.rest q.parts.each p.parts.each (q.parts.count ∙ sym p.parts.count) (sym q.parts.body_is ∙ p.parts.body_is) in
     let rows : other.rows ≡ one.rows = one_list_of_rows k h n p.parts.stripes other.rows one.rows ok.stripe_from p.parts.count
     (subst (λ s. Coded h n s other.rows) stripes (coded h n body other q)) (coded h n body one p) in
     ap (λ w. made w other.rows) (q.width ∙ sym p.width) ∙ ap (λ r. made one.width r) rows
@@ -65,10 +65,10 @@ record Says (bytes : List ℕ) (h : Fields) (raster : Raster) : Type 0 where
 
 pub one_raster_of : (q : CoderLaws) (bytes : List ℕ) (one other : Raster) → Denotes bytes one → Denotes bytes other → other ≡ one
 one_raster_of q bytes one other p r =
-    let same : p.header ≡ r.header = header_is bytes p.header r.header p.header_of r.header_of in
+    let same : p.header ≡ r.header = header_is p.header_of r.header_of in
     let says : Says bytes r.header other = record { height = r.height; height_is = r.height_is; at = r.denotes } in
     let s : Says bytes p.header other = subst (λ u. Says bytes u other) (sym same) says in
-    let n : s.height ≡ p.height = one_height_of p.header (drop 20 bytes) s.height p.height p.header_of.accepted s.height_is p.height_is in
-    let within = height_within p.header (drop 20 bytes) p.height p.header_of.accepted p.height_is in
+    let n : s.height ≡ p.height = one_height_of (drop 20 bytes) s.height p.height p.header_of.accepted s.height_is p.height_is in
+    let within = height_within (drop 20 bytes) p.height p.header_of.accepted p.height_is in
     one_raster_at q p.header p.height (drop 20 bytes) one other p.header_of.accepted (omega (arith, within.to, p.header_of.accepted.height_to)) p.denotes
     (subst (λ z. DenotesAt p.header z (drop 20 bytes) other) n s.at)

@@ -121,7 +121,7 @@ five : IsAccepted (narrow 5 128)
 five = narrow_is 5 128 (lit≤ tt) (lit< tt) (lit≤ tt) (lit< tt)
 
 above : IsHeight (narrow 5 128) (black ++ length_to 9 ++ 255 ∷ 2 ∷ []) 5
-above = height_of_ended (narrow 5 128) five (black ++ length_to 9 ++ 255 ∷ 2 ∷ []) (stripe_of [] 192 ∷ []) (length_to 9 ++ 255 ∷ 2 ∷ []) [] (length_to 9 ++ 255 ∷ 2 ∷ []) refl
+above = height_of_ended five (stripe_of [] 192 ∷ []) [] (length_to 9 ++ 255 ∷ 2 ∷ []) refl
     (record { legal = tt; one_move = lit≤ tt; bytes = (lit< tt, tt) }, tt) (none_given 0 0 (lit≤ tt)) refl tt tt too_high no_comment refl
   where
     too_high : (n : ℕ) (more : List ℕ) → is_valid_length (narrow 5 128) 1 n ≡ true → length_to 9 ++ 255 ∷ 2 ∷ [] ≡ segment_bytes (NewLength n) ++ more → ⊥
@@ -148,9 +148,9 @@ worked_heights = record {
     gives = record { one = lit≤ tt; this = (refl, tt) };
     tail_has = record { segments = []; code = []; rest = 255 ∷ 5 ∷ []; bytes_are = refl; begun = record { legal = tt; one_move = lit≤ tt; bytes = tt }; gives = none_given 2 1 (lit≤ tt); rest_has = refl };
   };
-  too_low = height_of_broken (narrow 9 1) nine (black ++ black ++ length_to 1 ++ 255 ∷ 2 ∷ []) LengthRefused (refused_behind 0 1 refl (refused_low 0)) not_changed;
+  too_low = height_of_broken nine (refused_behind 0 1 refl (refused_low 0)) not_changed;
   low_refused = refused_behind 9 1 refl (refused_low 9);
-  no_row = height_of_broken (narrow 9 1) nine (black ++ black ++ length_to 0 ++ 255 ∷ 2 ∷ []) LengthRefused (refused_behind 0 0 refl (refused_zero 0)) not_changed;
+  no_row = height_of_broken nine (refused_behind 0 0 refl (refused_zero 0)) not_changed;
   zero_refused = refused_behind 9 0 refl (refused_zero 9);
   changed = record {
     stripes = [];

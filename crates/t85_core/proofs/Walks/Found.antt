@@ -10,7 +10,7 @@ use Rattle.t85_core.specs.Header.{Fields}
 use Rattle.t85_core.specs.Grammar.{Segment, segment_bytes, is_move, is_nil, lengths, all_segments, Stripe, stripe_bytes, marker_bytes, stripe_count, IsLegal, IsBegun, AreStripes, GiveOnly, Parts}
 use Rattle.t85_core.specs.Refusal.{rest_fault, StripesFault}
 use Rattle.t85_core.specs.Steps.HeightWalk.{moved_behind, IsAlone, SkipFault, SkipsStripes, SkipsFault, Sought, search_place, search_end, segment_counts}
-use Rattle.t85_core.specs.Failures.{Ends, counted_as}
+use Rattle.t85_core.specs.Failures.{Ends}
 use Rattle.t85_core.specs.Info.{IsWalkFault}
 use Rattle.t85_core.specs.Steps.Buffers.{reading}
 use Rattle.t85_core.proofs.Grammar.Faults.{rest_faults, uncounted}
@@ -52,7 +52,7 @@ module _ (h : Fields) (height : ℕ) (ss : List Stripe) (front : List Segment) (
   }
 
   pub gives_on : (more : List Segment) → lengths more ≡ [] → GiveOnly height 0 ((all_segments ss ++ front) ++ more)
-  gives_on more none = gives_both height 0 (all_segments ss ++ front) more gives (gives_none height (0 + length (lengths (all_segments ss ++ front))) more gives.one none)
+  gives_on more none = gives_both height 0 more gives (gives_none height (0 + length (lengths (all_segments ss ++ front))) more gives.one none)
 
   pub segments_are : (t : Stripe) (ts : List Stripe) → all_segments (ss ++ joined_to front t ∷ ts) ≡ (all_segments ss ++ front) ++ all_segments (t ∷ ts)
   segments_are t ts =
@@ -97,7 +97,7 @@ module _ (h : Fields) (height : ℕ) (ss : List Stripe) (front : List Segment) (
       begun = begun_joined q.segments q.code q.begun q.alone;
       gives = (let g = gives_right height 0 (all_segments ss) front gives in
           let g' : GiveOnly height (length (lengths (all_segments ss))) front = (let z : 0 + length (lengths (all_segments ss)) ≡ length (lengths (all_segments ss)) = omega arith in subst (λ n. GiveOnly height n front) z g) in
-          gives_both height (length (lengths (all_segments ss))) front q.segments g' (gives_none height (length (lengths (all_segments ss)) + length (lengths front)) q.segments g'.one q.none));
+          gives_both height (length (lengths (all_segments ss))) q.segments g' (gives_none height (length (lengths (all_segments ss)) + length (lengths front)) q.segments g'.one q.none));
       rest_has = same_rest h height (length ss + 0) (cond given 1 0) (cond moved 1 0 + count_by is_move q.segments)
           (length ss) (length (lengths (all_segments ss)) + length (lengths (front ++ q.segments))) (count_by is_move (front ++ q.segments)) (not (is_nil q.code)) q.rest f
           (omega arith)
@@ -202,7 +202,7 @@ pub skips_faults : (h : Fields) (from count : ℕ) (given moved : Bool) {old new
 skips_faults h from count given moved {f = f} e =
     let q = e.has_fault in
     uncounted Truncated f (rest_faults h (record { height = 0; entities = from + length q.stripes; heights = cond given 1 0 }) (cond (moved_behind moved q.stripes) 1 0 + count_by is_move q.tail_has.segments) (not (is_nil q.tail_has.code)) q.tail_has.rest
-    (counted_as Truncated f) (q.tail_has.rest_has 0))
+    (q.tail_has.rest_has 0))
 
 -- no height comes after one
 pub sought_whole : (h : Fields) (from count : ℕ) (moved : Bool) (old new : Option (List ℕ)) (entities moves comments part_moves part_comments : ℕ) (o : Option ℕ) → Sought h (search_place from true moved) count (reading old new) (search_end entities moves comments part_moves part_comments) o →

@@ -3,7 +3,7 @@ use Rattle.std.proofs.Common.{cond, ◌≡◌, ◌≢◌, inl, inr, ◌<◌, ◌
 use Rattle.std.specs.Prelude.{flat_map}
 use Rattle.std.specs.Io.KnownBytes.{Consumes, IsAtEnd}
 use Rattle.t85_core.specs.declared.fault.Fault.{Fault}
-use Rattle.t85_core.specs.declared.fault.Fault.TheVariants.{Truncated, Changed, Read}
+use Rattle.t85_core.specs.declared.fault.Fault.TheVariants.{Truncated, Read}
 use Rattle.t85_core.specs.declared.header.Header.{Header}
 use Rattle.t85_core.specs.Options.{fields_of}
 use Rattle.t85_core.specs.Header.{Fields, IsAccepted, is_variable}
@@ -93,8 +93,8 @@ module _ (h : Fields) (ok : IsAccepted h) where
     never n g = none_some (sym whole ∙ has) where
       cut : (q.stripes ≡ g.stripes) × (q.tail_has.code ≡ []) × (q.tail_has.rest ≡ segment_bytes (NewLength n) ++ g.rest)
       cut =
-          let c = one_broken h ok 0 (length b.stripes + length g.stripes) (never_suits h (length b.stripes + length g.stripes)) b.stripes g.stripes b.tail (flat_map segment_bytes g.segments ++ (segment_bytes (NewLength n) ++ g.rest)) f Changed
-          b.each g.each b.gives (stripes_give_none h ok body n g) (omega arith) (omega arith) b.tail_has (given_breaks h ok body n g) (sym b.bytes_are ∙ g.body_is) in
+          let c = one_broken ok 0 (length b.stripes + length g.stripes) (never_suits h (length b.stripes + length g.stripes)) b.stripes g.stripes
+          b.each g.each b.gives (stripes_give_none ok body g) (omega arith) (omega arith) b.tail_has (given_breaks ok body n g) (sym b.bytes_are ∙ g.body_is) in
           (c.stripes, c.broken.code, c.broken.rest)
 
       at : length g.stripes ≡ 0 + length q.stripes
@@ -194,7 +194,7 @@ module _ (h : Fields) (ok : IsAccepted h) where
     found_none : IfSome mid (LookEnds h entities) → FindsNone h (reading old mid) entities (segment_counts moves comments)
     found_none looked = record { mid = mid; before = before; all = many; height_is = known_behind (λ body. IsHeight h body h.yd) (LookEnds h entities) old mid (flat_map stripe_bytes before.stripes) before.taken looked height } where
       height : (rest : List ℕ) → LookEnds h entities rest → IsHeight h (flat_map stripe_bytes before.stripes ++ rest) h.yd
-      height rest l = height_of_ended h ok (flat_map stripe_bytes before.stripes ++ rest) before.stripes rest l.segments l.last (before.count_is ∙ many) before.each (gives_none 0 0 (all_segments before.stripes) (omega arith) before.none) refl l.are.comments l.are.legal
+      height rest l = height_of_ended ok before.stripes l.segments l.last (before.count_is ∙ many) before.each (gives_none 0 0 (all_segments before.stripes) (omega arith) before.none) refl l.are.comments l.are.legal
           (λ n z valid e. l.no_height n z (subst (λ k. is_valid_length h k n ≡ true) before.count_is valid) e) l.no_comment l.rest_is
 
     found_behind : (new : Option (List ℕ)) (n : ℕ) → LooksTo h entities mid new n → FindsGiven h (reading old new) (search_end entities moves comments part_moves part_comments) n
@@ -202,13 +202,13 @@ module _ (h : Fields) (ok : IsAccepted h) where
       mid = mid;
       before = before;
       segments = l.segments;
-      begun = record { legal = l.are.legal; one_move = comments_make_none h ok l.segments l.are.comments; bytes = tt };
-      none = comments_give_none h ok l.segments l.are.comments;
+      begun = record { legal = l.are.legal; one_move = comments_make_none ok l.segments l.are.comments; bytes = tt };
+      none = comments_give_none ok l.segments l.are.comments;
       legal = l.legal;
       valid = l.valid;
       within = omega (arith, many);
       behind = λ _. l.are.comments;
-      part_moves_are = s.1 ∙ sym (no_moves h ok l.segments l.are.comments);
+      part_moves_are = s.1 ∙ sym (no_moves ok l.segments l.are.comments);
       part_comments_are = λ less. absurd (omega (arith, less, many));
       taken = l.taken;
     }
@@ -231,8 +231,8 @@ module _ (h : Fields) (ok : IsAccepted h) where
         rest = l.rest;
         body_is = ap (λ z. flat_map stripe_bytes before.stripes ++ z) l.given_is;
         each = before.each;
-        begun = record { legal = l.are.legal; one_move = comments_make_none h ok l.segments l.are.comments; bytes = tt };
-        none = lengths_append (all_segments before.stripes) l.segments ∙ ap (λ z. z ++ lengths l.segments) before.none ∙ comments_give_none h ok l.segments l.are.comments;
+        begun = record { legal = l.are.legal; one_move = comments_make_none ok l.segments l.are.comments; bytes = tt };
+        none = lengths_append (all_segments before.stripes) l.segments ∙ ap (λ z. z ++ lengths l.segments) before.none ∙ comments_give_none ok l.segments l.are.comments;
         within = (let n = before.count_is in omega (arith, n, many));
         behind = λ _. (l.are.comments, refl);
         moves = 1;

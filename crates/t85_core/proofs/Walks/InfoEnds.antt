@@ -32,7 +32,7 @@ unread_header old new f e read =
 refused_behind : (given body : List ℕ) (h : Fields) (f : Fault) → length given ≡ 20 → HeaderOf given h → BodyRefused h f body → StreamFault (given ++ body) f
 refused_behind given body h f long is r = inr (record {
   header = h;
-  header_of = HeaderOf-append given body h is;
+  header_of = HeaderOf-append body is;
   height = r.height;
   height_is = subst (λ z. IsHeight h z r.height) (sym (behind given body long)) r.height_is;
   broken = subst (λ z. BodyFault h r.height z f) (sym (behind given body long)) r.broken;
@@ -43,13 +43,13 @@ refused_stream old mid given h f long taken is r = known_behind (λ bytes. Strea
 
 unread_stream : (given body : List ℕ) (h : Fields) → length given ≡ 20 → HeaderOf given h → BodyUnfinished h body → IsUnfinished (given ++ body)
 unread_stream given body h long is (inl r) = inr (inl (refused_behind given body h Truncated long is r))
-unread_stream given body h long is (inr o) = inr (inr (record { header = h; header_of = HeaderOf-append given body h is; open_still = subst (IsOpen h) (sym (behind given body long)) o }))
+unread_stream given body h long is (inr o) = inr (inr (record { header = h; header_of = HeaderOf-append body is; open_still = subst (IsOpen h) (sym (behind given body long)) o }))
 
 -- the numbers of the body are those of the stream
 known_numbers : (old mid : Option (List ℕ)) (given : List ℕ) (h : Fields) (numbers : List ℕ) → length given ≡ 20 → Consumes old mid given → HeaderOf given h → IfSome mid (BodyNumbers h numbers) → IfSome old (λ bytes. HasNumbers bytes numbers)
 known_numbers old mid given h numbers long taken is r = known_behind (λ bytes. HasNumbers bytes numbers) (BodyNumbers h numbers) old mid given taken r (λ body n. record {
   header = h;
-  header_of = HeaderOf-append given body h is;
+  header_of = HeaderOf-append body is;
   height = n.height;
   height_is = subst (λ z. IsHeight h z n.height) (sym (behind given body long)) n.height_is;
   parts = record { stripes = n.parts.stripes; rest = n.parts.rest; body_is = behind given body long ∙ n.parts.body_is; count = n.parts.count; each = n.parts.each; gives = n.parts.gives };
@@ -61,8 +61,8 @@ module _ (in_old in_new : Option (List ℕ)) (reads_old reads_new : ℕ) where
   pub told_header : (f : Fault) → Ends ShortHeader in_old in_new (λ given fault. (length given ≤ 20) × (header_fault given ≡ Some fault)) f → reads_new ≡ reads_after f reads_old → Summarize (between in_old in_new reads_old reads_new) (Err f)
   told_header f e counted = record {
     numbers = tt;
-    refused = λ read. refused_header in_old in_new f e read;
-    among = uncounted ShortHeader f (header_faults e.given (counted_as ShortHeader f) e.has_fault.1);
+    refused = λ read. refused_header e read;
+    among = uncounted ShortHeader f (header_faults e.given e.has_fault.1);
     unread = λ is. unread_header in_old in_new f e (let same : f ≡ Read = cc in same);
     reads = counted;
   }

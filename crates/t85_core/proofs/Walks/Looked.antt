@@ -110,4 +110,4 @@ looked_code {h} {a} {b} p d k first taken = went a b d first p.taken taken where
 
 -- the fault of a piece is one of a walk
 pub piece_faults : (h : Fields) (k : ℕ) {b c : Option (List ℕ)} {f : Fault} → Ends Truncated b c (PieceFault h (record { height = 0; entities = k; given = false }) true) f → IsWalkFault f
-piece_faults h k {f = f} e = uncounted Truncated f (rest_faults h (record { height = 0; entities = k; heights = 0 }) 1 false e.given _ (e.has_fault 0))
+piece_faults h k {f = f} e = uncounted Truncated f (rest_faults h (record { height = 0; entities = k; heights = 0 }) 1 false e.given (e.has_fault 0))

@@ -131,7 +131,7 @@ module _ {h : Fields} {w : PartWalk} {ss : List Stripe} {gs : List Segment} {bod
       only =
           let l = ap length u.none in
           subst (GiveOnly n 0) (append_assoc (all_segments ss) gs (NewLength n ∷ []))
-          (gives_both n 0 (all_segments ss ++ gs) (NewLength n ∷ []) (gives_none n 0 (all_segments ss ++ gs) (omega arith) u.none)
+          (gives_both n 0 (NewLength n ∷ []) (gives_none n 0 (all_segments ss ++ gs) (omega arith) u.none)
           (record { one = (let z : 0 + length (lengths (all_segments ss ++ gs)) ≡ 0 = omega (arith, l) in omega (arith, z)); this = (refl, tt) }))
 
   module _ (g : IsGiven w h ss gs body) (late : w'.late_height ≡ w.late_height) (few : length ss < stripe_count w.late_height h.l0) where
@@ -140,7 +140,7 @@ module _ {h : Fields} {w : PartWalk} {ss : List Stripe} {gs : List Segment} {bod
       gives = subst (GivesHeight h body) (sym late) g.gives;
       only = subst (λ z. GiveOnly z 0 (all_segments ss ++ (gs ++ s ∷ []))) (sym late)
           (subst (GiveOnly w.late_height 0) (append_assoc (all_segments ss) gs (s ∷ []))
-          (gives_both w.late_height 0 (all_segments ss ++ gs) (s ∷ []) g.only (gives_none w.late_height (0 + length (lengths (all_segments ss ++ gs))) (s ∷ []) (let o = g.one in omega (arith, o)) none)));
+          (gives_both w.late_height 0 (s ∷ []) g.only (gives_none w.late_height (0 + length (lengths (all_segments ss ++ gs))) (s ∷ []) (let o = g.one in omega (arith, o)) none)));
       one = (let l = many_lengths (all_segments ss ++ gs) (s ∷ []) in let a = ap length (lengths_more ss gs s) in let b = length-append (lengths (all_segments ss ++ gs)) (lengths (s ∷ [])) in let z = ap length none in let o = g.one in omega (arith, a, b, z, o));
       within = subst (λ z. length ss ≤ stripe_count z h.l0) (sym late) g.within;
       last = λ all. absurd (let e : length ss ≡ stripe_count w.late_height h.l0 = all ∙ ap (λ z. stripe_count z h.l0) late in omega (arith, e, few));

@@ -107,4 +107,4 @@ module _ (h : Fields) (place : Place) (moved : Bool) (old new : List ℕ) where
 
 -- the fault is one of a stream
 pub missed_among : (h : Fields) (place : Place) (moved : Bool) (bytes : List ℕ) (f : Fault) → MissesPart h place moved bytes f → IsWalkFault f
-missed_among h place moved bytes f m = rest_faults h (record { height = 0; entities = place.entities; heights = cond place.given 1 0 }) (cond moved 1 0) (not (is_nil m.code)) m.rest f (m.rest_has 0)
+missed_among h place moved bytes f m = rest_faults h (record { height = 0; entities = place.entities; heights = cond place.given 1 0 }) (cond moved 1 0) (not (is_nil m.code)) m.rest (m.rest_has 0)

@@ -159,10 +159,10 @@ module _ {stream : List ℕ} {w : PartWalk} {h : Fields} {ss : List Stripe} {gs 
 
   -- where the look ends no height comes
   pub never_before : w.late_height ≡ 0 → stripe_count h.yd h.l0 ≤ w.entities → LookEnds h w.entities (drop w.offset stream) → (n : ℕ) → GivesHeight h (drop 20 stream) n → ⊥
-  never_before zero most l =
+  never_before zero most l n =
       let u = ungiven_of zero in
       let all = all_of u most in
-      never_behind h p.header_of.accepted (drop 20 stream) ss (flat_map segment_bytes gs ++ drop w.offset stream) (gs ++ l.segments) l.last all p.each
+      never_behind p.header_of.accepted ss (gs ++ l.segments) l.last all p.each
       (gives_none 0 0 (all_segments ss) (omega arith) (none_left (all_segments ss) gs u.none)) body_apart
       (All-append (λ s. IsTrue (is_comment s)) gs l.segments (comments_of u all) l.are.comments) (All-append (IsLegal h) gs l.segments p.begun.legal l.are.legal)
       (λ n z valid e. l.no_height n z (subst (λ k. is_valid_length h k n ≡ true) (sym p.entities_are) valid) e) l.no_comment
@@ -174,7 +174,7 @@ module _ {stream : List ℕ} {w : PartWalk} {h : Fields} {ss : List Stripe} {gs 
       let u = ungiven_of zero in
       let all = all_of u most in
       let comments = All-append (λ s. IsTrue (is_comment s)) gs l.segments (comments_of u all) l.are.comments in
-      let none = comments_give_none h p.header_of.accepted (gs ++ l.segments) comments in
+      let none = comments_give_none p.header_of.accepted (gs ++ l.segments) comments in
       record {
         variable = l.legal.0;
         stripes = ss;
@@ -185,7 +185,7 @@ module _ {stream : List ℕ} {w : PartWalk} {h : Fields} {ss : List Stripe} {gs 
             ∙ sym (append_assoc (flat_map segment_bytes gs) (flat_map segment_bytes l.segments) (segment_bytes (NewLength n) ++ left))
             ∙ ap (λ z. z ++ (segment_bytes (NewLength n) ++ left)) (sym (flat_map-append segment_bytes gs l.segments)));
         each = p.each;
-        begun = record { legal = All-append (IsLegal h) gs l.segments p.begun.legal l.are.legal; one_move = comments_make_none h p.header_of.accepted (gs ++ l.segments) comments; bytes = tt };
+        begun = record { legal = All-append (IsLegal h) gs l.segments p.begun.legal l.are.legal; one_move = comments_make_none p.header_of.accepted (gs ++ l.segments) comments; bytes = tt };
         first = lengths_append (all_segments ss) (gs ++ l.segments) ∙ ap (λ z. z ++ lengths (gs ++ l.segments)) (none_left (all_segments ss) gs u.none) ∙ none;
         within = u.within;
         behind = λ _. comments;
@@ -263,7 +263,7 @@ module _ {stream : List ℕ} {w : PartWalk} {h : Fields} {ss : List Stripe} {gs 
       let g = given_of_walk is in
       let all : length ss ≡ stripe_count w.late_height h.l0 = (let e = ap (λ n. stripe_count n h.l0) (in_use_given h w (late_of g)) in let n = p.entities_are in let within = g.within in omega (arith, most, e, n, within)) in
       whole w.late_height (g.last all) (inl g.gives) all (gives_left w.late_height 0 (all_segments ss) gs g.only)
-      (λ n other. single (lengths (all_segments ss ++ gs)) w.late_height g.one g.only.this ∙ ap (λ m. m ∷ []) (one_given h p.header_of.accepted (drop 20 stream) w.late_height n g.gives other))
+      (λ n other. single (lengths (all_segments ss ++ gs)) w.late_height g.one g.only.this ∙ ap (λ m. m ∷ []) (one_given p.header_of.accepted (drop 20 stream) g.gives other))
 
   module _ (none : is_given w ≡ false) (most : stripes_in_use h w ≤ w.entities) where
     pub zero_there : w.late_height ≡ 0
@@ -446,7 +446,7 @@ before_of h stream w w' found sees before most ss gs p =
 pub tells_behind : (stream : List ℕ) (h : Fields) (w w' : PartWalk) (found : Found) → HeaderOf stream h → w.offset ≢ 0 → TellsThere h stream w w' found → (from : Passed) → IsBehind stream w from → TellsNext stream w w' from found
 tells_behind stream h w w' found header some told Nothing p = absurd (some p)
 tells_behind stream h w w' found header some told (Behind k ss gs) p =
-    let same : h ≡ k = header_is stream h k header p.header_of in
+    let same : h ≡ k = header_is header p.header_of in
     subst (λ z. TellsThere z stream w w' found) same told ss gs p
 
 -- the header is returned

@@ -66,7 +66,7 @@ move_of_length (Move row offset ∷ segments) n = refl
 move_of_length (Comment other ∷ segments) n = move_of_length segments n
 
 gives_more : (place : Place) (segments : List Segment) (s : Segment) → GiveOnly place.height (cond place.given 1 0) segments → GiveOnly place.height (cond place.given 1 0 + length (lengths segments)) (s ∷ []) → GiveOnly place.height (cond place.given 1 0) (segments ++ s ∷ [])
-gives_more place segments s g k = gives_both place.height (cond place.given 1 0) segments (s ∷ []) g k
+gives_more place segments s g k = gives_both place.height (cond place.given 1 0) (s ∷ []) g k
 
 few_moves : (before moved : Bool) (n : ℕ) → cond moved 1 0 ≡ cond before 1 0 + n → cond before 1 0 + n ≤ 1
 few_moves before moved n e = let few = few_byte moved in omega (arith, e, few)
@@ -167,7 +167,7 @@ module _ {h : Fields} {place : Place} {a b : Option (List ℕ)} {s : Segments} w
   pub head_changed : (n : ℕ) → h.yd < 2 ^ 32 → s.next ≡ next.Height n → PassesSegments h place false a b s → Ends Truncated a b (HeadFault h (spot_at place)) Changed
   head_changed n small is p =
       let next_is : IsNextItem h place s.given (next.Height n) = subst (IsNextItem h place s.given) is p.next_is in
-      Ends-at Changed (flat_map segment_bytes p.segments ++ segment_bytes (NewLength n)) (subst (λ k. Consumes a b (flat_map segment_bytes p.segments ++ next_bytes k)) is p.taken) refl (λ e. cc) (
+      Ends-at (flat_map segment_bytes p.segments ++ segment_bytes (NewLength n)) (subst (λ k. Consumes a b (flat_map segment_bytes p.segments ++ next_bytes k)) is p.taken) refl (λ e. cc) (
         record {
           segments = p.segments;
           code = [];

@@ -1,6 +1,5 @@
-use Rattle.std.proofs.Common.{inl, inr, refl, subst}
+use Rattle.std.proofs.Common.{inl, inr, refl}
 use Rattle.t85_core.specs.Options.{fields_of}
-use Rattle.t85_core.specs.ToPbm.{TakesHeader}
 use Rattle.t85_core.proofs.Bytes.Held.{Keeps-same}
 use Rattle.t85_core.proofs.Decodings.Converted.{same_fields, other_fields}
 use Rattle.t85_core.proofs.conversion.convert_again.Goals as goal
@@ -30,7 +29,7 @@ returns-else-not-is_same-clause-outcome g c =
       c.in_ok-height.ensures,
       inr (inr (record {
         body = (g.Second.Input.view c.read.new.input).remaining;
-        taken = subst (λ z. TakesHeader z (g.Second.Input.view c.args.again.now).remaining (g.Second.Input.view c.read.new.input).remaining) same (record { given = taken.0; long = taken.1; taken = taken.2; header_of = taken.3 });
+        taken = rw (← same) (record { given = taken.0; long = taken.1; taken = taken.2; header_of = taken.3 });
         converts = rw c.in-Ok.ensures.counts at c.convert.ensures.outcome;
       })),
     )

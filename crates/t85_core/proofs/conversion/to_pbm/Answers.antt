@@ -1,5 +1,4 @@
-use Rattle.std.proofs.Common.{inl, inr, refl, sym, ap, ◌∙◌}
-use Rattle.std.specs.Prelude.{is_some}
+use Rattle.std.proofs.Common.{inl, inr, refl, sym, ◌∙◌}
 use Rattle.t85_core.specs.Options.{fields_of}
 use Rattle.t85_core.proofs.Bytes.Held.{Keeps-same}
 use Rattle.t85_core.proofs.Decodings.Converted.{goes_once, goes_twice}
@@ -9,13 +8,16 @@ pub returns-then-not-is_variable-clause-outcome : goal.returns-then-not-is_varia
 returns-then-not-is_variable-clause-outcome g c =
     let taken = c.in_ok-header.ensures.accepted in
     goes_once c.coder_laws.ensures (fields_of c.in_ok-header.header) c.args.max_rows _ (g.R.Input.view c.read.new.input).remaining _ _ _ _ _ _ _ _ _ _ _ _ c.convert.result
-    (record { given = taken.0; long = taken.1; taken = taken.2; header_of = taken.3 }) (sym c.is_variable.ensures ∙ c.if-not-is_variable.true) (rw c.in_ok-header.ensures.counts at c.convert.ensures.outcome) refl
+    (record { given = taken.0; long = taken.1; taken = taken.2; header_of = taken.3 }) (sym c.is_variable.ensures ∙ c.if-not-is_variable.true)
+    (rw c.in_ok-header.ensures.counts at c.convert.ensures.outcome) refl
 
 pub returns-in-Some-clause-outcome : goal.returns-in-Some-clause-outcome
 returns-in-Some-clause-outcome g c =
     let taken = c.in_ok-header.ensures.accepted in
-    goes_twice c.coder_laws.ensures (λ reading. (g.Second.Input.view reading).remaining) (λ reading. (g.Second.Input.view reading).failures) (fields_of c.in_ok-header.header) c.args.max_rows _ (g.R.Input.view c.read.new.input).remaining _ _ _ _ _ _ _ _ _ _ c.convert_again.result
-    (record { given = taken.0; long = taken.1; taken = taken.2; header_of = taken.3 }) (sym c.is_variable.ensures ∙ c.if-not-is_variable.false) (rw c.in_ok-header.ensures.counts at c.convert_again.ensures.outcome) c.args.again.now c.in-Some.is
+    goes_twice c.coder_laws.ensures (λ reading. (g.Second.Input.view reading).remaining) (λ reading. (g.Second.Input.view reading).failures) (fields_of c.in_ok-header.header) c.args.max_rows _
+    (g.R.Input.view c.read.new.input).remaining _ _ _ _ _ _ _ _ _ _ c.convert_again.result
+    (record { given = taken.0; long = taken.1; taken = taken.2; header_of = taken.3 }) (sym c.is_variable.ensures ∙ c.if-not-is_variable.false)
+    (rw c.in_ok-header.ensures.counts at c.convert_again.ensures.outcome) c.args.again.now c.in-Some.is
 
 pub returns-in-None-clause-outcome : goal.returns-in-None-clause-outcome
 returns-in-None-clause-outcome g c =
@@ -26,7 +28,7 @@ returns-in-None-clause-outcome g c =
           header = fields_of c.in_ok-header.header;
           taken = record { given = taken.0; long = taken.1; taken = taken.2; header_of = taken.3 };
           variable = sym c.is_variable.ensures ∙ c.if-not-is_variable.false;
-          once = ap is_some c.in-None.is;
+          once = rw c.in-None.is;
           answer_is = refl;
           unfailed = c.in_ok-header.ensures.counts;
           nothing = record { kept = Keeps-same _; unfailed = refl };

@@ -5,7 +5,6 @@ use Rattle.raster_core.specs.Window.{held}
 use Rattle.t85_core.specs.declared.fault.Fault.{Fault}
 use Rattle.t85_core.specs.declared.fault.Fault.TheVariants.{Pbm}
 use Rattle.t85_core.specs.Options.{settings_of}
-use Rattle.t85_core.specs.Steps.EncodeRows.{EndsInRow}
 use Rattle.t85_core.specs.Steps.ByRow.{view_of}
 use Rattle.t85_core.specs.RowImage.{image_of}
 use Rattle.t85_core.proofs.Bytes.Ends.{map_ok, exit_of, err_of}
@@ -16,14 +15,14 @@ use Rattle.t85_core.proofs.Encodings.ImageByRow.{front_short, cut_refused, end_r
 use Rattle.t85_core.proofs.encoding.encode_image.Goals as goal
 
 pub returns-in_err-write_head-clause-unwritten : goal.returns-in_err-write_head-clause-unwritten
-returns-in_err-write_head-clause-unwritten g c is = head_refused (settings_of c.args.options.now) c.args.size.width c.args.size.height _ _ _ c.in_err-write_head.ensures.cut
+returns-in_err-write_head-clause-unwritten g c is = head_refused (settings_of c.args.options.now) c.args.size.width c.args.size.height _ c.in_err-write_head.ensures.cut
 
 pub rows-init : goal.rows-init
 rows-init g c =
     let white = subst (λ w. HasLines (held c.clear.new.self) (white_lines w)) c.requires.width c.clear.ensures.white in
     let put = c.in_ok-write_head.ensures in
     record {
-      come = ([], refl, reads_none c.args.form c.args.size.width _, c.new-encoder.ensures.first _ c.first-learning.ensures (held c.clear.new.self) _ _ white put.ok);
+      come = ([], refl, reads_none, c.new-encoder.ensures.first _ c.first-learning.ensures (held c.clear.new.self) _ _ white put.ok);
       going = c.new-encoder.ensures.begins.1;
       ready = c.new-encoder.ensures.begins.0;
       many = c.new-encoder.ensures.begins.2;
@@ -46,20 +45,20 @@ returns-in_err-read_next_row-clause-short g c fault is =
     let so = c.rows.invariant.come in
     let short = c.in_err-read_next_row.ensures.short in
     exit_of c.from_residual-in_err-read_next_row.result c.from_residual-in_err-read_next_row.ensures.1 (λ told.
-    front_short s c.args.size.width c.args.size.height so.0 _ _ _ _ _ so.2 fault (omega (arith, so.1, c.rows-test.true))
-    (subst (λ f. EndsInRow c.args.form c.args.size.width (g.R.Input.view c.rows.source).remaining (g.R.Input.view c.read_next_row.new.source).remaining f) (same_fault short.0 fault _ short.1 told) short.2)
+    front_short s c.args.size.height _ _ _ so.2 (omega arith)
+    (rw (← same_fault short.0 fault _ short.1 told) short.2)
     (c.fronts.ensures (image_of s c.args.size.width c.args.size.height) so.0 (view_of c.rows.encoder c.rows.learning) (held c.rows.window) _ _ so.3)) is
 
 pub put_taken-requires-clause-lined : goal.put_taken-requires-clause-lined
-put_taken-requires-clause-lined g c _ = taken_lined c.args.size.width _ _ (held c.rows.window) (held c.read_next_row.new.window) c.in_ok-read_next_row.ensures.ok c.rows.invariant.lined
+put_taken-requires-clause-lined g c _ = taken_lined c.in_ok-read_next_row.ensures.ok c.rows.invariant.lined
 
 pub returns-in_err-put_taken-clause-unwritten : goal.returns-in_err-put_taken-clause-unwritten
 returns-in_err-put_taken-clause-unwritten g c is =
     let s = settings_of c.args.options.now in
     let so = c.rows.invariant.come in
     let taken = c.in_ok-read_next_row.ensures.ok in
-    cut_refused s c.args.size.width c.args.size.height (so.0 ++ taken.row ∷ []) _ _ (g.R.Input.view c.args.source.now).remaining _ _ (reads_join c.args.form c.args.size.width _ _ _ so.0 (taken.row ∷ []) so.2 taken.read)
-    (let sum = length-append so.0 (taken.row ∷ []) in omega (arith, sum, so.1, c.rows-test.true))
+    cut_refused s c.args.size.height (g.R.Input.view c.args.source.now).remaining _ _ (reads_join so.2 taken.read)
+    (let sum = length-append so.0 (taken.row ∷ []) in omega arith)
     (c.in_err-put_taken.ensures.cut c.rows.invariant.going taken.row (held c.rows.window) taken.below (image_of s c.args.size.width c.args.size.height) so.0 _ so.3)
 
 pub rows-preserved : goal.rows-preserved
@@ -70,20 +69,20 @@ rows-preserved g c =
     record {
       come = (
         so.0 ++ taken.row ∷ [],
-        (let sum = length-append so.0 (taken.row ∷ []) in omega (arith, sum, so.1)),
-        reads_join c.args.form c.args.size.width _ _ _ so.0 (taken.row ∷ []) so.2 taken.read,
+        (let sum = length-append so.0 (taken.row ∷ []) in omega arith),
+        reads_join so.2 taken.read,
         c.in_ok-put_taken.ensures.ok taken.row (held c.rows.window) taken.below (image_of s c.args.size.width c.args.size.height) so.0 _ so.3,
       );
       going = c.in_ok-put_taken.ensures.goes_on.0;
       ready = c.in_ok-put_taken.ensures.goes_on.1;
-      many = (let more = c.in_ok-put_taken.ensures.goes_on.2 in omega (arith, more, c.rows.invariant.many));
+      many = (let more = c.in_ok-put_taken.ensures.goes_on.2 in omega arith);
       size_is = c.in_ok-put_taken.ensures.goes_on.3 ∙ c.rows.invariant.size_is;
       width = c.in_ok-put_taken.ensures.window.0.0 ∙ c.in_ok-read_next_row.ensures.width ∙ c.rows.invariant.width;
       lined = c.in_ok-put_taken.ensures.lined;
       reads = c.in_ok-read_next_row.ensures.reads ∙ c.rows.invariant.reads;
       same_source = c.in_ok-read_next_row.ensures.same_input.same_source ∙ c.rows.invariant.same_source;
       writes = (c.in_ok-put_taken.ensures.writes c.rows.invariant.going).counts ∙ c.rows.invariant.writes;
-      grows = (let more = (c.in_ok-put_taken.ensures.writes c.rows.invariant.going).grows in let before = c.rows.invariant.grows in omega (arith, more, before));
+      grows = (let more = (c.in_ok-put_taken.ensures.writes c.rows.invariant.going).grows in let before = c.rows.invariant.grows in omega arith);
       same_writer = (c.in_ok-put_taken.ensures.writes c.rows.invariant.going).same_writer ∙ c.rows.invariant.same_writer;
     }
 
@@ -91,12 +90,13 @@ pub returns-clause-ok : goal.returns-clause-ok
 returns-clause-ok g c =
     let s = settings_of c.args.options.now in
     let so = c.rows.invariant.come in
-    let ended : c.rows.counter ≡ c.args.size.height = omega (arith, c.rows.auto.counter-end, c.rows-test.false) in
-    map_ok c.end.result (λ all. record { rows = so.0; many = so.1 ∙ ended; read = so.2; appended = here_sent _ _ _ (all (image_of s c.args.size.width c.args.size.height) so.0 _ so.3) }) c.end.ensures.ok
+    let ended : c.rows.counter ≡ c.args.size.height = omega arith in
+    map_ok c.end.result (λ all. record { rows = so.0; many = so.1 ∙ ended; read = so.2; appended = here_sent (all (image_of s c.args.size.width c.args.size.height) so.0 _ so.3) }) c.end.ensures.ok
 
 pub returns-clause-unwritten : goal.returns-clause-unwritten
 returns-clause-unwritten g c is =
     let s = settings_of c.args.options.now in
     let so = c.rows.invariant.come in
-    let ended : c.rows.counter ≡ c.args.size.height = omega (arith, c.rows.auto.counter-end, c.rows-test.false) in
-    end_refused s c.args.size.width c.args.size.height so.0 _ _ (g.R.Input.view c.args.source.now).remaining _ _ so.2 (so.1 ∙ ended) (err_of c.end.result is (c.end.ensures.cut c.rows.invariant.going) (image_of s c.args.size.width c.args.size.height) so.0 _ so.3)
+    let ended : c.rows.counter ≡ c.args.size.height = omega arith in
+    end_refused s c.args.size.height (g.R.Input.view c.args.source.now).remaining _ _ so.2 (so.1 ∙ ended)
+    (err_of c.end.result is (c.end.ensures.cut c.rows.invariant.going) (image_of s c.args.size.width c.args.size.height) so.0 _ so.3)

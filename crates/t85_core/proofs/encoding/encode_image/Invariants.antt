@@ -7,7 +7,8 @@ use Rattle.t85_core.proofs.encoding.encode_image.Given as goal
 
 abbrev pub invariant-rows : goal.invariant-rows
 invariant-rows g l = record {
-  come : ComeTo l.form (settings_of l.options) l.size.width l.size.height l.counter (g.R.Input.view l.fn.source).remaining (g.R.Input.view l.source).remaining (view_of l.encoder l.learning) (held l.window) (g.P.ByteTarget.view l.fn.target).text (g.P.ByteTarget.view l.target).text;
+  come : ComeTo l.form (settings_of l.options) l.size.width l.size.height l.counter (g.R.Input.view l.fn.source).remaining (g.R.Input.view l.source).remaining (view_of l.encoder l.learning)
+      (held l.window) (g.P.ByteTarget.view l.fn.target).text (g.P.ByteTarget.view l.target).text;
   going : l.encoder.is_closed ≡ false;
   ready : MayGoOn l.encoder;
   many : l.encoder.rows ≡ l.counter;

@@ -1,16 +1,14 @@
-use Rattle.std.proofs.Common.{◌≡◌, length, refl, subst, sym, rules}
+use Rattle.std.proofs.Common.{◌≡◌, length, refl, rules}
 use Rattle.std.specs.Int.{div_ceil}
-use Rattle.raster_core.specs.Window.{held}
-use Rattle.t85_core.specs.Steps.EncodeRows.{RowTaken}
 use Rattle.t85_core.proofs.Encodings.RowsTaken.{row_taken, put_current}
 use Rattle.t85_core.proofs.encoding.read_next_row.Goals as goal
 
 pub returns-in-Ok-clause-ok : goal.returns-in-Ok-clause-ok
 returns-in-Ok-clause-ok g c =
     let wide : length c.read_row.new.row ≡ div_ceil c.turn.new.self.width 8 = search rules in
-    subst (λ w. RowTaken c.args.form c.args.size.width (g.R.Input.view c.args.source.now).remaining (g.R.Input.view c.read_row.new.input).remaining (held c.args.window.now) w)
-    (sym (put_current _ c.turn.new.self.place _ c.turn.new.self.width c.current_row-current.result.start c.current_row-current.result.end c.turn.new.self.rows.now c.read_row.new.row c.place.ensures.place c.width.ensures c.turn.new.self.long wide c.current_row-current.ensures.put))
-    (row_taken c.args.form c.args.size.width _ _ (held c.args.window.now) (held c.turn.new.self) c.in-Ok.ensures.given c.read_row.new.row c.turn.ensures.turned c.requires.width c.in-Ok.ensures.value c.in-Ok.ensures.taken)
+    rw (put_current c.current_row-current.result.start c.current_row-current.result.end c.turn.new.self.rows.now c.read_row.new.row c.place.ensures.place c.width.ensures c.turn.new.self.long wide
+    c.current_row-current.ensures.put) (row_taken c.turn.ensures.turned c.requires.width c.in-Ok.ensures.value c.in-Ok.ensures.taken)
 
 pub returns-in-Err-clause-short : goal.returns-in-Err-clause-short
-returns-in-Err-clause-short g c = (c.in-Err.fault, refl, record { given = c.in-Err.ensures.given; taken = c.in-Err.ensures.taken; has_fault = c.in-Err.ensures.fault; at_end = c.in-Err.ensures.at_end })
+returns-in-Err-clause-short g c =
+    (c.in-Err.fault, refl, record { given = c.in-Err.ensures.given; taken = c.in-Err.ensures.taken; has_fault = c.in-Err.ensures.fault; at_end = c.in-Err.ensures.at_end })

@@ -14,13 +14,20 @@ returns-in-Some-clause-ok g c =
 
 pub returns-then-not-is_variable-clause-ok : goal.returns-then-not-is_variable-clause-ok
 returns-then-not-is_variable-clause-ok g c =
-    rw c.in-None.is (found_fixed (fields_of c.args.header.now) (accepted c.args.header.now) _ (g.S.ByteSource.view c.skip_stripes.new.stream).known c.div_ceil.result c.in_ok-reached.reached.entities c.in_ok-reached.reached.passed.moves c.in_ok-reached.reached.passed.comments c.in_ok-reached.reached.part.moves c.in_ok-reached.reached.part.comments c.div_ceil.ensures (rw c.in-None.is at c.in_ok-reached.ensures.ok) (sym c.is_variable.ensures ∙ c.if-not-is_variable.true))
+    rw c.in-None.is (found_fixed (fields_of c.args.header.now) (accepted c.args.header.now) _
+    (g.S.ByteSource.view c.skip_stripes.new.stream).known c.div_ceil.result c.in_ok-reached.reached.entities c.in_ok-reached.reached.passed.moves c.in_ok-reached.reached.passed.comments
+    c.in_ok-reached.reached.part.moves c.in_ok-reached.reached.part.comments c.div_ceil.ensures (rw c.in-None.is at c.in_ok-reached.ensures.ok)
+    (sym c.is_variable.ensures ∙ c.if-not-is_variable.true))
 
 pub returns-in_err-height-in-None-clause-unread : goal.returns-in_err-height-in-None-clause-unread
 returns-in_err-height-in-None-clause-unread g c is =
     exit_of c.from_residual-in_err-height-in-None.result c.from_residual-in_err-height-in-None.ensures.1 (λ e.
-    open_looking (fields_of c.args.header.now) (accepted c.args.header.now) _ (g.S.ByteSource.view c.skip_stripes.new.stream).known c.div_ceil.result c.in_ok-reached.reached.entities c.in_ok-reached.reached.passed.moves c.in_ok-reached.reached.passed.comments c.in_ok-reached.reached.part.moves c.in_ok-reached.reached.part.comments c.div_ceil.ensures (rw c.in-None.is at c.in_ok-reached.ensures.ok) (sym c.is_variable.ensures ∙ c.if-not-is_variable.false) _ (c.in_err-height-in-None.ensures.unread (ap Err e))) is
+    open_looking (fields_of c.args.header.now) (accepted c.args.header.now) _ (g.S.ByteSource.view c.skip_stripes.new.stream).known c.div_ceil.result c.in_ok-reached.reached.entities
+    c.in_ok-reached.reached.passed.moves c.in_ok-reached.reached.passed.comments c.in_ok-reached.reached.part.moves c.in_ok-reached.reached.part.comments c.div_ceil.ensures
+    (rw c.in-None.is at c.in_ok-reached.ensures.ok) (sym c.is_variable.ensures ∙ c.if-not-is_variable.false) _ (c.in_err-height-in-None.ensures.unread (ap Err e))) is
 
 pub returns-in_ok-height-in-None-clause-ok : goal.returns-in_ok-height-in-None-clause-ok
 returns-in_ok-height-in-None-clause-ok g c =
-    found_looking (fields_of c.args.header.now) (accepted c.args.header.now) _ (g.S.ByteSource.view c.skip_stripes.new.stream).known c.div_ceil.result c.in_ok-reached.reached.entities c.in_ok-reached.reached.passed.moves c.in_ok-reached.reached.passed.comments c.in_ok-reached.reached.part.moves c.in_ok-reached.reached.part.comments c.div_ceil.ensures (rw c.in-None.is at c.in_ok-reached.ensures.ok) _ _ c.in_ok-height-in-None.ensures.found c.in_ok-height-in-None.ensures.none
+    found_looking (fields_of c.args.header.now) (accepted c.args.header.now) _ (g.S.ByteSource.view c.skip_stripes.new.stream).known c.div_ceil.result c.in_ok-reached.reached.entities
+    c.in_ok-reached.reached.passed.moves c.in_ok-reached.reached.passed.comments c.in_ok-reached.reached.part.moves c.in_ok-reached.reached.part.comments c.div_ceil.ensures
+    (rw c.in-None.is at c.in_ok-reached.ensures.ok) _ _ c.in_ok-height-in-None.ensures.found c.in_ok-height-in-None.ensures.none

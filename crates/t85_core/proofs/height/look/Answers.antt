@@ -9,7 +9,11 @@ comments-init g c = record { looked = looked_none (fields_of c.args.header.now) 
 pub comments-preserved : goal.comments-preserved
 comments-preserved g c =
     let h = rw c.in-Comment.is at c.in-Ok.ensures.ok in
-    record { looked = looked_comment c.comments.invariant.looked h.0 h.1; same_source = c.in-Ok.ensures.reads.same_source ∙ c.comments.invariant.same_source; unfailed = c.in-Ok.ensures.reads.counts ∙ c.comments.invariant.unfailed }
+    record {
+      looked = looked_comment c.comments.invariant.looked h.0 h.1;
+      same_source = c.in-Ok.ensures.reads.same_source ∙ c.comments.invariant.same_source;
+      unfailed = c.in-Ok.ensures.reads.counts ∙ c.comments.invariant.unfailed;
+    }
 
 pub returns-in-NewLength-clause-found : goal.returns-in-NewLength-clause-found
 returns-in-NewLength-clause-found g c =

@@ -9,18 +9,18 @@ stripes-init g c = record { has = stripes_none (fields_of c.args.header.now) c.a
 
 pub returns-in_err-skipped-clause-err : goal.returns-in_err-skipped-clause-err
 returns-in_err-skipped-clause-err g c =
-    let at : c.stripes.entities ≡ c.args.from + (c.stripes.entities - c.args.from) = omega (arith, c.stripes.invariant.least) in
+    let at : c.stripes.entities ≡ c.args.from + (c.stripes.entities - c.args.from) = omega arith in
     exit _ _ c.from_residual.ensures.1 (cut_stripes c.stripes.invariant.has c.args.from c.stripes.entities c.args.count at c.stripes-test.true c.in_err-skipped.ensures.err)
 
 pub returns-in-Some-clause-ok : goal.returns-in-Some-clause-ok
 returns-in-Some-clause-ok g c =
-    let at : c.stripes.entities ≡ c.args.from + (c.stripes.entities - c.args.from) = omega (arith, c.stripes.invariant.least) in
+    let at : c.stripes.entities ≡ c.args.from + (c.stripes.entities - c.args.from) = omega arith in
     (c.stripes-test.true, stripes_to c.stripes.invariant.has c.args.from c.stripes.entities at (rw c.in-Some.is at c.in_ok-skipped.ensures.ok))
 
 pub stripes-preserved : goal.stripes-preserved
 stripes-preserved g c = record {
-  has = stripes_more c.stripes.invariant.has _ _ (omega (arith, c.stripes.invariant.least)) (rw c.in-None.is at c.in_ok-skipped.ensures.ok) c.saturating_add.ensures;
-  least = omega (arith, c.stripes.invariant.least);
+  has = stripes_more c.stripes.invariant.has _ _ (omega arith) (rw c.in-None.is at c.in_ok-skipped.ensures.ok) c.saturating_add.ensures;
+  least = omega arith;
   few = omega (arith, c.stripes.invariant.few, c.stripes.invariant.least, c.in_ok-skipped.ensures.few);
   same_source = c.in_ok-skipped.ensures.reads.same_source ∙ c.stripes.invariant.same_source;
   unfailed = c.in_ok-skipped.ensures.reads.counts ∙ c.stripes.invariant.unfailed;

@@ -7,9 +7,9 @@ use Rattle.t85_core.proofs.laws.headers.Goals as goal
 
 pub returns : goal.returns
 returns c = record {
-  stands = HeaderOf-append;
+  stands = λ bytes more h is. HeaderOf-append more is;
   refusal_stands = header_fault-append;
   not_refused = accepted;
-  one = λ bytes h other p q. header_is bytes h other p q;
+  one = λ bytes h other p q. header_is p q;
   written = λ h ok. subst (λ bytes. HeaderOf bytes h) (append-nil (header_bytes h)) (header_begins h [] ok);
 }

@@ -16,8 +16,9 @@ loop-place-preserved g c =
     let fits : place + count ≤ c.args.end = omega (arith, c.in-Ok.ensures.within, length-take (c.args.end - place) (drop place bytes), c.loop-place-test.true) in
     record {
       within = fits;
-      text = keeps_written _ _ _ _ held (take count held) _ c.loop-place.invariant.text c.in-Ok.ensures.bytes (sym (take-append-drop count held) ∙ ap (λ z. take count held ++ z) (sym (held_after bytes place count c.args.end fits)));
-      grows = (let more = grows_with _ _ _ c.in-Ok.ensures.bytes in let before = c.loop-place.invariant.grows in omega (arith, more, before));
+      text = keeps_written _ _ _ _ (take count held) _ c.loop-place.invariant.text c.in-Ok.ensures.bytes
+          (sym (take-append-drop count held) ∙ ap (λ z. take count held ++ z) (sym (held_after bytes place count c.args.end fits)));
+      grows = (let more = grows_with _ _ _ c.in-Ok.ensures.bytes in let before = c.loop-place.invariant.grows in omega arith);
       no_flush = c.in-Ok.ensures.flushes ∙ c.loop-place.invariant.no_flush;
       same_target = c.in-Ok.ensures.target ∙ c.loop-place.invariant.same_target;
       unfailed = c.in-Ok.ensures.failures ∙ c.loop-place.invariant.unfailed;
@@ -27,9 +28,9 @@ pub returns-in-Err-clause-err : goal.returns-in-Err-clause-err
 returns-in-Err-clause-err g c = keeps_failed _ _ _ _ _ c.loop-place.invariant.text c.in-Err.ensures.bytes
 
 pub returns-in-Err-clause-grows : goal.returns-in-Err-clause-grows
-returns-in-Err-clause-grows g c = let kept = grows_kept _ _ c.in-Err.ensures.bytes in let before = c.loop-place.invariant.grows in omega (arith, kept, before)
+returns-in-Err-clause-grows g c = let kept = grows_kept _ _ c.in-Err.ensures.bytes in let before = c.loop-place.invariant.grows in omega arith
 
 pub returns-clause-ok : goal.returns-clause-ok
 returns-clause-ok g c =
-    let same : c.loop-place.place ≡ c.args.end = omega (arith, c.loop-place-test.false, c.loop-place.invariant.within) in
-    all_written _ _ _ _ c.loop-place.invariant.text (none_held c.args.bytes.now c.loop-place.place c.args.end same)
+    let same : c.loop-place.place ≡ c.args.end = omega arith in
+    all_written _ _ _ c.loop-place.invariant.text (none_held c.args.bytes.now same)

@@ -11,4 +11,5 @@ returns-in-Code-clause-none c = λ _ _.
 
 pub returns-in-Err-clause-none : goal.returns-in-Err-clause-none
 returns-in-Err-clause-none c = λ _ variable.
-    looked_fault (looked_none (fields_of c.args.header.now) (Some c.args.source.now.rest.now)) c.args.entities c.in-Err.field-0 c.args.header.now.not_too_tall variable (not_read _ c.in-Err.ensures.reads.counts) c.in-Err.ensures.err
+    looked_fault (looked_none (fields_of c.args.header.now) (Some c.args.source.now.rest.now)) c.args.entities c.in-Err.field-0 c.args.header.now.not_too_tall variable
+    (not_read _ c.in-Err.ensures.reads.counts) c.in-Err.ensures.err

@@ -11,7 +11,8 @@ pub returns-in_err-skip_rest-in-Code-clause-err : goal.returns-in_err-skip_rest-
 returns-in_err-skip_rest-in-Code-clause-err c =
     let h = rw c.in-Code.is at c.in_ok-height.ensures.ok in
     exit _ _ c.from_residual-in_err-skip_rest-in-Code.ensures.1
-    (missed_entity (fields_of c.args.header.now) c.args.place c.args.moved _ _ _ c.in-Code.first _ h.0 h.1 (not_read _ c.in_err-skip_rest-in-Code.ensures.reads.counts) c.in_err-skip_rest-in-Code.ensures.err)
+    (missed_entity (fields_of c.args.header.now) c.args.place c.args.moved _ _ _ c.in-Code.first _ h.0 h.1
+    (not_read _ c.in_err-skip_rest-in-Code.ensures.reads.counts) c.in_err-skip_rest-in-Code.ensures.err)
 
 pub returns-in_ok-skip_rest-in-Code-clause-ok : goal.returns-in_ok-skip_rest-in-Code-clause-ok
 returns-in_ok-skip_rest-in-Code-clause-ok c =

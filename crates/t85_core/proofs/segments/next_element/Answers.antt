@@ -1,6 +1,5 @@
 use Rattle.std.proofs.Common.{◌≢◌, [], ◌∷◌, refl, cond, arith}
 use Rattle.t85_core.specs.Options.{fields_of}
-use Rattle.t85_core.specs.declared.fault.Fault.TheVariants.{Aborted, BadEscape, SecondMove}
 use Rattle.t85_core.proofs.Bytes.Streams.{Consumes-more}
 use Rattle.t85_core.proofs.Bytes.Ends.{exit, Ends-at, Ends-after}
 use Rattle.t85_core.proofs.Walks.Pieces.{escape_taken, unknown_escape}
@@ -8,12 +7,12 @@ use Rattle.t85_core.proofs.segments.next_element.Goals as goal
 
 pub returns-in-4-clause-err : goal.returns-in-4-clause-err
 returns-in-4-clause-err g c =
-    Ends-at Aborted (255 ∷ c.in_ok-escape.escape ∷ [])
+    Ends-at (255 ∷ c.in_ok-escape.escape ∷ [])
     (escape_taken _ _ _ _ _ c.in_ok-first.ensures.ok c.if-first.false c.in_ok-escape.ensures.ok) refl (λ h. cc) (λ n. rw c.in-4.is refl)
 
 pub returns-then-moved-clause-err : goal.returns-then-moved-clause-err
 returns-then-moved-clause-err g c =
-    Ends-at SecondMove (255 ∷ c.in_ok-escape.escape ∷ [])
+    Ends-at (255 ∷ c.in_ok-escape.escape ∷ [])
     (escape_taken _ _ _ _ _ c.in_ok-first.ensures.ok c.if-first.false c.in_ok-escape.ensures.ok) refl (λ h. cc)
     (λ n. rw (c.in-6.is, c.if-moved.true) refl)
 
@@ -64,6 +63,7 @@ returns-in_default-clause-err g c =
     let escape = c.in_ok-escape.escape in
     let other : (escape ≢ 0) × (escape ≢ 2) × (escape ≢ 3) × (escape ≢ 4) = (omega arith, omega arith, omega arith, omega arith) in
     let more : (escape ≢ 5) × (escape ≢ 6) × (escape ≢ 7) = (omega arith, omega arith, omega arith) in
-    Ends-at BadEscape (255 ∷ escape ∷ [])
+    Ends-at (255 ∷ escape ∷ [])
     (escape_taken _ _ _ _ _ c.in_ok-first.ensures.ok c.if-first.false c.in_ok-escape.ensures.ok) refl (λ h. cc)
-    (λ n. unknown_escape (fields_of c.args.header.now) (record { height = n; entities = c.args.place.entities; heights = cond c.args.place.given 1 0 }) (cond c.args.moved 1 0) escape [] other.0 other.1 other.2 other.3 more.0 more.1 more.2)
+    (λ n. unknown_escape (fields_of c.args.header.now) (record { height = n; entities = c.args.place.entities; heights = cond c.args.place.given 1 0 })
+    (cond c.args.moved 1 0) escape [] other.0 other.1 other.2 other.3 more.0 more.1 more.2)

@@ -1,7 +1,6 @@
 use Rattle.std.proofs.Common.{[], ◌∷◌, ◌++◌, arith, refl, inl, inr}
 use Rattle.byteorder.specs.Endian.{big_bytes}
 use Rattle.t85_core.specs.Options.{fields_of}
-use Rattle.t85_core.specs.declared.fault.Fault.TheVariants.{MoveRefused}
 use Rattle.t85_core.proofs.Bytes.Streams.{Consumes-more}
 use Rattle.t85_core.proofs.Bytes.Ends.{Ends-after, Ends-at, exit}
 use Rattle.t85_core.proofs.Walks.Segments.{move_refused}
@@ -16,7 +15,7 @@ returns-in_err-last-clause-err g c =
 
 pub returns-then-row-header-clause-err : goal.returns-then-row-header-clause-err
 returns-then-row-header-clause-err g c =
-    Ends-at MoveRefused (big_bytes 4 c.in_ok-row.row ++ c.in_ok-offset.offset ∷ c.in_ok-last.last ∷ [])
+    Ends-at (big_bytes 4 c.in_ok-row.row ++ c.in_ok-offset.offset ∷ c.in_ok-last.last ∷ [])
     (Consumes-more _ _ _ _ _ c.in_ok-row.ensures.ok (Consumes-more _ _ _ _ _ c.in_ok-offset.ensures.ok c.in_ok-last.ensures.ok))
     refl (λ h. cc)
     (move_refused (fields_of c.args.header.now) c.in_ok-row.row c.in_ok-offset.offset c.in_ok-last.last (omega arith)

@@ -14,17 +14,29 @@ returns-in_err-height-clause-err g c = exit _ _ c.from_residual.ensures.1 (cut_s
 pub pieces-preserved-in-NewLength : goal.pieces-preserved-in-NewLength
 pieces-preserved-in-NewLength g c =
     let h = rw c.in-NewLength.is at c.in_ok-height.ensures.ok in
-    record { passed = passed_length c.pieces.invariant.passed _ h.0 c.if-height-place.false h.2; same_source = c.in_ok-height.ensures.reads.same_source ∙ c.pieces.invariant.same_source; unfailed = c.in_ok-height.ensures.reads.counts ∙ c.pieces.invariant.unfailed }
+    record {
+      passed = passed_length c.pieces.invariant.passed _ h.0 c.if-height-place.false h.2;
+      same_source = c.in_ok-height.ensures.reads.same_source ∙ c.pieces.invariant.same_source;
+      unfailed = c.in_ok-height.ensures.reads.counts ∙ c.pieces.invariant.unfailed;
+    }
 
 pub pieces-preserved-in-Move : goal.pieces-preserved-in-Move
 pieces-preserved-in-Move g c =
     let h = rw c.in-Move.is at c.in_ok-height.ensures.ok in
-    record { passed = passed_move c.pieces.invariant.passed _ h.0 h.1; same_source = c.in_ok-height.ensures.reads.same_source ∙ c.pieces.invariant.same_source; unfailed = c.in_ok-height.ensures.reads.counts ∙ c.pieces.invariant.unfailed }
+    record {
+      passed = passed_move c.pieces.invariant.passed _ h.0 h.1;
+      same_source = c.in_ok-height.ensures.reads.same_source ∙ c.pieces.invariant.same_source;
+      unfailed = c.in_ok-height.ensures.reads.counts ∙ c.pieces.invariant.unfailed;
+    }
 
 pub pieces-preserved : goal.pieces-preserved
 pieces-preserved g c =
     let h = rw c.in-Comment.is at c.in_ok-height.ensures.ok in
-    record { passed = passed_comment c.pieces.invariant.passed _ h.0 h.1 c.saturating_add-comments.ensures; same_source = c.in_ok-height.ensures.reads.same_source ∙ c.pieces.invariant.same_source; unfailed = c.in_ok-height.ensures.reads.counts ∙ c.pieces.invariant.unfailed }
+    record {
+      passed = passed_comment c.pieces.invariant.passed _ h.0 h.1 c.saturating_add-comments.ensures;
+      same_source = c.in_ok-height.ensures.reads.same_source ∙ c.pieces.invariant.same_source;
+      unfailed = c.in_ok-height.ensures.reads.counts ∙ c.pieces.invariant.unfailed;
+    }
 
 pub returns-in-Code-clause-ok : goal.returns-in-Code-clause-ok
 returns-in-Code-clause-ok g c =

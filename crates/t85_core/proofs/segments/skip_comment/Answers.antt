@@ -1,8 +1,6 @@
-use Rattle.std.proofs.Common.{◌≡◌, ◌+◌, ◌∙◌, [], ◌∷◌, ◌++◌, ap, arith, Some}
+use Rattle.std.proofs.Common.{◌∙◌, [], ◌∷◌, ◌++◌, arith}
 use Rattle.std.proofs.lemmas.List.{length_push}
 use Rattle.byteorder.specs.Endian.{big_bytes}
-use Rattle.t85_core.specs.Refusal.{comment_fault}
-use Rattle.t85_core.specs.declared.fault.Fault.TheVariants.{Truncated}
 use Rattle.t85_core.proofs.Bytes.Streams.{Consumes-more}
 use Rattle.t85_core.proofs.Bytes.Ends.{Ends-missing, exit}
 use Rattle.t85_core.proofs.Walks.Segments.{comment_cut}
@@ -11,16 +9,16 @@ use Rattle.t85_core.proofs.segments.skip_comment.Goals as goal
 pub returns-in_err-next-clause-err : goal.returns-in_err-next-clause-err
 returns-in_err-next-clause-err g c =
     let passed = c.text.invariant.passed in
-    let cut : comment_fault (big_bytes 4 c.in_ok-len.len ++ passed) ≡ Some Truncated = comment_cut c.in_ok-len.len passed (omega arith) (omega arith) in
+    let cut = comment_cut c.in_ok-len.len passed (omega arith) (omega arith) in
     exit _ _ c.from_residual-in_err-next.ensures.1
     (Ends-missing _ (big_bytes 4 c.in_ok-len.len ++ passed) (Consumes-more _ _ _ _ _ c.in_ok-len.ensures.ok c.text.invariant.taken) cut c.in_err-next.ensures.err)
 
 pub text-preserved : goal.text-preserved
 text-preserved g c = record {
   passed = c.text.invariant.passed ++ c.in_ok-next.field-0 ∷ [];
-  count = length_push _ _ ∙ ap (λ n. n + 1) c.text.invariant.count;
+  count = rw (length_push _ _, c.text.invariant.count);
   taken = Consumes-more _ _ _ _ _ c.text.invariant.taken c.in_ok-next.ensures.ok;
   same_source = c.in_ok-next.ensures.same_source ∙ c.text.invariant.same_source;
   unfailed = c.in_ok-next.ensures.counts ∙ c.text.invariant.unfailed;
-  no_more = omega (arith, c.in_ok-next.ensures.no_more, c.text.invariant.no_more);
+  no_more = omega arith;
 }

@@ -8,4 +8,5 @@ returns-in_err-found-clause-outcome g c =
 
 pub returns-clause-outcome : goal.returns-clause-outcome
 returns-clause-outcome g c =
-    told_line _ _ _ _ _ _ _ _ _ c.put.result c.in_ok-found.found _ c.in_ok-found.ensures c.line_of.ensures c.put.ensures.ok c.put.ensures.err c.put.ensures.cut c.put.ensures.flushed c.put.ensures.counts
+    told_line _ _ _ _ _ _ _ _ _ c.put.result c.in_ok-found.found _ c.in_ok-found.ensures c.line_of.ensures c.put.ensures.ok c.put.ensures.err c.put.ensures.cut c.put.ensures.flushed
+    c.put.ensures.counts

@@ -14,7 +14,7 @@ pub returns : goal.returns
 returns g c =
     let header = c.in_ok-header.ensures.accepted in
     let stream = c.new-stream.result in
-    let start = known_unheld stream.bytes stream.at stream.end (g.R.Input.view stream.input.now).remaining c.new-stream.ensures.empty ∙ ap (λ m. (g.R.Input.view m.now).remaining) c.new-stream.ensures.lent in
+    let start = known_unheld stream.bytes (g.R.Input.view stream.input.now).remaining c.new-stream.ensures.empty ∙ ap (λ m. (g.R.Input.view m.now).remaining) c.new-stream.ensures.lent in
     told_body _ _ _ _ _ header.0 (fields_of c.in_ok-header.header) _ header.1 header.2 header.3
     (rw start at c.summarize_body.ensures.ok) (rw start at c.summarize_body.ensures.err) _ (rw start at c.summarize_body.ensures.unread) c.summarize_body.ensures.among
     (λ read. c.summarize_body.ensures.reads.drained read ∙ ap (λ d. (g.R.Input.view d).remaining) (search rules))

@@ -18,12 +18,14 @@ returns-in_err-more-clause-err g c =
 pub returns-in_err-more-clause-unread : goal.returns-in_err-more-clause-unread
 returns-in_err-more-clause-unread g c is =
     exit_of c.from_residual.result c.from_residual.ensures.1 (λ same known f.
-    joined_unread (fields_of c.args.header.now) (accepted c.args.header.now) known _ _ _ _ _ _ _ f c.requires.part _ c.div_ceil-count.result _ c.div_ceil-count.ensures c.in_err-more.ensures.err same) is
+    joined_unread (fields_of c.args.header.now)
+    (accepted c.args.header.now) known _ _ _ _ _ _ _ f c.requires.part _ c.div_ceil-count.result _ c.div_ceil-count.ensures c.in_err-more.ensures.err same) is
 
 pub returns-in_err-more-clause-among : goal.returns-in_err-more-clause-among
 returns-in_err-more-clause-among g c = exit _ _ c.from_residual.ensures.1 (skips_faults (fields_of c.args.header.now) _ _ _ _ c.in_err-more.ensures.err)
 
 pub returns-clause-ok : goal.returns-clause-ok
 returns-clause-ok g c = λ known f.
-    joined_numbers (fields_of c.args.header.now) (accepted c.args.header.now) known _ _ _ _ _ _ _ f c.requires.part _ c.div_ceil-count.result _ _ _ _ _ _ c.div_ceil-count.ensures c.if-reached-count.false
+    joined_numbers (fields_of c.args.header.now)
+    (accepted c.args.header.now) known _ _ _ _ _ _ _ f c.requires.part _ c.div_ceil-count.result _ _ _ _ _ _ c.div_ceil-count.ensures c.if-reached-count.false
     (sought_whole (fields_of c.args.header.now) _ _ _ _ _ _ _ _ _ _ _ c.in_ok-more.ensures.ok) refl c.saturating_add.ensures c.saturating_add-2.ensures c.summary_of-2.ensures

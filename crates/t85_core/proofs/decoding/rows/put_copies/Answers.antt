@@ -35,7 +35,7 @@ returns-in_err-put g c =
     exit_all (PutsBytes _ _ _) c.from_residual.result c.from_residual.ensures.1 (record {
       ok = tt;
       err = c.in_err-put.ensures.err;
-      cut = subst (AppendsBeginning _ _) (sym parts) (beginning_longer _ _ _ _ (beginning_after _ _ _ _ _ v.text c.in_err-put.ensures.cut));
+      cut = subst (AppendsBeginning _ _) (sym parts) (beginning_longer _ (beginning_after _ v.text c.in_err-put.ensures.cut));
       grows = le_trans v.grows c.put.ensures.grows;
       counts = c.in_err-put.ensures.counts ∙ ap (writes_after _) v.unfailed;
       same_writer = c.put.ensures.same_writer ∙ v.same_writer;

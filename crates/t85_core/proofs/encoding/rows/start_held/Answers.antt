@@ -20,5 +20,6 @@ returns-clause-begun g c =
 
 pub returns-in_err-write_held-clause-cut : goal.returns-in_err-write_held-clause-cut
 returns-in_err-write_held-clause-cut g c =
-    exit_all (λ r. OnErr r (AppendsBeginning (text_taken c.args.buffer.now) (text_taken c.write_held.new.self) (head_of (settings_of c.args.options.now) c.args.size.width c.args.size.height))) c.from_residual-in_err-write_held.result c.from_residual-in_err-write_held.ensures.1
-    (beginning_all _ _ _ (Appends-keeps _ _ _ _ c.in_ok-write_head.ensures.ok c.write_held.ensures.text))
+    exit_all (λ r. OnErr r (AppendsBeginning (text_taken c.args.buffer.now) (text_taken c.write_held.new.self)
+    (head_of (settings_of c.args.options.now) c.args.size.width c.args.size.height))) c.from_residual-in_err-write_held.result c.from_residual-in_err-write_held.ensures.1
+    (beginning_all (Appends-keeps _ _ _ _ c.in_ok-write_head.ensures.ok c.write_held.ensures.text))

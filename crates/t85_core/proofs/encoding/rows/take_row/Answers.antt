@@ -1,8 +1,6 @@
-use Rattle.std.proofs.Common.{◌≡◌, length, subst, sym, rules}
+use Rattle.std.proofs.Common.{◌≡◌, length, rules}
 use Rattle.std.specs.Int.{div_ceil}
-use Rattle.pbm_core.specs.Image.{pixels_of}
 use Rattle.raster_core.specs.Window.{held}
-use Rattle.t85_core.specs.Steps.ByRow.{IsBelow}
 use Rattle.t85_core.proofs.Encodings.RowGiven.{row_below}
 use Rattle.t85_core.proofs.Encodings.RowsTaken.{put_current}
 use Rattle.t85_core.proofs.encoding.rows.take_row.Goals as goal
@@ -10,6 +8,6 @@ use Rattle.t85_core.proofs.encoding.rows.take_row.Goals as goal
 pub returns-clause-below : goal.returns-clause-below
 returns-clause-below c =
     let wide : length c.copy_row.new.to ≡ div_ceil c.turn.new.self.width 8 = search rules in
-    subst (λ w. IsBelow (pixels_of c.args.size.width c.args.row.now) (held c.args.window.now) w)
-    (sym (put_current _ c.turn.new.self.place _ c.turn.new.self.width c.current_row-current.result.start c.current_row-current.result.end c.turn.new.self.rows.now c.copy_row.new.to c.place.ensures.place c.width.ensures c.turn.new.self.long wide c.current_row-current.ensures.put))
-    (row_below c.args.size.width c.args.row.now (held c.args.window.now) (held c.turn.new.self) c.copy_row.new.to c.args.size.some_width c.requires.whole c.masks.ensures.mask_keeps_pixels c.masks.ensures.masked_is_packed c.copy_row.ensures.masked c.copy_row.ensures.small c.turn.ensures.turned c.requires.width)
+    rw (put_current c.current_row-current.result.start c.current_row-current.result.end c.turn.new.self.rows.now c.copy_row.new.to c.place.ensures.place c.width.ensures c.turn.new.self.long wide
+    c.current_row-current.ensures.put) (row_below c.args.row.now (held c.args.window.now) c.args.size.some_width c.requires.whole c.masks.ensures.mask_keeps_pixels
+    c.masks.ensures.masked_is_packed c.copy_row.ensures.masked c.copy_row.ensures.small c.turn.ensures.turned c.requires.width)

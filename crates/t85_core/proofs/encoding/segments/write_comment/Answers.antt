@@ -10,7 +10,7 @@ pub returns-in_err-put : goal.returns-in_err-put
 returns-in_err-put g c = exit_all (PutsBytes _ _ _) c.from_residual.result c.from_residual.ensures.1 (record {
   ok = tt;
   err = c.in_err-put.ensures.err;
-  cut = beginning_longer _ _ _ c.args.text.now (rw c.write_u32.ensures at c.in_err-put.ensures.cut);
+  cut = beginning_longer c.args.text.now (rw c.write_u32.ensures at c.in_err-put.ensures.cut);
   grows = c.put.ensures.grows;
   counts = c.in_err-put.ensures.counts;
   same_writer = c.put.ensures.same_writer;
@@ -20,8 +20,8 @@ pub returns : goal.returns
 returns g c = record {
   ok = map_ok c.put-2.result (λ more. Appends-more _ _ _ _ _ (rw c.write_u32.ensures at c.in_ok-put.ensures.ok) more) c.put-2.ensures.ok;
   err = c.put-2.ensures.err;
-  cut = on_err c.put-2.result (λ more. beginning_after _ _ _ _ c.args.text.now (rw c.write_u32.ensures at c.in_ok-put.ensures.ok) more) c.put-2.ensures.cut;
+  cut = on_err c.put-2.result (λ more. beginning_after _ (rw c.write_u32.ensures at c.in_ok-put.ensures.ok) more) c.put-2.ensures.cut;
   grows = le_trans c.put.ensures.grows c.put-2.ensures.grows;
-  counts = counts_on _ _ _ c.put-2.result c.in_ok-put.ensures.counts c.put-2.ensures.counts;
+  counts = counts_on _ c.put-2.result c.in_ok-put.ensures.counts c.put-2.ensures.counts;
   same_writer = c.put-2.ensures.same_writer ∙ c.put.ensures.same_writer;
 }

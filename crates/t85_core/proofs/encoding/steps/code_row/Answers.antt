@@ -11,14 +11,15 @@ use Rattle.t85_core.proofs.encoding.steps.code_row.Goals as goal
 -- it is the same target
 stays : (g : given.Over) (c : goal.After-written g) → SameSink (sink_view g.P.ByteTarget.view c.new-ink.result) (sink_view g.P.ByteTarget.view c.encode_row.new.out)
 stays g c =
-    row_stays (sink_view g.P.ByteTarget.view) (λ s. (g.P.ByteTarget.view s.target.now).failures) c.new-ink.result c.encode_row.new.out _ _ _ _ _ _ _ _ c.encode_row.result
+    row_stays (sink_view g.P.ByteTarget.view) (λ s. (g.P.ByteTarget.view s.target.now).failures) c.new-ink.result c.encode_row.new.out _ _ _ _ _ _ _
     (c.encode_row.ensures.row c.requires.somewhere.0 c.requires.somewhere.1 c.requires.lined.0 c.requires.able.2 c.requires.somewhere.2 c.requires.lined.1)
 
 pub returns-clause-row : goal.returns-clause-row
 returns-clause-row g c p pushed lines codes has =
     rw c.written.ensures
     let same = (stays g c).same_buffer in
-    row_inked (sink_view g.P.ByteTarget.view) (λ s. (g.P.ByteTarget.view s.target.now).failures) c.new-ink.result c.encode_row.new.out _ _ (ap (λ m. (g.P.ByteTarget.view m.now).text) c.new-ink.ensures.lent) (ap (λ t. (g.P.ByteTarget.view t).text) (search (rules, same))) _ _ _ _ _ _ _ _ c.encode_row.result
+    row_inked (sink_view g.P.ByteTarget.view) (λ s. (g.P.ByteTarget.view s.target.now).failures) c.new-ink.result c.encode_row.new.out _ _
+    (ap (λ m. (g.P.ByteTarget.view m.now).text) c.new-ink.ensures.lent) (ap (λ t. (g.P.ByteTarget.view t).text) (search (rules, same))) _ _ _ _ _ _ _ _ c.encode_row.result
     (c.encode_row.ensures.row p pushed lines c.requires.able.2 codes has)
 
 pub returns-clause-fails : goal.returns-clause-fails
@@ -27,7 +28,9 @@ returns-clause-fails g c =
     let last = ap (λ t. (g.P.ByteTarget.view t).failures) (search (rules, same)) in (
       subst (λ r. IfErr r (λ f. f ≡ Write)) (sym c.written.ensures) (sent_err c.encode_row.result),
       record {
-        counts = subst (λ n. CountsWrite (g.P.ByteTarget.view c.args.target.now).failures n c.written.result) last (subst (λ n. CountsWrite n (g.P.ByteTarget.view c.encode_row.new.out.target.now).failures c.written.result) (ap (λ m. (g.P.ByteTarget.view m.now).failures) c.new-ink.ensures.lent) (subst (CountsWrite _ _) (sym c.written.ensures) (sent_counts c.encode_row.result _ _ c.encode_row.ensures.fails.0.2 (c.encode_row.ensures.fails.0.3 c.requires.able.2))));
+        counts = subst (λ n. CountsWrite (g.P.ByteTarget.view c.args.target.now).failures n c.written.result) last
+            (subst (λ n. CountsWrite n (g.P.ByteTarget.view c.encode_row.new.out.target.now).failures c.written.result) (ap (λ m. (g.P.ByteTarget.view m.now).failures) c.new-ink.ensures.lent)
+            (subst (CountsWrite _ _) (sym c.written.ensures) (sent_counts c.encode_row.result _ _ c.encode_row.ensures.fails.0.2 (c.encode_row.ensures.fails.0.3 c.requires.able.2))));
         grows = subst (λ n. (g.P.ByteTarget.view c.args.target.now).written ≤ n) (ap (λ t. (g.P.ByteTarget.view t).written) (search (rules, same)))
             (subst (λ n. n ≤ (g.P.ByteTarget.view c.encode_row.new.out.target.now).written) (ap (λ m. (g.P.ByteTarget.view m.now).written) c.new-ink.ensures.lent) (stays g c).grows);
         same_writer = sym (ap (λ t. (g.P.ByteTarget.view t).writer) (search (rules, same))) ∙ (stays g c).same_writer ∙ ap (λ m. (g.P.ByteTarget.view m.now).writer) c.new-ink.ensures.lent;

@@ -1,7 +1,6 @@
 use Rattle.std.proofs.Common.{arith}
-use Rattle.t85_core.specs.Grammar.{Move, segment_bytes}
 use Rattle.t85_core.proofs.Encodings.FewAppended.{beginning_few}
 use Rattle.t85_core.proofs.encoding.steps.move_pixel.Goals as goal
 
 pub returns-in_err-write_move-in-Some-clause-few : goal.returns-in_err-write_move-in-Some-clause-few
-returns-in_err-write_move-in-Some-clause-few g c = beginning_few 8 _ _ (segment_bytes (Move 0 c.in-Some.offset)) (omega arith) c.in_err-write_move-in-Some.ensures.cut
+returns-in_err-write_move-in-Some-clause-few g c = beginning_few 8 (omega arith) c.in_err-write_move-in-Some.ensures.cut

@@ -15,7 +15,7 @@ returns g c =
     let new : InputView = g.R.Input.view c.if-self.self.1.0.now in
     let kept : Keeps (prepend_known (held_of old.bytes old.at old.end) (g.R.Input.view old.input.now).remaining) (prepend_known (held_of bytes at end) new.remaining) =
     elim c.if-self.branch [
-      | then-self+in-Ok w ↦ rw w.self-is (keeps_refilled _ _ _ _ _ (none_held _ _ _ w.if-self.true) w.in-Ok.ensures.bytes.0)
+      | then-self+in-Ok w ↦ rw w.self-is (keeps_refilled _ _ _ _ (none_held _ w.if-self.true) w.in-Ok.ensures.bytes.0)
       | else-self w ↦ rw w.self-is (Keeps-same _)
     ] in
     let some : at < end = elim c.if-self.branch [ then-self+in-Ok w ↦ rw w.self-is (omega arith) | else-self w ↦ rw w.self-is (omega (arith, old.ordered)) ] in

@@ -10,7 +10,7 @@ returns g c =
     let most = c.min.ensures in
     let few = held_long s.bytes (s.at + ((s.end - s.at) - c.min.result)) s.end (omega (arith, s.ordered)) within in
     record {
-      taken = λ front back is long. kept_last s.bytes s.at s.end c.args.left c.min.result (g.R.Input.view s.input.now).remaining s.ordered within most front back is long;
+      taken = λ front back is long. kept_last s.bytes s.at s.end (g.R.Input.view s.input.now).remaining (s.ordered, within) most front back is long;
       within = omega (arith, few, most, s.ordered);
       still = omega (arith, few, all, most, s.ordered);
       unfailed = refl;

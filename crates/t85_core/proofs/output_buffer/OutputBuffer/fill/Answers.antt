@@ -10,6 +10,7 @@ returns-clause-text g c =
     let count : ℕ = c.min-count.result in
     let more : List ℕ = take count c.args.bytes.now in
     let long : length more ≡ count = omega (arith, length-take count c.args.bytes.now) in
-    let same : c.copy_from_slice.new.self ≡ more = c.copy_from_slice.ensures.after in
-    let grown : held_of (put_mid s.end (s.end + count - s.end) s.bytes more) s.at (s.end + count) ≡ held_of s.bytes s.at s.end ++ more = held_grows s.bytes more s.at s.end _ _ (omega arith) s.ordered (omega (arith, s.within)) in
+    let same = c.copy_from_slice.ensures.after in
+    let grown : held_of (put_mid s.end (s.end + count - s.end) s.bytes more) s.at (s.end + count) ≡ held_of s.bytes s.at s.end ++ more =
+    held_grows s.bytes more s.at s.end _ (omega arith) s.ordered (omega arith) in
     rw same (rw grown (appends_held (g.W.Output.view s.output.now).contents (held_of s.bytes s.at s.end) more))

@@ -1,9 +1,8 @@
-use Rattle.std.proofs.Common.{◌≡◌, ◌≤◌, ◌-◌, length, take, drop, sym, ap, refl, le_trans, ◌∙◌, take-append-drop, length-drop, length-take, arith}
+use Rattle.std.proofs.Common.{◌≡◌, ◌≤◌, ◌-◌, length, take, drop, sym, refl, le_trans, ◌∙◌, take-append-drop, length-drop, length-take, arith}
 use Rattle.std.proofs.lemmas.List.{take_rest}
 use Rattle.std.proofs.Math.Seq.{take-add}
 use Rattle.std.specs.Io.KnownBytes.{Keeps, append_known}
 use Rattle.t85_core.specs.Steps.Buffers.{PutsBytes, held_of, known_length}
-use Rattle.t85_core.specs.Failures.{writes_after}
 use Rattle.t85_core.specs.Steps.Views.{writer_of}
 use Rattle.t85_core.proofs.Bytes.Streams.{Appends-more, Appends-keeps}
 use Rattle.t85_core.proofs.Bytes.Held.{Keeps-same}
@@ -24,7 +23,7 @@ returns-in_err-write_held g c =
         appends = Appends-keeps _ _ _ _ v.text c.in_err-write_held.ensures.text;
       };
       grows = le_trans v.grows c.in_err-write_held.ensures.writes.1;
-      counts = c.in_err-write_held.ensures.writes.0 ∙ ap (writes_after _) v.unfailed;
+      counts = rw (c.in_err-write_held.ensures.writes.0, v.unfailed);
       same_writer = c.in_err-write_held.ensures.writes.2 ∙ v.same_writer;
     })
 
@@ -32,7 +31,8 @@ pub loop-taken-preserved : goal.loop-taken-preserved
 loop-taken-preserved g c =
     let old = c.loop-taken.self in
     let new = c.if-self.self in
-    let kept : Keeps (append_known (g.W.Output.view old.output.now).contents (held_of old.bytes old.at old.end)) (append_known (g.W.Output.view new.output.now).contents (held_of new.bytes new.at new.end)) =
+    let kept : Keeps (append_known (g.W.Output.view old.output.now).contents (held_of old.bytes old.at old.end))
+    (append_known (g.W.Output.view new.output.now).contents (held_of new.bytes new.at new.end)) =
     elim c.if-self.branch [
       | then-self+in_ok-write_held w ↦ rw w.self-is w.write_held.ensures.text
       | else-self w ↦ rw w.self-is (Keeps-same _)
@@ -54,9 +54,9 @@ loop-taken-preserved g c =
     ] in
     let more = rw take_rest at c.fill-taken.ensures.text in
     record {
-      within = omega (arith, c.fill-taken.ensures.bound, length-drop c.loop-taken.taken c.args.bytes.now, length-take (length c.args.bytes.now - c.loop-taken.taken) (drop c.loop-taken.taken c.args.bytes.now), c.loop-taken.invariant.within);
+      within = omega (arith, length-drop c.loop-taken.taken c.args.bytes.now, length-take (length c.args.bytes.now - c.loop-taken.taken) (drop c.loop-taken.taken c.args.bytes.now));
       text = rw take-add (Appends-more _ _ _ _ _ (Appends-keeps _ _ _ _ c.loop-taken.invariant.text kept) more);
-      grows = rw c.fill-taken.ensures.lent (let before = c.loop-taken.invariant.grows in omega (arith, grows, before));
+      grows = rw c.fill-taken.ensures.lent (let before = c.loop-taken.invariant.grows in omega arith);
       unfailed = rw c.fill-taken.ensures.lent (unfailed ∙ c.loop-taken.invariant.unfailed);
       same_writer = rw c.fill-taken.ensures.lent (same_writer ∙ c.loop-taken.invariant.same_writer);
     }

@@ -15,4 +15,5 @@ pub returns-clause-told : goal.returns-clause-told
 returns-clause-told c = λ from p. tells_behind c.args.stream.now (fields_of c.in-Ok.header) c.args.self.now _ _ c.in-Ok.ensures.accepted c.if-self-eq0.false c.next_in_body.ensures.told from p
 
 pub returns-then-self-eq0-clause-any : goal.returns-then-self-eq0-clause-any
-returns-then-self-eq0-clause-any c = any_header c.args.stream.now (fields_of c.in-Ok.header) c.args.self.now c.in-Ok.ensures.accepted c.if-self-eq0.true c.pass_header.ensures.told c.pass_header.ensures.behind
+returns-then-self-eq0-clause-any c = any_header c.args.stream.now
+    (fields_of c.in-Ok.header) c.args.self.now c.in-Ok.ensures.accepted c.if-self-eq0.true c.pass_header.ensures.told c.pass_header.ensures.behind

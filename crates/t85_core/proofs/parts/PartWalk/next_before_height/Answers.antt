@@ -15,4 +15,5 @@ returns-in-None-clause-told c = λ zero most n g ss gs p. absurd (never_before p
 pub returns-in-Some-clause-any : goal.returns-in-Some-clause-any
 returns-in-Some-clause-any c =
     let left = c.read_before_height.new.source.rest.now in
-    any_taken c.args.stream.now c.args.self.now _ c.in-Some.taken left c.take.ensures.told c.take.ensures.behind refl (ap (λ z. length z - length left) c.rest_of-rest.ensures) (rw c.rest_of-rest.ensures at c.in-Some.ensures.lowers)
+    any_taken c.args.stream.now c.args.self.now _ c.in-Some.taken left c.take.ensures.told c.take.ensures.behind refl (ap (λ z. length z - length left) c.rest_of-rest.ensures)
+    (rw c.rest_of-rest.ensures at c.in-Some.ensures.lowers)

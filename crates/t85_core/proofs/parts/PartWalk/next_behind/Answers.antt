@@ -8,4 +8,5 @@ pub returns-then-sees_height-clause-told : goal.returns-then-sees_height-clause-
 returns-then-sees_height-clause-told c = before_of (fields_of c.args.header.now) _ _ _ _ (subst (SeesHeight _ _ _) c.if-sees_height.true c.sees_height.ensures) c.next_before_height.ensures.told
 
 pub returns-else-sees_height-clause-told : goal.returns-else-sees_height-clause-told
-returns-else-sees_height-clause-told c = λ most ss gs p. (whole_there p c.tail_len.result ((subst (SeesHeight _ _ _) c.if-sees_height.false c.sees_height.ensures) most ss gs p) c.tail_len.ensures.is, refl)
+returns-else-sees_height-clause-told c =
+    λ most ss gs p. (whole_there p c.tail_len.result ((subst (SeesHeight _ _ _) c.if-sees_height.false c.sees_height.ensures) most ss gs p) c.tail_len.ensures.is, refl)

@@ -15,4 +15,5 @@ returns-in-Err-clause-told c = λ few ss gs p. (breaks_in_stripe p c.is_given.re
 pub returns-in-Ok-clause-any : goal.returns-in-Ok-clause-any
 returns-in-Ok-clause-any c =
     let left = c.read_part.new.source.rest.now in
-    any_taken c.args.stream.now c.args.self.now _ c.in-Ok.taken left c.take.ensures.told c.take.ensures.behind refl (ap (λ z. length z - length left) c.rest_of-rest.ensures) (rw c.rest_of-rest.ensures at c.in-Ok.ensures.lowers)
+    any_taken c.args.stream.now c.args.self.now _ c.in-Ok.taken left c.take.ensures.told c.take.ensures.behind refl (ap (λ z. length z - length left) c.rest_of-rest.ensures)
+    (rw c.rest_of-rest.ensures at c.in-Ok.ensures.lowers)

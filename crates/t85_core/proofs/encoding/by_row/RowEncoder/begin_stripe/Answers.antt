@@ -11,9 +11,11 @@ use Rattle.t85_core.proofs.encoding.by_row.RowEncoder.begin_stripe.Goals as goal
 pub returns-in_err-move_pixel-clause-cut : goal.returns-in_err-move_pixel-clause-cut
 returns-in_err-move_pixel-clause-cut g c =
     exit_all (λ r. OnErr r ((image : Image) (rows : List (List Bool)) (row : List Bool) (before : Held) (origin : Origin) →
-    Waits image rows (view_of c.args.self.now c.args.learning.now) before origin (g.P.ByteTarget.view c.args.target.now).text → StreamCut image (rows ++ row ∷ []) origin (g.P.ByteTarget.view c.move_pixel.new.target).text)) c.from_residual.result c.from_residual.ensures.1
-    (λ image rows row before origin w. move_cut image rows (view_of c.args.self.now c.args.learning.now) before origin _ _ w c.requires.left row c.in_err-move_pixel.ensures.cut)
+    Waits image rows (view_of c.args.self.now c.args.learning.now) before origin (g.P.ByteTarget.view c.args.target.now).text →
+    StreamCut image (rows ++ row ∷ []) origin (g.P.ByteTarget.view c.move_pixel.new.target).text)) c.from_residual.result c.from_residual.ensures.1
+    (λ image rows row before origin w. move_cut _ w c.requires.left row c.in_err-move_pixel.ensures.cut)
 
 pub returns-clause-ok : goal.returns-clause-ok
 returns-clause-ok g c image rows before origin w =
-    stripe_begun image rows (view_of c.args.self.now c.args.learning.now) before origin _ _ w c.requires.left c.move_pixel.new.kept c.restart.new.self c.is_followed-self.result c.in_ok-move_pixel.ensures.ok c.restart.ensures.counts c.restart.ensures.two_line c.restart.ensures.most c.is_followed-self.ensures
+    stripe_begun _ w c.requires.left c.move_pixel.new.kept c.restart.new.self c.is_followed-self.result c.in_ok-move_pixel.ensures.ok c.restart.ensures.counts c.restart.ensures.two_line
+    c.restart.ensures.most c.is_followed-self.ensures

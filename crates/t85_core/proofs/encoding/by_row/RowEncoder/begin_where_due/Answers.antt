@@ -8,4 +8,5 @@ returns-then-self-eq0-clause-ok g c =
 
 pub returns-then-self-eq0-clause-cut : goal.returns-then-self-eq0-clause-cut
 returns-then-self-eq0-clause-cut g c =
-    on_err c.begin_stripe.result (λ cut row before image rows origin so. cut image rows row before origin (stands_waiting image rows _ before origin _ c.if-self-eq0.true so)) c.begin_stripe.ensures.cut
+    on_err c.begin_stripe.result (λ cut row before image rows origin so. cut image rows row before origin
+    (stands_waiting image rows _ before origin _ c.if-self-eq0.true so)) c.begin_stripe.ensures.cut

@@ -15,13 +15,13 @@ returns-in-Some-clause-best c image rows origin text raster so m enough =
     let window = held c.args.window.now in
     let part = all_rows_in e.size.width c.args.rows.now in
     let applies = rows_held e (length c.args.rows.now) (sym c.are_stripe_rows.ensures ∙ c.if-not-are_stripe_rows.false) in
-    let some : 1 ≤ length part = omega (arith, length-packed_rows e.size.width c.args.rows.now (length c.args.rows.now / bytes_of_row e.size.width), applies.1) in
+    let some : 1 ≤ length part = omega (arith, length-packed_rows e.size.width c.args.rows.now (length c.args.rows.now / bytes_of_row e.size.width)) in
     let w = stands_waiting image rows (view_of e learning) window origin text applies.0 so in
     let double = c.lengths.ensures.events_double in
     let short = c.lengths.ensures.code_is_short in
-    let start = carried double short image rows part e learning window origin text raster w m enough some in
+    let start = carried double short part e learning w m enough some in
     let second = c.compare-second.ensures.chooses w.at.carry start (c.try_offset-tried.ensures.bytes w.at.carry start) in
-    found_three double short image rows part e learning window origin text raster w m enough some c.try_offset-tried.result.lag c.in-Some.lag c.compare-second.result c.compare-best.result c.in-Some.is
+    found_three double short part e learning w m enough some c.in-Some.is
     (c.try_offset-tried.ensures.lag w.at.carry start refl) second (c.compare-best.ensures.chooses w.at.carry start second.bytes_are)
 
 pub returns-in-None-clause-best : goal.returns-in-None-clause-best
@@ -31,10 +31,10 @@ returns-in-None-clause-best c image rows origin text raster so m enough =
     let window = held c.args.window.now in
     let part = all_rows_in e.size.width c.args.rows.now in
     let applies = rows_held e (length c.args.rows.now) (sym c.are_stripe_rows.ensures ∙ c.if-not-are_stripe_rows.false) in
-    let some : 1 ≤ length part = omega (arith, length-packed_rows e.size.width c.args.rows.now (length c.args.rows.now / bytes_of_row e.size.width), applies.1) in
+    let some : 1 ≤ length part = omega (arith, length-packed_rows e.size.width c.args.rows.now (length c.args.rows.now / bytes_of_row e.size.width)) in
     let w = stands_waiting image rows (view_of e learning) window origin text applies.0 so in
     let double = c.lengths.ensures.events_double in
     let short = c.lengths.ensures.code_is_short in
-    let start = carried double short image rows part e learning window origin text raster w m enough some in
-    found_two double short image rows part e learning window origin text raster w m enough some c.try_offset-tried.result.lag c.compare-second.result c.in-None.is
+    let start = carried double short part e learning w m enough some in
+    found_two double short part e learning w m enough some c.in-None.is
     (c.try_offset-tried.ensures.lag w.at.carry start refl) (c.compare-second.ensures.chooses w.at.carry start (c.try_offset-tried.ensures.bytes w.at.carry start))

@@ -1,4 +1,3 @@
-use Rattle.t85_core.specs.Steps.ByRow.{view_of}
 use Rattle.t85_core.proofs.Bytes.Ends.{map_ok, on_err}
 use Rattle.t85_core.proofs.Encodings.RowSteps.{stream_ended, ending_cut}
 use Rattle.qm_core.specs.Encoder.{waiting_bytes}
@@ -7,11 +6,13 @@ use Rattle.t85_core.proofs.encoding.by_row.RowEncoder.end.Goals as goal
 
 pub returns-clause-ok : goal.returns-clause-ok
 returns-clause-ok g c =
-    map_ok c.write_ending.result (λ put image rows origin so. stream_ended image rows (view_of c.end_last.new.self c.end_last.new.learning) origin (g.P.ByteTarget.view c.end_last.new.target).text (g.P.ByteTarget.view c.write_ending.new.target).text (c.in_ok-end_last.ensures.ok image rows origin so) put) c.write_ending.ensures.ok
+    map_ok c.write_ending.result (λ put image rows origin so. stream_ended (g.P.ByteTarget.view c.write_ending.new.target).text
+    (c.in_ok-end_last.ensures.ok image rows origin so) put) c.write_ending.ensures.ok
 
 pub returns-clause-cut : goal.returns-clause-cut
 returns-clause-cut g c open_ =
-    on_err c.write_ending.result (λ cut image rows origin so. ending_cut image rows (view_of c.end_last.new.self c.end_last.new.learning) origin (g.P.ByteTarget.view c.end_last.new.target).text (g.P.ByteTarget.view c.write_ending.new.target).text (c.in_ok-end_last.ensures.ok image rows origin so) cut) c.write_ending.ensures.cut
+    on_err c.write_ending.result (λ cut image rows origin so. ending_cut (g.P.ByteTarget.view c.write_ending.new.target).text
+    (c.in_ok-end_last.ensures.ok image rows origin so) cut) c.write_ending.ensures.cut
 
 pub returns-clause-few : goal.returns-clause-few
 returns-clause-few g c =

@@ -1,12 +1,9 @@
-use Rattle.std.specs.Prelude.{OnErr, List, Bool, None, [], ◌+◌, ◌*◌}
-use Rattle.std.proofs.Common.{refl, sym, subst}
-use Rattle.qm_core.specs.Place.{start}
-use Rattle.qm_core.specs.Encoder.{EncoderIsAt, waiting_bytes}
+use Rattle.std.specs.Prelude.{OnErr, List, Bool, []}
+use Rattle.std.proofs.Common.{refl}
 use Rattle.raster_core.specs.Window.{held}
-use Rattle.t85_core.specs.Steps.State.{first_row_start, next_stripe_start}
 use Rattle.t85_core.specs.Steps.Written.{row_start_in}
 use Rattle.t85_core.specs.Steps.Sent.{Origin}
-use Rattle.t85_core.specs.Steps.ByRow.{Runs, IsHeldBy, view_of}
+use Rattle.t85_core.specs.Steps.ByRow.{Runs, view_of}
 use Rattle.t85_core.specs.RowImage.{Image}
 use Rattle.t85_core.specs.Steps.RowSteps.{StripeBegun}
 use Rattle.t85_core.proofs.Walks.InfoEnds.{exit_all}
@@ -19,34 +16,35 @@ use Rattle.t85_core.proofs.encoding.by_row.RowEncoder.end_stripe.Goals as goal
 pub returns-in_err-end_entity-clause-cut : goal.returns-in_err-end_entity-clause-cut
 returns-in_err-end_entity-clause-cut g c =
     exit_all (λ r. OnErr r ((image : Image) (rows : List (List Bool)) (origin : Origin) →
-    Runs image rows (view_of c.args.self.now c.args.learning.now) (held c.args.window.now) origin (g.P.ByteTarget.view c.args.target.now).text → StripeBegun image c.args.self.now.in_stripe rows origin (g.P.ByteTarget.view c.end_entity.new.target).text)) c.from_residual.result c.from_residual.ensures.1
+    Runs image rows (view_of c.args.self.now c.args.learning.now) (held c.args.window.now) origin (g.P.ByteTarget.view c.args.target.now).text →
+    StripeBegun image c.args.self.now.in_stripe rows origin (g.P.ByteTarget.view c.end_entity.new.target).text)) c.from_residual.result c.from_residual.ensures.1
     (λ image rows origin r.
-    let e = c.in_err-end_entity.ensures.ended (row_start_in image.settings image.width r.at r.part).state.place r.pushed (subst (λ e. EncoderIsAt e (row_start_in image.settings image.width r.at r.part).state.place r.pushed) (sym c.replace-encoder.ensures.value) r.running.codes) in
-    stripe_cut image rows (view_of c.args.self.now c.args.learning.now) (held c.args.window.now) origin _ _ c.requires.some r c.writing_laws.ensures e.code e.more e.is e.all e.cut)
+    let e = c.in_err-end_entity.ensures.ended (row_start_in image.settings image.width r.at r.part).state.place r.pushed (rw c.replace-encoder.ensures.value r.running.codes) in
+    stripe_cut _ c.requires.some r c.writing_laws.ensures e.is e.all e.cut)
 
 pub returns-clause-ok : goal.returns-clause-ok
 returns-clause-ok g c = always c.write_held.result (λ image rows origin r.
-    let e = c.in_ok-end_entity.ensures.ended (row_start_in image.settings image.width r.at r.part).state.place r.pushed (subst (λ e. EncoderIsAt e (row_start_in image.settings image.width r.at r.part).state.place r.pushed) (sym c.replace-encoder.ensures.value) r.running.codes) in
-    stripe_ended image rows (view_of c.args.self.now c.args.learning.now) (held c.args.window.now) origin _ _ c.requires.some r c.writing_laws.ensures c.replace-encoder.new.dest c.next_stripe.new.kept c.next_stripe.new.learned _ _ _ refl
-    (subst (λ e. EncoderIsAt e start []) (sym c.replace-encoder.ensures.after) c.start.ensures.codes)
-    (λ last is. subst (λ w. IsHeldBy None 0 (first_row_start (next_stripe_start w c.args.self.now.reset last)) c.next_stripe.new.kept c.next_stripe.new.learned (held c.next_stripe.new.window)) c.requires.lined.1 (held_by_carried (c.next_stripe.ensures.next last (carried_by_held is))))
-    e.code e.more e.is e.all e.ok c.write_held.ensures.text)
+    let e = c.in_ok-end_entity.ensures.ended (row_start_in image.settings image.width r.at r.part).state.place r.pushed (rw c.replace-encoder.ensures.value r.running.codes) in
+    stripe_ended _ c.requires.some r c.writing_laws.ensures c.replace-encoder.new.dest c.next_stripe.new.kept c.next_stripe.new.learned _ _ refl
+    (rw c.replace-encoder.ensures.after c.start.ensures.codes)
+    (λ last is. rw (← c.requires.lined.1) (held_by_carried (c.next_stripe.ensures.next last (carried_by_held is))))
+    e.more e.is e.all e.ok c.write_held.ensures.text)
 
 pub returns-clause-cut : goal.returns-clause-cut
 returns-clause-cut g c = always_err c.write_held.result (λ image rows origin r.
-    let e = c.in_ok-end_entity.ensures.ended (row_start_in image.settings image.width r.at r.part).state.place r.pushed (subst (λ e. EncoderIsAt e (row_start_in image.settings image.width r.at r.part).state.place r.pushed) (sym c.replace-encoder.ensures.value) r.running.codes) in
-    stripe_cut image rows (view_of c.args.self.now c.args.learning.now) (held c.args.window.now) origin _ _ c.requires.some r c.writing_laws.ensures e.code e.more e.is e.all
-    (beginning_all _ _ e.more (Appends-keeps _ _ _ e.more e.ok c.write_held.ensures.text)))
+    let e = c.in_ok-end_entity.ensures.ended (row_start_in image.settings image.width r.at r.part).state.place r.pushed (rw c.replace-encoder.ensures.value r.running.codes) in
+    stripe_cut _ c.requires.some r c.writing_laws.ensures e.is e.all
+    (beginning_all (Appends-keeps _ _ _ e.more e.ok c.write_held.ensures.text)))
 
 pub returns-in_err-end_entity-clause-few : goal.returns-in_err-end_entity-clause-few
 returns-in_err-end_entity-clause-few g c =
     let somewhere = c.requires.able.somewhere in
-    code_ended_few c.writing_laws.ensures c.args.self.now.encoder somewhere.0 [] somewhere.1 somewhere.2 _ _ c.args.self.now.reset _
-    (c.in_err-end_entity.ensures.ended somewhere.0 somewhere.1 (subst (λ e. EncoderIsAt e somewhere.0 somewhere.1) (sym c.replace-encoder.ensures.value) somewhere.2))
+    code_ended_few c.writing_laws.ensures c.args.self.now.encoder somewhere.0 [] somewhere.1 somewhere.2 _ _
+    (c.in_err-end_entity.ensures.ended somewhere.0 somewhere.1 (rw c.replace-encoder.ensures.value somewhere.2))
 
 pub returns-clause-few : goal.returns-clause-few
 returns-clause-few g c =
     let somewhere = c.requires.able.somewhere in
-    kept_few 0 (2 * waiting_bytes c.args.self.now.encoder + 2) _ _ _
-    (code_ended_few c.writing_laws.ensures c.args.self.now.encoder somewhere.0 [] somewhere.1 somewhere.2 _ _ c.args.self.now.reset _
-    (c.in_ok-end_entity.ensures.ended somewhere.0 somewhere.1 (subst (λ e. EncoderIsAt e somewhere.0 somewhere.1) (sym c.replace-encoder.ensures.value) somewhere.2))) c.write_held.ensures.text
+    kept_few
+    (code_ended_few c.writing_laws.ensures c.args.self.now.encoder somewhere.0 [] somewhere.1 somewhere.2 _ _
+    (c.in_ok-end_entity.ensures.ended somewhere.0 somewhere.1 (rw c.replace-encoder.ensures.value somewhere.2))) c.write_held.ensures.text

@@ -1,11 +1,11 @@
-use Rattle.std.proofs.Common.{rules, ◌≡◌, ◌≤◌, ◌∙◌, sym, ap, subst, arith}
+use Rattle.std.proofs.Common.{rules, ◌≡◌, ◌≤◌, subst, arith}
 use Rattle.t85_core.specs.Encode.{raster_of}
 use Rattle.raster_core.specs.Window.{held}
 use Rattle.t85_core.specs.Jbg.{jbg}
 use Rattle.t85_core.specs.Steps.Buffers.{held_of, known_length}
 use Rattle.t85_core.specs.Steps.Views.{text_taken}
 use Rattle.t85_core.specs.Steps.Sent.{Sends, SendsBeginning}
-use Rattle.t85_core.specs.Steps.ByRow.{Stands, view_of}
+use Rattle.t85_core.specs.Steps.ByRow.{view_of}
 use Rattle.t85_core.proofs.Bytes.Sendings.{beginning_sent}
 use Rattle.t85_core.proofs.Bytes.Ends.{map_ok, on_err}
 use Rattle.t85_core.proofs.Decodings.BufferDecoded.{text_unheld}
@@ -19,31 +19,36 @@ use Rattle.t85_core.proofs.encoding.by_row.RowEncoder.finish.Goals as goal
 pub returns-clause-ok : goal.returns-clause-ok
 returns-clause-ok g c =
     let buffer = c.new-buffer.result in
-    let text_is : text_taken buffer ≡ (g.W.Output.view c.args.output.now).contents = text_unheld buffer.bytes buffer.at buffer.end (g.W.Output.view buffer.output.now).contents c.new-buffer.ensures.empty ∙ ap (λ m. (g.W.Output.view m.now).contents) c.new-buffer.ensures.lent in
+    let text_is : text_taken buffer ≡ (g.W.Output.view c.args.output.now).contents =
+    rw (text_unheld buffer.bytes buffer.at buffer.end (g.W.Output.view buffer.output.now).contents c.new-buffer.ensures.empty, c.new-buffer.ensures.lent) in
     map_ok c.end_held.result (λ all image rows origin so.
-    moved (λ w. (g.W.Output.view w).contents) (λ z. Sends origin z (jbg image.settings (raster_of image.width rows))) c.end_held.new.buffer.output.now _ (search rules)
-    (all image rows origin (stands_cleared image rows (view_of c.args.self.now c.args.learning.now) (held c.args.window.now) (held c.clear_padding.new.window) origin _ c.clear_padding.ensures.stays (subst (λ z. Stands image rows (view_of c.args.self.now c.args.learning.now) (held c.args.window.now) origin z) (sym text_is) so)))) c.end_held.ensures.ok
+    moved (λ w. (g.W.Output.view w).contents) (λ z. Sends origin z (jbg image.settings (raster_of image.width rows))) (search rules)
+    (all image rows origin (stands_cleared image rows (view_of c.args.self.now c.args.learning.now) (held c.args.window.now)
+    (held c.clear_padding.new.window) origin _ c.clear_padding.ensures.stays (rw text_is so)))) c.end_held.ensures.ok
 
 pub returns-clause-cut : goal.returns-clause-cut
 returns-clause-cut g c _ =
     let buffer = c.new-buffer.result in
     let after = c.end_held.new.buffer in
-    let text_is : text_taken buffer ≡ (g.W.Output.view c.args.output.now).contents = text_unheld buffer.bytes buffer.at buffer.end (g.W.Output.view buffer.output.now).contents c.new-buffer.ensures.empty ∙ ap (λ m. (g.W.Output.view m.now).contents) c.new-buffer.ensures.lent in
-    let lent : (g.W.Output.view buffer.output.now).contents ≡ (g.W.Output.view c.args.output.now).contents = ap (λ m. (g.W.Output.view m.now).contents) c.new-buffer.ensures.lent in
+    let text_is : text_taken buffer ≡ (g.W.Output.view c.args.output.now).contents =
+    rw (text_unheld buffer.bytes buffer.at buffer.end (g.W.Output.view buffer.output.now).contents c.new-buffer.ensures.empty, c.new-buffer.ensures.lent) in
+    let lent : (g.W.Output.view buffer.output.now).contents ≡ (g.W.Output.view c.args.output.now).contents = rw c.new-buffer.ensures.lent in
     on_err c.end_held.result (λ cut image rows origin so.
     let grown = stands_grown image rows (view_of c.args.self.now c.args.learning.now) (held c.args.window.now) origin (g.W.Output.view c.args.output.now).contents so in
-    let more : known_length (g.W.Output.view c.args.output.now).contents ≤ known_length (g.W.Output.view after.output.now).contents = subst (λ z. known_length z ≤ known_length (g.W.Output.view after.output.now).contents) lent c.end_held.ensures.writes.1 in
-    moved (λ w. (g.W.Output.view w).contents) (λ z. SendsBeginning origin z (jbg image.settings (raster_of image.width rows))) after.output.now _ (search rules)
-    (beginning_sent origin (g.W.Output.view after.output.now).contents (held_of after.bytes after.at after.end) (jbg image.settings (raster_of image.width rows)) (omega (arith, grown, more))
-    (cut image rows origin (stands_cleared image rows (view_of c.args.self.now c.args.learning.now) (held c.args.window.now) (held c.clear_padding.new.window) origin _ c.clear_padding.ensures.stays (subst (λ z. Stands image rows (view_of c.args.self.now c.args.learning.now) (held c.args.window.now) origin z) (sym text_is) so))))) c.end_held.ensures.cut
+    let more = subst (λ z. known_length z ≤ known_length (g.W.Output.view after.output.now).contents) lent c.end_held.ensures.writes.1 in
+    moved (λ w. (g.W.Output.view w).contents) (λ z. SendsBeginning origin z (jbg image.settings (raster_of image.width rows))) (search rules)
+    (beginning_sent (held_of after.bytes after.at after.end) (omega arith)
+    (cut image rows origin (stands_cleared image rows (view_of c.args.self.now c.args.learning.now) (held c.args.window.now)
+    (held c.clear_padding.new.window) origin _ c.clear_padding.ensures.stays (rw text_is so))))) c.end_held.ensures.cut
 
 pub returns-clause-few : goal.returns-clause-few
 returns-clause-few g c =
     let buffer = c.new-buffer.result in
     let after = c.end_held.new.buffer in
-    let text_is : text_taken buffer ≡ (g.W.Output.view c.args.output.now).contents = text_unheld buffer.bytes buffer.at buffer.end (g.W.Output.view buffer.output.now).contents c.new-buffer.ensures.empty ∙ ap (λ m. (g.W.Output.view m.now).contents) c.new-buffer.ensures.lent in
-    let lent : (g.W.Output.view buffer.output.now).contents ≡ (g.W.Output.view c.args.output.now).contents = ap (λ m. (g.W.Output.view m.now).contents) c.new-buffer.ensures.lent in
-    let more : known_length (g.W.Output.view c.args.output.now).contents ≤ known_length (g.W.Output.view after.output.now).contents = subst (λ z. known_length z ≤ known_length (g.W.Output.view after.output.now).contents) lent c.end_held.ensures.writes.1 in
-    moved (λ w. (g.W.Output.view w).contents) (AppendsAtMost (2 * waiting_bytes c.args.self.now.encoder + 10) (g.W.Output.view c.args.output.now).contents) after.output.now _ (search rules)
+    let text_is : text_taken buffer ≡ (g.W.Output.view c.args.output.now).contents =
+    rw (text_unheld buffer.bytes buffer.at buffer.end (g.W.Output.view buffer.output.now).contents c.new-buffer.ensures.empty, c.new-buffer.ensures.lent) in
+    let lent : (g.W.Output.view buffer.output.now).contents ≡ (g.W.Output.view c.args.output.now).contents = rw c.new-buffer.ensures.lent in
+    let more = subst (λ z. known_length z ≤ known_length (g.W.Output.view after.output.now).contents) lent c.end_held.ensures.writes.1 in
+    moved (λ w. (g.W.Output.view w).contents) (AppendsAtMost (2 * waiting_bytes c.args.self.now.encoder + 10) (g.W.Output.view c.args.output.now).contents) (search rules)
     (handed_few (2 * waiting_bytes c.args.self.now.encoder + 10) (g.W.Output.view c.args.output.now).contents (g.W.Output.view after.output.now).contents (held_of after.bytes after.at after.end) more
     (subst (λ z. AppendsAtMost (2 * waiting_bytes c.args.self.now.encoder + 10) z (text_taken after)) text_is c.end_held.ensures.few))

@@ -8,4 +8,4 @@ pub returns-then-takes_name-clause-named : goal.returns-then-takes_name-clause-n
 returns-then-takes_name-clause-named c learning image rows window origin text so =
     let e = c.args.self.now in
     offset_named c.args.offset image rows (view_of e learning) window origin text
-    (name_waits (not e.is_closed) (may_name e.shape.two_line e.most_offset c.args.offset) e.in_stripe (sym c.takes_name.ensures ∙ c.if-takes_name.true)) so
+    (name_waits (not e.is_closed) (may_name e.shape.two_line e.most_offset c.args.offset) (sym c.takes_name.ensures ∙ c.if-takes_name.true)) so

@@ -7,7 +7,6 @@ use Rattle.t85_core.proofs.Encodings.Encoded.{are_settings}
 use Rattle.t85_core.proofs.Theorems.CodeDenotes.{written_bits}
 use Rattle.t85_core.proofs.Encodings.RowSteps.{none_stand}
 use Rattle.t85_core.proofs.encoding.by_row.RowEncoder.new.Goals as goal
-use Rattle.t85_core.specs.RowImage.{image_of}
 
 pub returns-clause-plan : goal.returns-clause-plan
 returns-clause-plan c =
@@ -31,5 +30,15 @@ returns-clause-plan c =
 
 pub returns-clause-first : goal.returns-clause-first
 returns-clause-first c learning untaught window text text' white put =
-    none_stand (image_of (settings_of c.args.options.now) c.args.size.width c.args.size.height) _ window text text' (returns-clause-plan c)
-    refl refl refl refl c.start.ensures.codes refl refl untaught.learned_is white untaught.two_line untaught.most untaught.counts put
+    none_stand (returns-clause-plan c) refl (record {
+      rows_is = refl;
+      in_stripe = refl;
+      nameless = refl;
+      codes = c.start.ensures.codes;
+      offset_is = refl;
+      previous_is = refl;
+      learned_is = untaught.learned_is;
+      two_line = untaught.two_line;
+      most = untaught.most;
+      counts = untaught.counts;
+    }) white put

@@ -14,7 +14,8 @@ Cut v window old new r = OnErr r ((row : List Bool) (before : Held) → IsBelow 
 
 pub returns-in_err-put_taken-clause-cut : goal.returns-in_err-put_taken-clause-cut
 returns-in_err-put_taken-clause-cut g c =
-    exit_all (Cut (view_of c.args.self.now c.args.learning.now) (held c.args.window.now) (text_taken c.args.buffer.now) (text_taken c.put_taken.new.target)) c.from_residual.result c.from_residual.ensures.1 (c.in_err-put_taken.ensures.cut c.requires.open_)
+    exit_all (Cut (view_of c.args.self.now c.args.learning.now) (held c.args.window.now) (text_taken c.args.buffer.now)
+    (text_taken c.put_taken.new.target)) c.from_residual.result c.from_residual.ensures.1 (c.in_err-put_taken.ensures.cut c.requires.open_)
 
 pub returns-in-Ok-clause-ok : goal.returns-in-Ok-clause-ok
 returns-in-Ok-clause-ok g c row before below image rows origin so =
@@ -23,4 +24,5 @@ returns-in-Ok-clause-ok g c row before below image rows origin so =
 
 pub returns-in-Err-clause-cut : goal.returns-in-Err-clause-cut
 returns-in-Err-clause-cut g c row before below image rows origin so =
-    front_cut image (rows ++ row ∷ []) origin _ _ c.write_held.ensures.text (c.fronts.ensures image (rows ++ row ∷ []) _ _ origin _ (c.in_ok-put_taken.ensures.ok row before below image rows origin so))
+    front_cut image (rows ++ row ∷ []) origin _ _ c.write_held.ensures.text
+    (c.fronts.ensures image (rows ++ row ∷ []) _ _ origin _ (c.in_ok-put_taken.ensures.ok row before below image rows origin so))

@@ -1,4 +1,4 @@
-use Rattle.std.proofs.Common.{rules, ◌≡◌, ◌≤◌, ◌∙◌, sym, ap, subst, arith, ◌++◌, ◌∷◌, []}
+use Rattle.std.proofs.Common.{rules, ◌≡◌, ◌≤◌, subst, arith, ◌++◌, ◌∷◌, []}
 use Rattle.pbm_core.specs.Image.{pixels_of}
 use Rattle.raster_core.specs.Window.{held}
 use Rattle.t85_core.specs.Steps.Buffers.{held_of, known_length}
@@ -17,33 +17,41 @@ use Rattle.t85_core.proofs.encoding.by_row.RowEncoder.put_row.Goals as goal
 pub returns-clause-ok : goal.returns-clause-ok
 returns-clause-ok g c =
     let buffer = c.new-buffer.result in
-    let text_is : text_taken buffer ≡ (g.W.Output.view c.args.output.now).contents = text_unheld buffer.bytes buffer.at buffer.end (g.W.Output.view buffer.output.now).contents c.new-buffer.ensures.empty ∙ ap (λ m. (g.W.Output.view m.now).contents) c.new-buffer.ensures.lent in
+    let text_is : text_taken buffer ≡ (g.W.Output.view c.args.output.now).contents =
+    rw (text_unheld buffer.bytes buffer.at buffer.end (g.W.Output.view buffer.output.now).contents c.new-buffer.ensures.empty, c.new-buffer.ensures.lent) in
     map_ok c.put_held.result (λ all image rows origin so.
-    moved (λ w. (g.W.Output.view w).contents) (Stands image (rows ++ pixels_of c.args.self.now.size.width c.args.row.now ∷ []) (view_of c.put_held.new.self c.put_held.new.learning) (held c.put_held.new.window) origin) c.put_held.new.buffer.output.now _ (search rules)
+    moved (λ w. (g.W.Output.view w).contents) (Stands image (rows ++ pixels_of c.args.self.now.size.width c.args.row.now ∷ []) (view_of c.put_held.new.self c.put_held.new.learning)
+    (held c.put_held.new.window) origin) (search rules)
     (all (pixels_of c.args.self.now.size.width c.args.row.now) (held c.clear_padding.new.window) c.take_row.ensures.below image rows origin
-    (stands_cleared image rows (view_of c.args.self.now c.args.learning.now) (held c.args.window.now) (held c.clear_padding.new.window) origin _ c.clear_padding.ensures.stays (subst (λ z. Stands image rows (view_of c.args.self.now c.args.learning.now) (held c.args.window.now) origin z) (sym text_is) so)))) c.put_held.ensures.ok
+    (stands_cleared image rows (view_of c.args.self.now c.args.learning.now) (held c.args.window.now) (held c.clear_padding.new.window) origin _ c.clear_padding.ensures.stays
+    (rw text_is so)))) c.put_held.ensures.ok
 
 pub returns-clause-cut : goal.returns-clause-cut
 returns-clause-cut g c _ =
     let buffer = c.new-buffer.result in
     let after = c.put_held.new.buffer in
-    let text_is : text_taken buffer ≡ (g.W.Output.view c.args.output.now).contents = text_unheld buffer.bytes buffer.at buffer.end (g.W.Output.view buffer.output.now).contents c.new-buffer.ensures.empty ∙ ap (λ m. (g.W.Output.view m.now).contents) c.new-buffer.ensures.lent in
-    let lent : (g.W.Output.view buffer.output.now).contents ≡ (g.W.Output.view c.args.output.now).contents = ap (λ m. (g.W.Output.view m.now).contents) c.new-buffer.ensures.lent in
+    let text_is : text_taken buffer ≡ (g.W.Output.view c.args.output.now).contents =
+    rw (text_unheld buffer.bytes buffer.at buffer.end (g.W.Output.view buffer.output.now).contents c.new-buffer.ensures.empty, c.new-buffer.ensures.lent) in
+    let lent : (g.W.Output.view buffer.output.now).contents ≡ (g.W.Output.view c.args.output.now).contents = rw c.new-buffer.ensures.lent in
     on_err c.put_held.result (λ cut image rows origin so.
     let grown = stands_grown image rows (view_of c.args.self.now c.args.learning.now) (held c.args.window.now) origin (g.W.Output.view c.args.output.now).contents so in
-    let more : known_length (g.W.Output.view c.args.output.now).contents ≤ known_length (g.W.Output.view after.output.now).contents = subst (λ z. known_length z ≤ known_length (g.W.Output.view after.output.now).contents) lent c.put_held.ensures.writes.1 in
-    moved (λ w. (g.W.Output.view w).contents) (StreamCut image (rows ++ pixels_of c.args.self.now.size.width c.args.row.now ∷ []) origin) after.output.now _ (search rules)
-    (cut_written image (rows ++ pixels_of c.args.self.now.size.width c.args.row.now ∷ []) origin (g.W.Output.view after.output.now).contents (held_of after.bytes after.at after.end) (omega (arith, grown, more))
+    let more = subst (λ z. known_length z ≤ known_length (g.W.Output.view after.output.now).contents) lent c.put_held.ensures.writes.1 in
+    moved (λ w. (g.W.Output.view w).contents) (StreamCut image (rows ++ pixels_of c.args.self.now.size.width c.args.row.now ∷ []) origin) (search rules)
+    (cut_written (held_of after.bytes after.at after.end) (omega arith)
     (cut (pixels_of c.args.self.now.size.width c.args.row.now) (held c.clear_padding.new.window) c.take_row.ensures.below image rows origin
-    (stands_cleared image rows (view_of c.args.self.now c.args.learning.now) (held c.args.window.now) (held c.clear_padding.new.window) origin _ c.clear_padding.ensures.stays (subst (λ z. Stands image rows (view_of c.args.self.now c.args.learning.now) (held c.args.window.now) origin z) (sym text_is) so))))) c.put_held.ensures.cut
+    (stands_cleared image rows (view_of c.args.self.now c.args.learning.now) (held c.args.window.now) (held c.clear_padding.new.window) origin _ c.clear_padding.ensures.stays
+    (rw text_is so))))) c.put_held.ensures.cut
 
 pub returns-clause-few : goal.returns-clause-few
 returns-clause-few g c =
     let buffer = c.new-buffer.result in
     let after = c.put_held.new.buffer in
-    let text_is : text_taken buffer ≡ (g.W.Output.view c.args.output.now).contents = text_unheld buffer.bytes buffer.at buffer.end (g.W.Output.view buffer.output.now).contents c.new-buffer.ensures.empty ∙ ap (λ m. (g.W.Output.view m.now).contents) c.new-buffer.ensures.lent in
-    let lent : (g.W.Output.view buffer.output.now).contents ≡ (g.W.Output.view c.args.output.now).contents = ap (λ m. (g.W.Output.view m.now).contents) c.new-buffer.ensures.lent in
-    let more : known_length (g.W.Output.view c.args.output.now).contents ≤ known_length (g.W.Output.view after.output.now).contents = subst (λ z. known_length z ≤ known_length (g.W.Output.view after.output.now).contents) lent c.put_held.ensures.writes.1 in
-    moved (λ w. (g.W.Output.view w).contents) (AppendsAtMost (2 * waiting_bytes c.args.self.now.encoder + 4 * (c.args.self.now.size.width + 1) + 10) (g.W.Output.view c.args.output.now).contents) after.output.now _ (search rules)
-    (handed_few (2 * waiting_bytes c.args.self.now.encoder + 4 * (c.args.self.now.size.width + 1) + 10) (g.W.Output.view c.args.output.now).contents (g.W.Output.view after.output.now).contents (held_of after.bytes after.at after.end) more
+    let text_is : text_taken buffer ≡ (g.W.Output.view c.args.output.now).contents =
+    rw (text_unheld buffer.bytes buffer.at buffer.end (g.W.Output.view buffer.output.now).contents c.new-buffer.ensures.empty, c.new-buffer.ensures.lent) in
+    let lent : (g.W.Output.view buffer.output.now).contents ≡ (g.W.Output.view c.args.output.now).contents = rw c.new-buffer.ensures.lent in
+    let more = subst (λ z. known_length z ≤ known_length (g.W.Output.view after.output.now).contents) lent c.put_held.ensures.writes.1 in
+    moved (λ w. (g.W.Output.view w).contents) (AppendsAtMost (2 * waiting_bytes c.args.self.now.encoder + 4 * (c.args.self.now.size.width + 1) + 10) (g.W.Output.view c.args.output.now).contents)
+    (search rules)
+    (handed_few (2 * waiting_bytes c.args.self.now.encoder + 4 * (c.args.self.now.size.width + 1) + 10) (g.W.Output.view c.args.output.now).contents (g.W.Output.view after.output.now).contents
+    (held_of after.bytes after.at after.end) more
     (subst (λ z. AppendsAtMost (2 * waiting_bytes c.args.self.now.encoder + 4 * (c.args.self.now.size.width + 1) + 10) z (text_taken after)) text_is c.put_held.ensures.few))

@@ -9,11 +9,11 @@ use Rattle.t85_core.proofs.encoding.by_row.trial.Trial.code.Goals as goal
 pub returns-clause-row : goal.returns-clause-row
 returns-clause-row c most carry offset part row before few below h =
     let line = lines_with (tried_to (trial_of (shape_mode c.args.shape) most carry offset) part) row in
-    let lines = lines_are c.args.shape most carry offset part row before (held c.args.window.now) c.args.self.now c.args.self.now below h in
+    let lines = lines_are c.args.shape most carry offset row (held c.args.window.now) c.args.self.now below h in
     let never = c.encode_row.ensures.fails.0.3 c.requires.ready.going in
     let typical = c.counted-counted.ensures.typical in
     let plain = c.counted-counted.ensures.plain in
-    row_tried c.args.shape most carry offset part row before (held c.args.window.now) c.args.self.now _ below h few refl
+    row_tried c.args.shape most carry offset row (held c.args.window.now) _ below h few refl
     (sure c.encode_row.result never (c.encode_row.ensures.row (tried_to (trial_of (shape_mode c.args.shape) most carry offset) part).state.place h.pushed line c.requires.ready.going h.codes lines).ok)
     (λ is. c.count_row.ensures.none (typical is))
     (λ counted is rows few_rows was. subst (λ o. IsCountedTo c.args.shape.width o c.count_row.new.tally (rows ++ line ∷ [])) (plain counted is)

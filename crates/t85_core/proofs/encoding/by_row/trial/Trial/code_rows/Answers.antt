@@ -1,10 +1,10 @@
-use Rattle.std.proofs.Common.{◌≡◌, ◌≤◌, ◌<◌, ◌+◌, ◌-◌, ◌*◌, ◌/◌, ◌^◌, ◌++◌, ◌∷◌, [], ap, sym, subst, ◌∙◌, arith, length}
+use Rattle.std.proofs.Common.{◌≡◌, ◌≤◌, ◌<◌, ◌+◌, ◌-◌, ◌*◌, ◌/◌, ◌^◌, ap, ◌∙◌, arith, length}
 use Rattle.std.specs.Prelude.{slice_range}
 use Rattle.std.proofs.Math.Nat.{add-mul, mul-le-mul_right}
 use Rattle.pbm_core.specs.Image.{pixels_of}
 use Rattle.pbm_core.specs.Pbm.{bytes_of_row}
-use Rattle.raster_core.specs.Window.{held, shape_mode}
-use Rattle.t85_core.specs.Steps.Trial.{IsTried, trial_of, packed_rows}
+use Rattle.raster_core.specs.Window.{held}
+use Rattle.t85_core.specs.Steps.Trial.{packed_rows}
 use Rattle.t85_core.proofs.Encodings.Trials.{length-packed_rows, packed_rows_more}
 use Rattle.t85_core.proofs.encoding.by_row.trial.Trial.code_rows.Goals as goal
 
@@ -14,14 +14,14 @@ code-requires-clause-ready c =
     let count = ap (λ b. length c.args.rows.now / b) c.row_bytes-long.ensures in
     let w = c.args.shape.width in
     let k = c.loop-k.k in
-    let few : k ≤ 2 ^ 32 = omega (arith, count, c.loop-k-test.true, c.requires.few) in
-    let up : k * (w + 1) ≤ 2 ^ 32 * (w + 1) = mul-le-mul_right (w + 1) few in
-    let narrow : w ≤ 1048576 = omega (arith, ready.row.1, c.loop-k.invariant.lined.1, c.args.size.not_too_wide) in
+    let few : k ≤ 2 ^ 32 = omega arith in
+    let up = mul-le-mul_right (w + 1) few in
+    let narrow : w ≤ 1048576 = omega arith in
     let events = ready.few in
     record {
       row = (ready.row.0, c.take_row.ensures.window.0.0 ∙ ready.row.1, ready.row.2);
       going = ready.going;
-      few = omega (arith, events, up, narrow);
+      few = omega arith;
     }
 
 pub loop-k-preserved : goal.loop-k-preserved
@@ -33,9 +33,9 @@ loop-k-preserved c =
     let rows = c.args.rows.now in
     let lined = c.loop-k.invariant.lined in
     let below = c.take_row.ensures.below in
-    let few : length (packed_rows w rows k) < 2 ^ 32 - 1 = omega (arith, length-packed_rows w rows k, count, c.loop-k-test.true, c.requires.few) in
+    let few : length (packed_rows w rows k) < 2 ^ 32 - 1 = omega (arith, length-packed_rows w rows k) in
     let pixels = ap (λ b. pixels_of w (slice_range rows (k * b) (k * b + b))) c.row_bytes-long.ensures in
-    let sum : (k + 1) * (c.args.shape.width + 1) ≡ k * (c.args.shape.width + 1) + 1 * (c.args.shape.width + 1) = add-mul k 1 (c.args.shape.width + 1) in
+    let sum = add-mul k 1 (c.args.shape.width + 1) in
     let after = c.code.ensures.going (k * (c.args.shape.width + 1)) (record {
       row = (ready.row.0, c.take_row.ensures.window.0.0 ∙ ready.row.1, ready.row.2);
       going = ready.going;
@@ -44,19 +44,16 @@ loop-k-preserved c =
     let events = after.few in
     record {
       tries = λ most carry offset start.
-          subst (λ z. IsTried (trial_of (shape_mode c.args.shape) most carry offset) z c.args.shape.width c.code.new.self (held c.take_row.new.window))
-          (ap (λ p. packed_rows w rows k ++ p ∷ []) pixels ∙ sym (packed_rows_more w rows k))
-          (c.code.ensures.row most carry offset (packed_rows w rows k) _ (held c.loop-k.window) few below (c.loop-k.invariant.tries most carry offset start));
-      ready = record { row = after.row; going = after.going; few = omega (arith, events, sum) };
+          rw (packed_rows_more, ← pixels) (c.code.ensures.row most carry offset (packed_rows w rows k) _ (held c.loop-k.window) few below (c.loop-k.invariant.tries most carry offset start));
+      ready = record { row = after.row; going = after.going; few = omega arith };
       lined = ((_, below lined.0.0 lined.0.1), c.take_row.ensures.window.0.0 ∙ lined.1);
       tally = (c.code.ensures.tally.0 ∙ c.loop-k.invariant.tally.0, c.code.ensures.tally.1 ∙ c.loop-k.invariant.tally.1);
-      to = omega (arith, c.loop-k-test.true);
+      to = omega arith;
       is_counted = c.code.ensures.is_counted ∙ c.loop-k.invariant.is_counted;
     }
 
 pub returns-clause-rows : goal.returns-clause-rows
 returns-clause-rows c most carry offset start =
     let count = ap (λ b. length c.args.rows.now / b) c.row_bytes-long.ensures in
-    let all : c.loop-k.k ≡ length c.args.rows.now / bytes_of_row c.args.size.width = omega (arith, count, c.loop-k.invariant.to, c.loop-k-test.false) in
-    subst (λ n. IsTried (trial_of (shape_mode c.args.shape) most carry offset) (packed_rows c.args.size.width c.args.rows.now n) c.args.shape.width c.loop-k.self (held c.loop-k.window)) all
-    (c.loop-k.invariant.tries most carry offset start)
+    let all : c.loop-k.k ≡ length c.args.rows.now / bytes_of_row c.args.size.width = omega arith in
+    rw (← all) (c.loop-k.invariant.tries most carry offset start)

@@ -3,5 +3,5 @@ use Rattle.t85_core.proofs.encoding.by_row.trial.Trial.finish.Goals as goal
 
 pub returns-clause-bytes : goal.returns-clause-bytes
 returns-clause-bytes c t part width window h =
-    code_counted c.writing_laws.ensures t part width c.args.self window h c.finish.new.out c.finish.result (c.finish.ensures.fails.3 c.requires.going)
+    code_counted c.writing_laws.ensures h (c.finish.ensures.fails.3 c.requires.going)
     (c.finish.ensures.code _ h.pushed c.requires.going h.codes)
