@@ -268,36 +268,45 @@ static void random_jobs(uint32_t seed, uint32_t times)
            sum.stripes, sum.to_nominal);
 }
 
+/* The next number of a PBM's header, behind white space and comments. */
+static uint32_t field(FILE *file)
+{
+    unsigned long value;
+    bool comment = false;
+    int byte;
+    do {
+        byte = fgetc(file);
+        comment = byte == '#' || (comment && byte != '\n');
+    } while (byte != EOF && (comment || byte == ' ' || byte == '\n'));
+    ungetc(byte, file);
+    return fscanf(file, "%lu", &value) == 1 ? (uint32_t)value : 0;
+}
+
+/* Compares on a page, in short and long stripes, with both templates. */
 static void page(const char *path)
 {
     FILE *file = fopen(path, "rb");
-    unsigned long width, height;
     tally sum = {0, 0, 0};
+    job of = {0};
     unsigned k;
-    if (!file || fscanf(file, "P4 %lu %lu", &width, &height) != 2 || fgetc(file) == EOF) {
+    if (file && fgetc(file) == 'P' && fgetc(file) == '4') {
+        of.width = field(file);
+        of.height = field(file);
+        of.row = t85_row_bytes(of.width);
+        of.rows = memory(of.row * of.height);
+    }
+    if (!of.rows || !of.height || fgetc(file) == EOF || fread(of.rows, of.row, of.height, file) != of.height) {
         fprintf(stderr, "choice: %s cannot be read\n", path);
         exit(1);
     }
+    fclose(file);
+    of.most = 127;
     for (k = 0; k < 4; k++) {
-        job of;
-        of.width = (uint32_t)width;
-        of.height = (uint32_t)height;
         of.stripe_rows = k & 1 ? 128 : 16;
         of.options = k & 2 ? 72 : 8;
-        of.most = 127;
-        of.reset = false;
-        of.row = t85_row_bytes(of.width);
-        of.rows = memory(of.row * of.height);
-        if (k)
-            rewind(file);
-        if (k && (fscanf(file, "P4 %lu %lu", &width, &height) != 2 || fgetc(file) == EOF))
-            exit(1);
-        if (fread(of.rows, of.row, of.height, file) != of.height)
-            exit(1);
         both(&of, &sum);
-        free(of.rows);
     }
-    fclose(file);
+    free(of.rows);
     printf("JBIG-KIT's moves on %s: %lu after %lu stripes\n", path, sum.moves, sum.stripes);
 }
 

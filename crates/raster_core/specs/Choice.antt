@@ -12,6 +12,9 @@ pub record Counting : Type 0 where
   pub most : ℕ
   pub width : ℕ
 
+abbrev pub counting_with : Mode → ℕ → ℕ → Counting
+counting_with mode most width = record { mode = mode; most = most; width = width }
+
 -- ---- what is counted
 
 -- the number of columns that are counted

@@ -41,25 +41,20 @@ struct Extremes {
 }
 
 impl Choice {
-    ghost use Rattle.std.specs.Prelude.{ℕ, ◌+◌, ◌-◌, ◌^◌, ◌≡◌, ◌≤◌, ◌<◌, ◌%◌, [], ◌∷◌, ◌++◌, List, map, Some, true, if◌then◌else◌};
-    ghost use Rattle.raster_core.specs.Choice.{PixelCounts, first_best, greatest_of, is_worth, kit_offset, least_of};
+    ghost use Rattle.std.specs.Prelude.{ℕ, ◌+◌, ◌-◌, ◌^◌, ◌≡◌, ◌≤◌, ◌<◌, ◌%◌, [], ◌∷◌, ◌++◌, List, map, min, Some, true, if◌then◌else◌};
+    ghost use Rattle.raster_core.specs.Choice.{PixelCounts, counting_with, first_best, greatest_of, is_worth, kit_offset, least_of};
     ghost use Rattle.raster_core.specs.Counting.{AddsAt, AreLines, HasCounted, HasCounts, counting_of, counts_in, fit_lines, is_offered, is_reset};
     ghost use Rattle.raster_core.specs.Lines.{Lines, may_be_typical};
     ghost use Rattle.raster_core.specs.Offset.{candidates};
     ghost use Rattle.raster_core.specs.Tally.{least_lag};
     ghost use Rattle.raster_core.specs.Window.{shape_mode};
 
-    /// A choice with no row counted. The lags that may be chosen are those from 5 (two-line
-    /// template) or 3 (three-line template) to `most`. `reset` says whether each stripe ends in SDRST, after which the
-    /// adaptive pixel is in its nominal position (T.82, 6.2.6).
+    /// A choice with no row counted. The lags that may be chosen are those from 5 (two-line template) or 3 (three-line
+    /// template) to `most`; a value above 127 counts as 127, and a width above 1048576 as 1048576. `reset` says whether
+    /// each stripe ends in SDRST, after which the adaptive pixel is in its nominal position.
     pub fn new(shape: Shape, most: u8, reset: bool) -> Choice
-        requires most { most ≤ 127 }
-        requires width { shape.width ≤ 2 ^ 20 }
-        ensures counting { counting_of result ≡ record {
-          mode = shape_mode shape;
-          most = most;
-          width = shape.width;
-        } }
+        ensures counting { counting_of result ≡
+            counting_with (shape_mode shape) (min most 127) (min shape.width (2 ^ 20)) }
         ensures reset { is_reset result ≡ reset }
         ensures counted { HasCounted result [] }
     {
@@ -208,11 +203,11 @@ impl Choice {
 
     /// The best and the worst count of a lag.
     fn extremes(&self) -> Extremes
-        ensures best { (n : PixelCounts) → HasCounts self.now n → result.best ≡ greatest_of
-            (map n.at
+        ensures best { (n : PixelCounts) → HasCounts self.now n →
+            result.best ≡ greatest_of (map n.at
             (candidates (counting_of self.now).mode.two_line (counting_of self.now).most)) }
-        ensures worst { (n : PixelCounts) → HasCounts self.now n → result.worst ≡ least_of n.pixels
-            (map n.at
+        ensures worst { (n : PixelCounts) → HasCounts self.now n →
+            result.worst ≡ least_of n.pixels (map n.at
             (candidates (counting_of self.now).mode.two_line (counting_of self.now).most)) }
     {
         let mut best = 0;

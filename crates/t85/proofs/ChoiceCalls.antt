@@ -1,5 +1,5 @@
 -- The rows that a caller passes to a choice of offsets.
-use Rattle.std.proofs.Common.{◌≡◌, ℕ, zero, suc, ◌+◌, ◌-◌, ◌*◌, ◌/◌, ◌%◌, ◌^◌, ◌<◌, ◌≤◌, Bool, false, List, [], ◌∷◌, ◌++◌, length, map, refl, sym, ◌∙◌, ap, arith, inl, inr}
+use Rattle.std.proofs.Common.{◌≡◌, ℕ, min, zero, suc, ◌+◌, ◌-◌, ◌*◌, ◌/◌, ◌%◌, ◌^◌, ◌<◌, ◌≤◌, Bool, false, List, [], ◌∷◌, ◌++◌, length, map, refl, sym, ◌∙◌, ap, arith, inl, inr}
 use Rattle.std.specs.Prelude.{slice_index, slice_index_or, bit_and, nat_eq, not, ◌==◌}
 use Rattle.std.specs.Int.{div_ceil}
 use Rattle.std.proofs.Math.ListN.{get_or-eq_default}
@@ -9,7 +9,7 @@ use Rattle.std.proofs.lemmas.Bool.Decides.{nat_tests}
 use Rattle.std.proofs.lemmas.Bool.{cases_lt}
 use Rattle.pbm_core.specs.Pbm.{bytes_of_row, padding_of, pixel, IsMasked}
 use Rattle.pbm_core.specs.Image.{pixels_of, MaskedIsPacked, numbers_from as pbm_numbers, binary as pbm_binary, packed_row as pbm_packed}
-use Rattle.raster_core.specs.Choice.{Counting}
+use Rattle.raster_core.specs.Choice.{Counting, counting_with}
 use Rattle.raster_core.specs.Counting.{AreLines, HasCounted, counting_of, fit_lines, fit_row, is_reset}
 use Rattle.raster_core.specs.Lines.{Lines, numbers_from, binary}
 use Rattle.raster_core.specs.Packed.{packed_row}
@@ -102,15 +102,16 @@ row_passed old new row above c reset stripe second law small small' k version co
 
 -- ---- the options by their masks
 
-abbrev pub counting_with : Bool → Bool → ℕ → ℕ → Counting
-counting_with two_line typical most width = record { mode = record { two_line = two_line; typical = typical }; most = most; width = width }
-
 two_line_bit : (n : ℕ) → not (nat_eq (bit_and n 0x40) 0) ≡ has_bit n 6
 two_line_bit n = let e : bit_and n 64 ≡ n / 64 % 2 * 64 = and_pow n 6 in grind (arith, nat_tests)
 
 typical_bit : (n : ℕ) → not (nat_eq (bit_and n 0x08) 0) ≡ has_bit n 3
 typical_bit n = let e : bit_and n 8 ≡ n / 8 % 2 * 8 = and_pow n 3 in grind (arith, nat_tests)
 
--- how pixels are counted with these options
-pub counting_by : (o most width : ℕ) → counting_with (not (nat_eq (bit_and o 0x40) 0)) (not (nat_eq (bit_and o 0x08) 0)) most width ≡ record { mode = mode_of o; most = most; width = width }
-counting_by o most width = rw (two_line_bit o, typical_bit o) refl
+-- how pixels are counted with these options, which are in their ranges
+pub counting_by : (o most width : ℕ) → most ≤ 127 → width ≤ 2 ^ 20 →
+    counting_with (record { two_line = not (nat_eq (bit_and o 0x40) 0); typical = not (nat_eq (bit_and o 0x08) 0) }) (min most 127) (min width (2 ^ 20)) ≡ counting_with (mode_of o) most width
+counting_by o most width low narrow =
+    let a : min most 127 ≡ most = omega arith in
+    let b : min width (2 ^ 20) ≡ width = omega arith in
+    rw (two_line_bit o, typical_bit o, a, b) refl

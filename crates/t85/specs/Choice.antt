@@ -2,7 +2,7 @@
 use Rattle.std.specs.Prelude.{ℕ, ◌≡◌, ◌≢◌, ◌==◌, ◌||◌, ◌&&◌, not, nat_lt, Bool, true, List, [], ◌∷◌, ◌++◌, length, Option, None, option_map, unwrap_or}
 use Rattle.std.specs.Int.{div_ceil}
 use Rattle.pbm_core.specs.Image.{pixels_of}
-use Rattle.raster_core.specs.Choice.{Counting, kit_offset}
+use Rattle.raster_core.specs.Choice.{Counting, counting_with, kit_offset}
 use Rattle.raster_core.specs.Counting.{HasCounted, counting_of, is_reset}
 use Rattle.raster_core.specs.Lines.{Lines}
 use Rattle.t85_core.specs.Coding.{mode_of}
@@ -28,7 +28,7 @@ OfEachChoice d Q = (c : Counting) (reset : Bool) (stripe : List Lines) → HasCh
 
 -- how pixels are counted with these options, in images of this width
 abbrev pub counting_asked : T85Options → ℕ → Counting
-counting_asked options width = record { mode = mode_of options.options; most = options.most_offset; width = width }
+counting_asked options width = counting_with (mode_of options.options) options.most_offset width
 
 -- the first error: the size of the struct or the version of the options, the options, the width
 abbrev pub choice_refusal : ℕ → ℕ → T85Options → Option ℕ
