@@ -30,6 +30,7 @@ mod unused_fields;
 ghost use Rattle.std.specs.Prelude.{◌≡◌};
 ghost use Rattle.t85.specs.Decoded.{window_bytes};
 
+pub use crate::decoder::rest::t85_decode_rest;
 pub use crate::decoder::{
     T85Decoder, t85_decode_bytes, t85_decode_certain, t85_decode_end, t85_decode_height,
     t85_decode_start,

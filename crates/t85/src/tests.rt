@@ -4,6 +4,7 @@ mod abort;
 mod pbm;
 mod pieces;
 mod raw_header;
+mod rest;
 mod rows;
 mod set_height;
 mod unused;
