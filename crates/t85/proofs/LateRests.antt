@@ -6,18 +6,18 @@ use Rattle.std.proofs.lemmas.List.{take_all}
 use Rattle.std.specs.Cmp.Lexicographic.{other_text, pointwise, same_text}
 use Rattle.t85_core.specs.Grammar.{ESC, marker_bytes}
 use Rattle.t85_core.specs.Parts.{IsTail}
-use Rattle.t85.specs.DecoderRest.{AreOfSegment, HasRest, LacksRest, late_segment}
+use Rattle.t85.specs.DecoderRest.{AreOfSegment, HasLateRest, LacksLateRest, late_segment}
 
 of_seven : (P : List ℕ → Type 0) → ((t0 t1 t2 t3 t4 t5 t6 : ℕ) (rest : List ℕ) → P (t0 ∷ t1 ∷ t2 ∷ t3 ∷ t4 ∷ t5 ∷ t6 ∷ rest)) → (text : List ℕ) → 7 ≤ length text → P text
 of_seven P f (t0 ∷ t1 ∷ t2 ∷ t3 ∷ t4 ∷ t5 ∷ t6 ∷ rest) long = f t0 t1 t2 t3 t4 t5 t6 rest
 of_seven P f text long = absurd (omega arith)
 
-pub lacks_few : (height : ℕ) (text : List ℕ) → AreOfSegment height text → length text ≤ 6 → LacksRest height text
+pub lacks_few : (height : ℕ) (text : List ℕ) → AreOfSegment height text → length text ≤ 6 → LacksLateRest height text
 lacks_few height text begun few = record { begun = begun; few = inl few }
 
-pub lacks_one : (height : ℕ) (text : List ℕ) → AreOfSegment height text → 6 < length text → slice_index text 6 ≡ 255 → length text ≡ 7 → LacksRest height text
+pub lacks_one : (height : ℕ) (text : List ℕ) → AreOfSegment height text → 6 < length text → slice_index text 6 ≡ 255 → length text ≡ 7 → LacksLateRest height text
 lacks_one height text begun long =
-    of_seven (λ t. AreOfSegment height t → slice_index t 6 ≡ 255 → length t ≡ 7 → LacksRest height t) (λ t0 t1 t2 t3 t4 t5 t6 rest b esc seven. record {
+    of_seven (λ t. AreOfSegment height t → slice_index t 6 ≡ 255 → length t ≡ 7 → LacksLateRest height t) (λ t0 t1 t2 t3 t4 t5 t6 rest b esc seven. record {
       begun = b;
       few = inr (one t0 t1 t2 t3 t4 t5 t6 rest b esc seven);
     }) text (omega (arith, long)) begun where
@@ -31,9 +31,9 @@ no_marker t6 rest other = inr (refl, λ reset more e. other (head e)) where
   head : {b c : ℕ} {bs cs : List ℕ} → (b ∷ bs) ≡ (c ∷ cs) → b ≡ c
   head e = cc
 
-pub whole_short : (height : ℕ) (text : List ℕ) → AreOfSegment height text → 6 < length text → slice_index text 6 ≢ 255 → HasRest height text 6
+pub whole_short : (height : ℕ) (text : List ℕ) → AreOfSegment height text → 6 < length text → slice_index text 6 ≢ 255 → HasLateRest height text 6
 whole_short height text begun long other =
-    of_seven (λ t. AreOfSegment height t → slice_index t 6 ≢ 255 → HasRest height t 6) (λ t0 t1 t2 t3 t4 t5 t6 rest b o. record {
+    of_seven (λ t. AreOfSegment height t → slice_index t 6 ≢ 255 → HasLateRest height t 6) (λ t0 t1 t2 t3 t4 t5 t6 rest b o. record {
       tail = [];
       rest = t6 ∷ rest;
       text_is = ap (λ s. s ++ t6 ∷ rest) b;
@@ -49,7 +49,7 @@ second t7 rest two three = inr (refl, went) where
   went true more e = three (ap (λ l. slice_index l 1) e)
   went false more e = two (ap (λ l. slice_index l 1) e)
 
-has_entity : (height : ℕ) (t0 t1 t2 t3 t4 t5 t6 t7 : ℕ) (rest : List ℕ) (reset : Bool) → AreOfSegment height (t0 ∷ t1 ∷ t2 ∷ t3 ∷ t4 ∷ t5 ∷ t6 ∷ t7 ∷ rest) → 255 ∷ t7 ∷ [] ≡ marker_bytes reset → t6 ≡ 255 → HasRest height (t0 ∷ t1 ∷ t2 ∷ t3 ∷ t4 ∷ t5 ∷ t6 ∷ t7 ∷ rest) 8
+has_entity : (height : ℕ) (t0 t1 t2 t3 t4 t5 t6 t7 : ℕ) (rest : List ℕ) (reset : Bool) → AreOfSegment height (t0 ∷ t1 ∷ t2 ∷ t3 ∷ t4 ∷ t5 ∷ t6 ∷ t7 ∷ rest) → 255 ∷ t7 ∷ [] ≡ marker_bytes reset → t6 ≡ 255 → HasLateRest height (t0 ∷ t1 ∷ t2 ∷ t3 ∷ t4 ∷ t5 ∷ t6 ∷ t7 ∷ rest) 8
 has_entity height t0 t1 t2 t3 t4 t5 t6 t7 rest reset b is esc = record {
   tail = 255 ∷ t7 ∷ [];
   rest = rest;
@@ -59,7 +59,7 @@ has_entity height t0 t1 t2 t3 t4 t5 t6 t7 rest reset b is esc = record {
   len_is = refl;
 }
 
-has_none : (height : ℕ) (t0 t1 t2 t3 t4 t5 t6 t7 : ℕ) (rest : List ℕ) → AreOfSegment height (t0 ∷ t1 ∷ t2 ∷ t3 ∷ t4 ∷ t5 ∷ t6 ∷ t7 ∷ rest) → t7 ≢ 2 → t7 ≢ 3 → t6 ≡ 255 → HasRest height (t0 ∷ t1 ∷ t2 ∷ t3 ∷ t4 ∷ t5 ∷ t6 ∷ t7 ∷ rest) 6
+has_none : (height : ℕ) (t0 t1 t2 t3 t4 t5 t6 t7 : ℕ) (rest : List ℕ) → AreOfSegment height (t0 ∷ t1 ∷ t2 ∷ t3 ∷ t4 ∷ t5 ∷ t6 ∷ t7 ∷ rest) → t7 ≢ 2 → t7 ≢ 3 → t6 ≡ 255 → HasLateRest height (t0 ∷ t1 ∷ t2 ∷ t3 ∷ t4 ∷ t5 ∷ t6 ∷ t7 ∷ rest) 6
 has_none height t0 t1 t2 t3 t4 t5 t6 t7 rest b two three esc = record {
   tail = [];
   rest = 255 ∷ t7 ∷ rest;
@@ -73,19 +73,19 @@ of_eight : (P : List ℕ → Type 0) → ((t0 t1 t2 t3 t4 t5 t6 t7 : ℕ) (rest 
 of_eight P f (t0 ∷ t1 ∷ t2 ∷ t3 ∷ t4 ∷ t5 ∷ t6 ∷ t7 ∷ rest) long = f t0 t1 t2 t3 t4 t5 t6 t7 rest
 of_eight P f text long = absurd (omega arith)
 
-pub whole_other : (height : ℕ) (text : List ℕ) → AreOfSegment height text → 8 ≤ length text → slice_index text 6 ≡ 255 → slice_index text 7 ≢ 2 → slice_index text 7 ≢ 3 → HasRest height text 6
+pub whole_other : (height : ℕ) (text : List ℕ) → AreOfSegment height text → 8 ≤ length text → slice_index text 6 ≡ 255 → slice_index text 7 ≢ 2 → slice_index text 7 ≢ 3 → HasLateRest height text 6
 whole_other height text begun long =
-    of_eight (λ t. AreOfSegment height t → slice_index t 6 ≡ 255 → slice_index t 7 ≢ 2 → slice_index t 7 ≢ 3 → HasRest height t 6)
+    of_eight (λ t. AreOfSegment height t → slice_index t 6 ≡ 255 → slice_index t 7 ≢ 2 → slice_index t 7 ≢ 3 → HasLateRest height t 6)
     (λ t0 t1 t2 t3 t4 t5 t6 t7 rest b esc two three. has_none height t0 t1 t2 t3 t4 t5 t6 t7 rest b two three esc) text long begun
 
-pub whole_norm : (height : ℕ) (text : List ℕ) → AreOfSegment height text → 8 ≤ length text → slice_index text 6 ≡ 255 → slice_index text 7 ≡ 2 → HasRest height text 8
+pub whole_norm : (height : ℕ) (text : List ℕ) → AreOfSegment height text → 8 ≤ length text → slice_index text 6 ≡ 255 → slice_index text 7 ≡ 2 → HasLateRest height text 8
 whole_norm height text begun long =
-    of_eight (λ t. AreOfSegment height t → slice_index t 6 ≡ 255 → slice_index t 7 ≡ 2 → HasRest height t 8)
+    of_eight (λ t. AreOfSegment height t → slice_index t 6 ≡ 255 → slice_index t 7 ≡ 2 → HasLateRest height t 8)
     (λ t0 t1 t2 t3 t4 t5 t6 t7 rest b esc two. has_entity height t0 t1 t2 t3 t4 t5 t6 t7 rest false b (ap (λ e. 255 ∷ e ∷ []) two) esc) text long begun
 
-pub whole_reset : (height : ℕ) (text : List ℕ) → AreOfSegment height text → 8 ≤ length text → slice_index text 6 ≡ 255 → slice_index text 7 ≡ 3 → HasRest height text 8
+pub whole_reset : (height : ℕ) (text : List ℕ) → AreOfSegment height text → 8 ≤ length text → slice_index text 6 ≡ 255 → slice_index text 7 ≡ 3 → HasLateRest height text 8
 whole_reset height text begun long =
-    of_eight (λ t. AreOfSegment height t → slice_index t 6 ≡ 255 → slice_index t 7 ≡ 3 → HasRest height t 8)
+    of_eight (λ t. AreOfSegment height t → slice_index t 6 ≡ 255 → slice_index t 7 ≡ 3 → HasLateRest height t 8)
     (λ t0 t1 t2 t3 t4 t5 t6 t7 rest b esc three. has_entity height t0 t1 t2 t3 t4 t5 t6 t7 rest true b (ap (λ e. 255 ∷ e ∷ []) three) esc) text long begun
 
 not_false : (p : Bool) → not p ≡ false → true ≡ p

@@ -7,7 +7,7 @@ use Rattle.std.proofs.Math.Seq.{take-append_seam, take-append-add, take-length}
 use Rattle.t85_core.specs.Grammar.{ESC, marker_bytes}
 use Rattle.t85_core.specs.Parts.{IsTail}
 use Rattle.t85.specs.Decoder.{HasEnded}
-use Rattle.t85.specs.DecoderRest.{AreOfSegment, HasRest, LacksRest, RestCall, TakesRest, ends_late, from_segment, late_segment, rest_call}
+use Rattle.t85.specs.DecoderRest.{AreOfSegment, HasLateRest, LacksLateRest, RestCall, TakesRest, ends_late, from_segment, late_segment, rest_call}
 use Rattle.t85.specs.DecoderState.{bytes_held_by}
 use Rattle.t85.proofs.LateRests.{known_is}
 use Rattle.t85.specs.declared.decoder.T85Decoder.{T85Decoder}
@@ -46,7 +46,7 @@ other_front height text same = take-take 6 8 text (omega arith) ∙ (same ∙ we
       take_all (length text) (late_segment height) (omega (arith, many)) ∙ sym (ap (λ n. take n (late_segment height)) l)
 
 -- too few bytes are all bytes
-pub lacks_all : (height : ℕ) (text : List ℕ) → LacksRest height (take 8 text) → take 8 text ≡ text
+pub lacks_all : (height : ℕ) (text : List ℕ) → LacksLateRest height (take 8 text) → take 8 text ≡ text
 lacks_all height text l = take_all 8 text (went l.few) where
   long : length (take 8 text) ≡ min 8 (length text)
   long = length-take 8 text
@@ -65,7 +65,7 @@ tail_more tail rest more (inr none) known = inr (none.0, went rest (known none.0
   went (x ∷ y ∷ rest) k none true behind e = none true rest (cc)
   went (x ∷ y ∷ rest) k none false behind e = none false rest (cc)
 
-pub has_longer : (height : ℕ) (text : List ℕ) (len : ℕ) → HasRest height (take 8 text) len → HasRest height text len
+pub has_longer : (height : ℕ) (text : List ℕ) (len : ℕ) → HasLateRest height (take 8 text) len → HasLateRest height text len
 has_longer height text len r = record {
   tail = r.tail;
   rest = r.rest ++ drop 8 text;
@@ -103,23 +103,23 @@ other_told d bytes front is other = inr (inr (record {
   keeps = record { answer_is = refl; nothing = refl; kept = refl };
 }))
 
-pub whole_told : (d d' : T85Decoder) (bytes front : List ℕ) (end count taken : ℕ) → front ≡ take 8 (from_segment d bytes) → HasRest d.height front end → count ≡ length (bytes_held_by d) → count ≤ 6 → taken ≡ end - count →
+pub whole_told : (d d' : T85Decoder) (bytes front : List ℕ) (end count taken : ℕ) → front ≡ take 8 (from_segment d bytes) → HasLateRest d.height front end → count ≡ length (bytes_held_by d) → count ≤ 6 → taken ≡ end - count →
     HasEnded d' 0 → d'.height ≡ d.height → ends_late d' ≡ false → TakesRest d d' (rest_call bytes taken 0)
 whole_told d d' bytes front end count taken is has count_is few taken_is ended height no_more = inl (record {
   answer_is = refl;
   len = end;
-  has = has_longer d.height (from_segment d bytes) end (subst (λ t. HasRest d.height t end) is has);
+  has = has_longer d.height (from_segment d bytes) end (subst (λ t. HasLateRest d.height t end) is has);
   taken_is = omega (arith, taken_is, count_is, few, has.len_is);
   ended = ended;
   height = height;
   no_more = no_more;
 })
 
-pub more_told : (d d' : T85Decoder) (bytes front : List ℕ) (len count kept taken : ℕ) → front ≡ take 8 (from_segment d bytes) → LacksRest d.height front → length (take 8 (from_segment d bytes)) ≡ len → count ≡ length (bytes_held_by d) → count ≤ 6 → kept ≡ min len 6 →
+pub more_told : (d d' : T85Decoder) (bytes front : List ℕ) (len count kept taken : ℕ) → front ≡ take 8 (from_segment d bytes) → LacksLateRest d.height front → length (take 8 (from_segment d bytes)) ≡ len → count ≡ length (bytes_held_by d) → count ≤ 6 → kept ≡ min len 6 →
     bytes_held_by d' ≡ take kept front → taken ≡ kept - count → HasEnded d' 0 → d'.height ≡ d.height → ends_late d' ≡ true → TakesRest d d' (rest_call bytes taken 62)
 more_told d d' bytes front len count kept taken is lacks len_is count_is few kept_is stored taken_is ended height more =
     let text : List ℕ = from_segment d bytes in
-    let first : LacksRest d.height (take 8 text) = subst (λ t. LacksRest d.height t) is lacks in
+    let first : LacksLateRest d.height (take 8 text) = subst (λ t. LacksLateRest d.height t) is lacks in
     let all : take 8 text ≡ text = lacks_all d.height text first in
     let long : length text ≡ len = ap length (sym all) ∙ len_is in
     let sum : length text ≡ length (bytes_held_by d) + length bytes = length-append (bytes_held_by d) bytes in
@@ -128,7 +128,7 @@ more_told d d' bytes front len count kept taken is lacks len_is count_is few kep
     let six : length (take 6 text) ≡ min 6 (length text) = length-take 6 text in
     inr (inl (record {
       answer_is = refl;
-      lacks = subst (λ t. LacksRest d.height t) all first;
+      lacks = subst (λ t. LacksLateRest d.height t) all first;
       stored = same;
       taken_is = omega (arith, taken_is, count_is, few, kept_text, sum, six, ap length same);
       ended = ended;

@@ -20,12 +20,12 @@ abbrev pub AreOfSegment : ℕ → List ℕ → Type 0
 AreOfSegment height text = take 6 text ≡ take (length text) (late_segment height)
 
 -- More bytes are needed: the segment is not complete, or it is not known whether an empty stripe data entity follows it.
-pub record LacksRest (height : ℕ) (text : List ℕ) : Type 0 where
+pub record LacksLateRest (height : ℕ) (text : List ℕ) : Type 0 where
   pub begun : AreOfSegment height text
   pub few : (length text ≤ 6) ⊎ (text ≡ late_segment height ++ ESC ∷ [])
 
 -- The segment is complete, and the empty stripe data entity behind it, if there is one. This is their number of bytes.
-pub record HasRest (height : ℕ) (text : List ℕ) (len : ℕ) : Type 0 where
+pub record HasLateRest (height : ℕ) (text : List ℕ) (len : ℕ) : Type 0 where
   pub tail : List ℕ
   pub rest : List ℕ
   pub text_is : text ≡ late_segment height ++ (tail ++ rest)
@@ -56,7 +56,7 @@ pub record KeepsRestAs (status : ℕ) (old new : T85Decoder) (call : RestCall) :
 pub record TakesWholeRest (old new : T85Decoder) (call : RestCall) : Type 0 where
   pub answer_is : call.answer ≡ 0
   pub len : ℕ
-  pub has : HasRest old.height (from_segment old call.bytes) len
+  pub has : HasLateRest old.height (from_segment old call.bytes) len
   pub taken_is : length (bytes_held_by old) + call.taken ≡ len
   pub ended : HasEnded new 0
   pub height : new.height ≡ old.height
@@ -65,7 +65,7 @@ pub record TakesWholeRest (old new : T85Decoder) (call : RestCall) : Type 0 wher
 -- More bytes are needed. All of the segment was consumed; a byte ESC behind it was not.
 pub record AwaitsRest (old new : T85Decoder) (call : RestCall) : Type 0 where
   pub answer_is : call.answer ≡ 62
-  pub lacks : LacksRest old.height (from_segment old call.bytes)
+  pub lacks : LacksLateRest old.height (from_segment old call.bytes)
   pub stored : bytes_held_by new ≡ take 6 (from_segment old call.bytes)
   pub taken_is : length (bytes_held_by old) + call.taken ≡ length (bytes_held_by new)
   pub ended : HasEnded new 0

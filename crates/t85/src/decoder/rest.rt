@@ -2,7 +2,7 @@
 
 ghost use Rattle.std.specs.Prelude.{◌≡◌, ◌≤◌, ◌+◌, ◌++◌, ℕ, length, take, true};
 ghost use Rattle.t85.specs.Decoder.{HasEnded};
-ghost use Rattle.t85.specs.DecoderRest.{AreOfSegment, HasRest, LacksRest, RestTaken, TakesRest, ends_late, from_segment, rest_call};
+ghost use Rattle.t85.specs.DecoderRest.{AreOfSegment, HasLateRest, LacksLateRest, RestTaken, TakesRest, ends_late, from_segment, rest_call};
 ghost use Rattle.t85.specs.DecoderState.{bytes_held_by};
 ghost use Rattle.t85.specs.declared.decoder.rest.LateRest.TheVariants as late;
 
@@ -26,7 +26,7 @@ const SDRST: u8 = 3;
 /// The decoder needs more bytes.
 const MORE: u8 = 62;
 
-/// What bytes behind a last stripe are.
+/// The kinds of bytes behind a last stripe.
 #[derive(Clone, Copy)]
 pub enum LateRest {
     /// They do not begin with the height.
@@ -142,8 +142,8 @@ impl T85Decoder {
 /// Whether bytes behind the last stripe are a height, and how many bytes of them belong to the stream.
 pub fn rest_of(text: &[u8], height: u32) -> LateRest
     ensures other { result ≡ late.Other → AreOfSegment height text.now → ⊥ }
-    ensures more { result ≡ late.More → LacksRest height text.now }
-    ensures whole { (len : ℕ) → result ≡ late.Whole len → HasRest height text.now len }
+    ensures more { result ≡ late.More → LacksLateRest height text.now }
+    ensures whole { (len : ℕ) → result ≡ late.Whole len → HasLateRest height text.now len }
 {
     let mut segment = [ESC, NEWLEN, 0, 0, 0, 0];
     BigEndian::write_u32(&mut segment[2..], height);
@@ -158,9 +158,9 @@ pub fn rest_of(text: &[u8], height: u32) -> LateRest
 fn tail_of(text: &[u8]) -> LateRest
     ensures other { result ≡ late.Other → ⊥ }
     ensures more { (height : ℕ) → AreOfSegment height text.now → result ≡ late.More →
-        LacksRest height text.now }
+        LacksLateRest height text.now }
     ensures whole { (height len : ℕ) → AreOfSegment height text.now → result ≡ late.Whole len →
-        HasRest height text.now len }
+        HasLateRest height text.now len }
 {
     if text.len() <= SEGMENT_LEN {
         return LateRest::More;
