@@ -432,6 +432,26 @@ uint8_t t85_decode_bytes(t85_decoder *decoder, const uint8_t *bytes, size_t len,
 T85_NO_NULL((1, 4))
 uint8_t t85_decode_end(t85_decoder *decoder, uint8_t *window, size_t window_len, size_t *row);
 
+/* Consumes the bytes behind the last stripe that belong to the stream, after t85_decode_bytes has
+   returned 0: the rest of a height there (NEWLEN), and the empty stripe data entity behind it, if
+   there is one. t85_decode_bytes does not consume these, except those of a height that arrived in
+   earlier pieces. Pass the bytes that were not consumed, and those that follow them.
+
+   Returns one of:
+   0: nothing more belongs to the stream.
+   T85_MORE: more bytes are needed to see whether the empty data entity follows; if the input ends
+     here, none does. All bytes have been consumed, except a last byte FF behind the height: pass it
+     again with the bytes that follow.
+   1 to 15, 24: t85_decode_bytes returned this status. Nothing was consumed or changed.
+   53: the decoder is not initialized, or has not returned 0 yet. Nothing was consumed or changed.
+
+   If a height comes behind the last stripe, all bytes consumed are then exactly the stream, as
+   t85_stream_facts determines its length. Otherwise the stream ends before this call. If the header
+   has T85_VARIABLE_HEIGHT, bytes of an earlier piece that could begin such a height, and whole
+   comments before it, have been consumed although they do not belong to the stream. */
+T85_NO_NULL((1, 4))
+uint8_t t85_decode_rest(t85_decoder *decoder, const uint8_t *bytes, size_t len, size_t *taken);
+
 /* Returns how many of the first rows belong to the image whatever bytes follow: 0 until rows are
    asked for, and the height after the end. If the header has T85_VARIABLE_HEIGHT, a height that
    arrives later may cut off further rows. A height has arrived when its whole NEWLEN has been
@@ -695,6 +715,9 @@ size_t t85_message(uint8_t status, uint8_t *text, size_t room);
 
 #define t85_decode_end(decoder, window, window_len, row) \
     t85_decode_end(decoder, t85_room_or_nothing(window), window_len, row)
+
+#define t85_decode_rest(decoder, bytes, len, taken) \
+    t85_decode_rest(decoder, t85_bytes_or_nothing(bytes), len, taken)
 
 #define t85_encode(width, height, rows, rows_len, stride, options, comment, comment_len, window, \
                    window_len, stream, stream_room, written)                                     \

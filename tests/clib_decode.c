@@ -70,6 +70,37 @@ static void is_info(buffer stream, buffer line)
         fail("t85_header: status %d, or other fields than t85_info has", status);
 }
 
+/* Consumes what belongs to the stream behind the image, after `at` bytes. If its last part is a height, all bytes consumed
+   are then the stream; otherwise none are consumed. */
+static void takes_rest(t85_decoder *decoder, uint8_t status, buffer stream, size_t at, size_t step)
+{
+    t85_facts facts = T85_FACTS;
+    t85_part part = T85_PART;
+    uint32_t last = T85_PART_HEADER;
+    size_t first = at, taken = 77, len;
+    uint8_t told = t85_decode_rest(decoder, stream.bytes + at, 0, &taken);
+    if (status != T85_OK) {
+        if (told != status || taken)
+            fail("t85_decode_rest: status %d and %zu bytes after status %d", told, taken, status);
+        return;
+    }
+    if (t85_stream_facts(stream.bytes, stream.len, &facts))
+        fail("t85_stream_facts after the image was decoded");
+    while (t85_next_part(stream.bytes, stream.len, &part) == T85_OK)
+        last = part.kind;
+    do {
+        len = stream.len - at < step + 1 ? stream.len - at : step + 1;
+        told = t85_decode_rest(decoder, stream.bytes + at, len, &taken);
+        if (taken > len)
+            fail("t85_decode_rest: %zu bytes of %zu", taken, len);
+        at += taken;
+    } while (told == T85_MORE && taken > 0);
+    if (last == T85_PART_NEW_HEIGHT ? at != facts.stream_len : told != T85_OK || at != first || at < facts.stream_len)
+        fail("t85_decode_rest: status %d after %zu bytes of %zu", told, at, facts.stream_len);
+    if (told == T85_OK && (t85_decode_rest(decoder, stream.bytes, stream.len, &taken) != T85_OK || taken))
+        fail("t85_decode_rest: goes on behind the stream");
+}
+
 /* Decodes in pieces of `step` bytes, with a decoder and a window that move before each call. */
 static void decode_pieces_in(buffer stream, uint32_t width, uint8_t wanted, buffer rows, size_t step)
 {
@@ -117,6 +148,7 @@ static void decode_pieces_in(buffer stream, uint32_t width, uint8_t wanted, buff
                          &place) != status ||
         taken)
         fail("t85_decode_bytes: goes on after status %d", status);
+    takes_rest(decoder, status, stream, at, step);
     for (turn = 0; turn < 2; turn++) {
         give_back(states[turn]);
         give_back(windows[turn]);

@@ -34,6 +34,11 @@ static uint8_t see_raw_header(const uint8_t *stream, size_t len, t85_raw_header_
     return fields->width == len ? see(stream, NULL, NULL, NULL) : 255;
 }
 
+static uint8_t see_decode_rest(t85_decoder *decoder, const uint8_t *bytes, size_t len, size_t *taken)
+{
+    return decoder && len == 1 && *taken == 7 ? see(bytes, NULL, NULL, NULL) : 255;
+}
+
 static uint8_t see_set_unused_fields(uint8_t *stream, size_t len, uint8_t my, uint8_t order, uint8_t options)
 {
     return len == 1 && my == 2 && order == 3 && options == 4 ? see(stream, NULL, NULL, NULL) : 255;
@@ -163,6 +168,7 @@ typedef struct {
     uint8_t (*t85_set_unused_fields)(uint8_t *, size_t, uint8_t, uint8_t, uint8_t);
     uint8_t (*t85_set_height)(uint8_t *, size_t);
     uint8_t (*t85_encode_abort)(t85_encoder *, uint8_t *, size_t, size_t *);
+    uint8_t (*t85_decode_rest)(t85_decoder *, const uint8_t *, size_t, size_t *);
 } calls;
 
 static void have_come(const char *call, size_t status, unsigned count, const uint8_t *wanted)
@@ -182,7 +188,7 @@ static void passed(uint8_t *a)
                                see_encode_start, see_encode_row,  see_best_offset,
                                see_choice_row,   see_encode_end,  see_pbm_header,
                                see_pbm_row,      see_raw_header,  see_set_unused_fields,
-                               see_set_height,   see_encode_abort};
+                               see_set_height,   see_encode_abort, see_decode_rest};
     uint8_t *b = a ? a + 1 : NULL, *c = a ? a + 2 : NULL, *d = a ? a + 3 : NULL;
     t85_header_fields fields = {8, 0, 0, 0, 0};
     t85_raw_header_fields raw = {8, 0, 0, 0, 0, 0, 0, 0, 0, 0, 0};
@@ -190,6 +196,7 @@ static void passed(uint8_t *a)
     t85_options options = T85_OPTIONS;
     t85_encoder encoder;
     t85_choice choice;
+    t85_decoder decoder;
     t85_pbm pbm;
     size_t written = 8;
     uint32_t rows_written = 6;
@@ -216,6 +223,7 @@ static void passed(uint8_t *a)
     have_come("t85_raw_header", seen.t85_raw_header(a, 8, &raw), 1, a);
     have_come("t85_set_unused_fields", seen.t85_set_unused_fields(a, 1, 2, 3, 4), 1, a);
     have_come("t85_set_height", seen.t85_set_height(a, 1), 1, a);
+    have_come("t85_decode_rest", seen.t85_decode_rest(&decoder, a, 1, &written), 1, a);
     have_come("t85_encode_abort", seen.t85_encode_abort(&encoder, a, 1, &written), 1, a);
 }
 
@@ -323,6 +331,10 @@ static void piece_null(buffer stream, size_t window_len)
     if (status != T85_OK || at != stream.len || rows != t85_decode_height(&decoder))
         fail("t85_decode_bytes: status %d and %u rows, with no bytes between", status, rows);
     takes_none(T85_OK, &decoder, window, stream.bytes + at);
+    taken = 77;
+    status = t85_decode_rest(&decoder, NULL, 0, &taken);
+    if (status != T85_OK || taken)
+        fail("t85_decode_rest: status %d and %zu bytes of none", status, taken);
     give_back(window);
 }
 
@@ -430,7 +442,7 @@ static void by_address(buffer stream)
                                 &t85_encode_start, &t85_encode_row,  &t85_best_offset,
                                 &t85_choice_row,   &t85_encode_end,  &t85_pbm_header,
                                 &t85_pbm_row,      &t85_raw_header,  &t85_set_unused_fields,
-                                &t85_set_height,   &t85_encode_abort};
+                                &t85_set_height,   &t85_encode_abort, &t85_decode_rest};
     t85_options options = T85_OPTIONS;
     t85_encoder encoder;
     t85_choice choice;

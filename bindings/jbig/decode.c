@@ -103,6 +103,9 @@ static int read_rows(struct jbg_dec_state *s, decoding *it, const unsigned char 
     if (status == T85_MORE && (s->options & JBG_VLENGTH) && ends_here(s, it))
         status = T85_OK;
     if (status == T85_OK) {
+        /* The interface cannot wait for a height behind the image, and what follows it, if they come in a later call. */
+        t85_decode_rest(&it->decoder, data + *cnt, len - *cnt, &taken);
+        *cnt += taken;
         it->has_ended = true;
         s->bie_len = 0;
     }

@@ -5,11 +5,6 @@
 #include <string.h>
 #include <t85.h>
 
-#define MARKER_ESC 0xff
-#define MARKER_SDNORM 0x02
-#define MARKER_SDRST 0x03
-#define MARKER_NEWLEN 0x05
-
 /* Stages of an encoder. */
 enum { NOT_BEGUN, BEGUN, ENDED };
 
@@ -281,15 +276,11 @@ void jbg85_dec_init(struct jbg85_dec_state *s, unsigned char *buf, size_t buflen
     t85_decode_start(decoder_of(s), DECODER_SIZE, UINT32_MAX);
 }
 
-/* Stores the header among the consumed bytes, and the last bytes. */
+/* Stores the header among the consumed bytes. */
 static void keep(struct jbg85_dec_state *s, const unsigned char *bytes, size_t len)
 {
-    size_t kept = len < sizeof s->last ? len : sizeof s->last, at;
+    size_t at;
     t85_raw_header_fields header;
-    if (len == 0)
-        return;
-    memmove(s->last, s->last + kept, sizeof s->last - kept);
-    memcpy(s->last + sizeof s->last - kept, bytes + len - kept, kept);
     if (s->bie_len == sizeof s->buffer)
         return;
     for (at = 0; at < len && s->bie_len < sizeof s->buffer; at++)
@@ -345,57 +336,36 @@ static int code_of(const struct jbg85_dec_state *s, int status)
     }
 }
 
-/* Returns how many bytes of `rest` belong to a height behind the last stripe. libt85 has read
-   it, and has consumed only those of its bytes that arrived in earlier pieces. */
-static size_t late_height(const struct jbg85_dec_state *s, const unsigned char *rest, size_t len)
+/* Consumes what belongs to the stream behind its last stripe, so that all bytes of the stream are consumed. libt85 leaves
+   a last byte that may belong to something else. It is stored here, since libjbig consumes all bytes if it needs more. */
+static int take_rest(struct jbg85_dec_state *s, const unsigned char *data, size_t len, size_t *cnt)
 {
-    const unsigned char segment[6] = {MARKER_ESC,
-                                      MARKER_NEWLEN,
-                                      (unsigned char)(s->y0 >> 24),
-                                      (unsigned char)(s->y0 >> 16),
-                                      (unsigned char)(s->y0 >> 8),
-                                      (unsigned char)s->y0};
-    size_t before, more;
-    if (!(s->buffer[19] & JBG_VLENGTH))
-        return 0;
-    for (before = 0; before < sizeof segment; before++) {
-        more = sizeof segment - before;
-        if (len >= more && !memcmp(s->last + sizeof s->last - before, segment, before) &&
-            !memcmp(rest, segment + before, more))
-            return more;
-    }
-    return 0;
-}
-
-/* Returns whether a decoder needs more than these bytes. If it does, and one more byte ends its
-   image, the bytes compared above are a height, and not what only looks like one. */
-static bool needs_more(t85_decoder decoder, const unsigned char *bytes, size_t len,
-                       unsigned char *window, size_t window_len)
-{
-    size_t consumed, row;
-    return t85_decode_bytes(&decoder, bytes, len, window, window_len, &consumed, &row) == T85_MORE;
-}
-
-/* Consumes the empty stripe data entity behind such a height, if there is one, so that all bytes
-   of the stream are consumed. */
-static int take_empty(struct jbg85_dec_state *s, const unsigned char *data, size_t len,
-                      size_t *cnt)
-{
-    while (s->ending < 3 && *cnt < len) {
-        unsigned char byte = data[*cnt];
-        if (s->ending == 1 ? byte != MARKER_ESC : byte != MARKER_SDNORM && byte != MARKER_SDRST) {
-            s->ending = 3;
-            break;
+    int status = T85_MORE;
+    while (s->ending == 1 && status == T85_MORE && (*cnt < len || !s->has_left)) {
+        const unsigned char *bytes = *cnt < len ? data + *cnt : NULL;
+        unsigned char both[2] = {s->left, 0};
+        size_t count = len - *cnt, before = s->has_left ? 1 : 0, taken;
+        if (before > 0) {
+            both[1] = data[*cnt];
+            bytes = both;
+            count = sizeof both;
         }
-        s->ending++;
-        ++*cnt;
+        status = t85_decode_rest(decoder_of(s), bytes, count, &taken);
+        *cnt += taken > before ? taken - before : 0;
+        s->has_left = status == T85_MORE && taken < count;
+        if (s->has_left)
+            s->left = data[(*cnt)++];
+        else if (status == T85_MORE)
+            break;
     }
-    return s->ending < 3 && !s->end_of_bie ? JBG_EAGAIN : JBG_EOK;
+    if (status != T85_MORE)
+        s->ending = 2;
+    return s->ending == 1 && !s->end_of_bie ? JBG_EAGAIN : JBG_EOK;
 }
 
 int jbg85_dec_in(struct jbg85_dec_state *s, unsigned char *data, size_t len, size_t *cnt)
 {
-    size_t none, row, more;
+    size_t none, row;
     int status;
     if (!cnt)
         cnt = &none;
@@ -406,9 +376,7 @@ int jbg85_dec_in(struct jbg85_dec_state *s, unsigned char *data, size_t len, siz
         /* The length of the window is known once the header is. */
         unsigned char *window = s->bie_len == sizeof s->buffer ? s->linebuf : NULL;
         unsigned char *rest = *cnt < len ? data + *cnt : NULL;
-        const unsigned char *piece = rest;
         size_t window_len = window ? s->linebuf_len : 0, taken = 0;
-        t85_decoder before = *decoder_of(s);
         if (s->end_of_bie)
             status = t85_decode_end(decoder_of(s), window, window_len, &row);
         else
@@ -416,7 +384,6 @@ int jbg85_dec_in(struct jbg85_dec_state *s, unsigned char *data, size_t len, siz
                                       &row);
         keep(s, rest, taken);
         *cnt += taken;
-        rest = *cnt < len ? data + *cnt : NULL;
         take_height(s);
         if (status == T85_ROW) {
             s->intr = s->line_out(s, window + row, s->bpl, s->y, s->file);
@@ -424,18 +391,12 @@ int jbg85_dec_in(struct jbg85_dec_state *s, unsigned char *data, size_t len, siz
             if (s->intr)
                 return JBG_EOK_INTR;
         } else if (status == T85_OK) {
-            more = late_height(s, rest, len - *cnt);
-            if (more > 0 && needs_more(before, piece, taken + more - 1, window, window_len)) {
-                *cnt += more;
-                s->ending = 1;
-            } else {
-                s->ending = 3;
-            }
+            s->ending = 1;
         } else if (status != T85_HEADER_READ) {
             return code_of(s, status);
         }
     }
-    return take_empty(s, data, len, cnt);
+    return take_rest(s, data, len, cnt);
 }
 
 int jbg85_dec_end(struct jbg85_dec_state *s)

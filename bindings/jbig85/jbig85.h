@@ -69,8 +69,10 @@ struct jbg85_dec_state {
     int options;          /* the header's, without JBG_VLENGTH once a new height has arrived */
     int mx;               /* greatest offset of the adaptive template pixel */
     /* Fields of our own, in the place of libjbig's: */
-    unsigned char last[5]; /* the last bytes consumed */
-    int ending; /* after a height that comes last: 1; after a byte of the empty data entity 2, then 3 */
+    int ending;   /* 1 once the image is complete, 2 once its stream is */
+    int has_left; /* a byte was consumed that may belong to the stream */
+    unsigned char left; /* this byte */
+    unsigned char unused[7];
     /* As in JBIG-KIT's header again: */
     unsigned char *linebuf;
     size_t linebuf_len;

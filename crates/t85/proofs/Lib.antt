@@ -5,10 +5,12 @@ pub mod Bytes
 pub mod Delivery
 pub mod Digits
 pub mod Headers
+pub mod LateRests
 pub mod Lines
 pub mod Meaning
 pub mod Placed
 pub mod RawRows
+pub mod RestCalls
 pub mod Rowed
 pub mod SameImage
 pub mod SameHeight

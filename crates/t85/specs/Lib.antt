@@ -11,6 +11,7 @@ pub mod DecodedRows
 pub mod Decoder
 pub mod DecoderLimit
 pub mod DecoderStart
+pub mod DecoderRest
 pub mod DecoderState
 pub mod Encoded
 pub mod Encoder

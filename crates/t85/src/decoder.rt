@@ -16,6 +16,7 @@ ghost use Rattle.t85.specs.declared.decoder.Answer.TheVariants as answer;
 ghost use Rattle.t85.specs.DecoderSteps.{IsAwaited, IsFilled, IsJudged, IsOfEngine, KeepsRest, MayEnterRows, MayTakeRows};
 
 mod limit;
+pub mod rest;
 
 use crate::opened::read_header;
 use crate::status::OTHER_VERSION;

@@ -5,6 +5,7 @@ mod choice;
 mod pbm;
 mod pieces;
 mod raw_header;
+mod rest;
 mod rows;
 mod set_height;
 mod unused;
