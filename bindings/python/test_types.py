@@ -39,6 +39,10 @@ with t85.Encoder(8, 2, announced_height=2, comment=b"said") as encoder:
 choice = t85.Choice(8, most_offset=127)
 choice.row(bytearray(1), memoryview(b""))
 offset: int = choice.offset(0)
+t85.set_unused_fields(bytearray(stream), my=0, order=0, options=0)
+t85.set_height(mmap.mmap(-1, 100))
+fields: tuple[t85.RawHeader, int] = t85.raw_header(stream), t85.raw_header(stream).fill
+ended: bool = t85.Decoder().rest(t85.Encoder(8, 2).abort())
 length: int = t85.encode_file(pathlib.Path("a.pbm"), sys.stdout.buffer, most_offset=127)
 height: int = t85.decode_file(open("a.jbg", "rb"), "a.pbm", max_rows=9) + t85.decode_file(sys.stdin.buffer, io.BytesIO())
 try:
@@ -51,6 +55,7 @@ WRONG = {
     "t85.decode('text')": "arg-type",
     "t85.encode(b'', 8)": "call-arg",
     "t85.header(b'').image_height": "attr-defined",
+    "t85.set_height(b'')": "arg-type",
     "t85.Rows(8, 1, 1, b'').count = 2": "misc",
     "t85.pack([[0, 1]])": "call-arg",
     "t85.from_image(b'')": "arg-type",

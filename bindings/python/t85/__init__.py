@@ -59,6 +59,7 @@ __all__ = [
     "Error",
     "Header",
     "Part",
+    "RawHeader",
     "Rows",
     "Summary",
     "decode",
@@ -72,6 +73,9 @@ __all__ = [
     "info",
     "pack",
     "parts",
+    "raw_header",
+    "set_height",
+    "set_unused_fields",
     "stream_length",
     "to_array",
     "to_image",
@@ -124,6 +128,13 @@ class _Options(ctypes.Structure):
 
 class _Header(ctypes.Structure):
     _fields_ = [(name, c_uint32) for name in ("width", "height", "stripe_rows", "most_offset", "options")]
+
+
+class _RawHeader(ctypes.Structure):
+    _fields_ = [
+        *((name, c_uint32) for name in ("width", "height", "stripe_rows", "first_layer", "last_layer", "planes", "fill")),
+        *((name, c_uint32) for name in ("most_offset", "most_vertical_offset", "order", "options")),
+    ]
 
 
 class _Summary(ctypes.Structure):
@@ -203,6 +214,9 @@ def _load() -> ctypes.CDLL:
         "t85_version": (word, []),
         "t85_window_bytes": (size, [word]),
         "t85_header": (c_uint8, [*read, POINTER(_Header)]),
+        "t85_raw_header": (c_uint8, [*read, POINTER(_RawHeader)]),
+        "t85_set_unused_fields": (c_uint8, [*write, c_uint8, c_uint8, c_uint8]),
+        "t85_set_height": (c_uint8, write),
         "t85_info": (c_uint8, [*read, POINTER(_Summary)]),
         "t85_encode": (c_uint8, encoded),
         "t85_encode_bound": (c_uint64, [word, word, POINTER(_Options), size]),
@@ -218,6 +232,7 @@ def _load() -> ctypes.CDLL:
         "t85_decode_start": (c_uint8, [POINTER(_Decoder), size, word]),
         "t85_decode_bytes": (c_uint8, [POINTER(_Decoder), *read, *write, POINTER(size), POINTER(size)]),
         "t85_decode_end": (c_uint8, [POINTER(_Decoder), *write, POINTER(size)]),
+        "t85_decode_rest": (c_uint8, [POINTER(_Decoder), *read, POINTER(size)]),
         "t85_decode_height": (word, [POINTER(_Decoder)]),
         "t85_decode_certain": (word, [POINTER(_Decoder)]),
         "t85_encode_start": (c_uint8, [POINTER(_Encoder), size, word, word, *chosen, *write, *write, POINTER(size)]),
@@ -228,6 +243,7 @@ def _load() -> ctypes.CDLL:
         "t85_choice_row": (c_uint8, [POINTER(_Choice), *read, *read]),
         "t85_choice_offset": (c_uint8, [POINTER(_Choice), c_uint8, write[0]]),
         "t85_encode_end": (c_uint8, [POINTER(_Encoder), *write, *write, POINTER(size)]),
+        "t85_encode_abort": (c_uint8, [POINTER(_Encoder), *write, POINTER(size)]),
         "t85_encode_rows_left": (word, [POINTER(_Encoder)]),
         "t85_encode_room": (c_uint64, [POINTER(_Encoder)]),
     }
@@ -583,7 +599,7 @@ class Decoder:
     height   the current height: the header's, until another has arrived
     certain  how many of the first rows belong to the image, whatever follows
     is_done  whether the image is complete
-    unused   the bytes of the last piece that follow the image
+    unused   the bytes of the last piece that follow the image; rest consumes those that belong to the stream
 
     max_rows   the most rows that are returned: an image of more is rejected, with the header or, if a later height may follow,
                once more rows are certain or one more is decoded; None, the default, means no limit
@@ -634,6 +650,22 @@ class Decoder:
     def last_rows(self) -> Iterator[bytes]:
         """Signals the end of the stream, and yields the remaining rows. The partial of an Error has no rows."""
         return self._yielded(self._ended())
+
+    def rest(self, data: Buffer) -> bool:
+        """Consumes bytes behind the last stripe that belong to the stream, once the image is complete: a height there, and
+        the empty stripe data entity behind it. Returns whether nothing more can belong to the stream.
+
+        `unused` then contains the bytes that do not belong to it. To continue, call this with those bytes, followed by the
+        next ones. At the end of the input, nothing more belongs to the stream.
+        """
+        self._begin()
+        piece, taken = bytes(memoryview(data)), c_size_t()
+        status = _LIBRARY.t85_decode_rest(byref(self._state), piece, len(piece), byref(taken))
+        self._is_busy = False
+        if status not in (_OK, _MORE):
+            raise Error(status)
+        self.unused = piece[taken.value :]
+        return not status
 
     def _listed(self, rows: Iterator[bytes]) -> list[bytes]:
         self._begin()
@@ -724,8 +756,8 @@ class Encoder:
     encoder chooses one from the rows of the previous stripe. best_offset returns the offset that gives a stripe the fewest
     bytes, if you have all its rows.
 
-    An Error is raised, and the encoder is unchanged, if a row or an offset follows the last row or the end, or end is called
-    again (number 54), if a row is too short (55), if an offset is chosen within a stripe (56) or is not allowed (22), if rows
+    An Error is raised, and the encoder is unchanged, if a row or an offset follows the last row or the end, or end or abort
+    follows the end (number 54), if a row is too short (55), if an offset is chosen within a stripe (56) or is not allowed (22), if rows
     of the stripe are missing in best_offset (36), or if end is called before all rows or, with announced_height, before the
     first row (36).
 
@@ -805,6 +837,16 @@ class Encoder:
         last = self._written(_LIBRARY.t85_encode_end)
         self.is_done = True
         return last
+
+    def abort(self) -> bytes:
+        """Returns the last bytes of a stream that cannot be completed: the marker ABORT (T.82, 6.2.5), behind the header if
+        no row was passed. Nothing can follow. Unless all rows were passed, decoding the stream raises the error 11."""
+        marker, written = ctypes.create_string_buffer(2), c_size_t()
+        status = _LIBRARY.t85_encode_abort(byref(self._state), marker, len(marker), byref(written))
+        if status:
+            raise Error(status)
+        found, self._head = self._head + marker.raw[: written.value], b""
+        return found
 
     def _written(self, call: Callable[..., int], *words: Any) -> bytes:
         """The bytes not returned yet, followed by those that a call writes."""
@@ -1043,3 +1085,4 @@ def decode_into(
 
 # Imported at the end, since they use the definitions above.
 from ._conversion import decode_file, encode_file  # noqa: E402
+from ._header import RawHeader, raw_header, set_height, set_unused_fields  # noqa: E402
