@@ -27,6 +27,7 @@
 #                    tools (fetches libtiff's source with `apt-get`)
 # make fuzz          calls the library with random streams for FUZZ_SECONDS, alongside JBIG-KIT's library
 # make fuzz-python   does the same with the Python module, alongside the commands
+# make fuzz-jbig     does the same with the functions of `make jbig`, alongside those of JBIG-KIT
 # make bench         measures, and compares with JBIG-KIT and netpbm; no test depends on time
 # make pictures      draws the pictures of README.md and docs/ that are made from streams
 # make against       compares both programs with another build, in the folder OTHER
@@ -67,7 +68,7 @@ BUILT = $(PROGRAMS:%=bin/%)
 LIBRARY = bin/libt85.a bin/$(SHARED) bin/$(SONAME) bin/libt85.so
 # The targets that first build the programs, and those that first build the library.
 OF_PROGRAMS = show static turns library-test interop charts libtiff fuzz-python against bench pictures rust-test targets-test
-OF_LIBRARY = library-test interop clients charts libtiff fuzz fuzz-python bench wheel pictures jbig85 jbig rust-test targets-test
+OF_LIBRARY = library-test interop clients charts libtiff fuzz fuzz-python fuzz-jbig bench wheel pictures jbig85 jbig rust-test targets-test
 
 # quoted TEXT: TEXT as one shell word, with its spaces
 quoted = '$(subst ','\'',$(1))'
@@ -288,6 +289,9 @@ fuzz:
 fuzz-python:
 	tests/fuzz_python bin $(FUZZ_SECONDS)
 
+fuzz-jbig:
+	tests/fuzz_jbig bin $(FUZZ_SECONDS)
+
 # Compares with another build: make against OTHER=folder
 against:
 	tests/against bin $(OTHER)
@@ -388,4 +392,4 @@ clean:
 	rm -rf bin dist crates/*/out
 
 .PHONY: show build library rust rust-test wasm arm page targets-test static processor documents proofs test turns library-test wheel pictures manuals debian jbig85 jbig \
-	interop clients charts libtiff fuzz fuzz-python against bench install install-programs install-library install-jbig uninstall clean
+	interop clients charts libtiff fuzz fuzz-python fuzz-jbig against bench install install-programs install-library install-jbig uninstall clean
