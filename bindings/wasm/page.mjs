@@ -15,7 +15,7 @@ async function opened() {
   try {
     return await loaded(WASM, "compiled to WebAssembly from the proved source by the prover's own compiler");
   } catch (error) {
-    say(`This browser cannot run the proved library, which needs WebAssembly with 64-bit memories; Chrome, Edge and Firefox have them: ${error.message}`, true);
+    say(`This browser cannot run the proved library, which needs WebAssembly with 64-bit memories; current versions of Chromium and Firefox have them: ${error.message}`, true);
     $("file").disabled = true;
     if (WASM32 === "") throw error;
     $("unproved").hidden = false;
