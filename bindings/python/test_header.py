@@ -5,7 +5,7 @@ import unittest
 import t85
 from samples import head
 
-# Two rows of one black pixel, the first nine of which are announced, and other bytes behind the stream.
+# Two stripes of one black pixel, of nine rows that the header announces; and the height behind them, with its empty entity.
 FRONT = head(1, 9, 1, 0, 0x20) + b"\xc0\xff\x02\xc0\xff\x02"
 BEHIND = b"\xff\x05\0\0\0\x02\xff\x02"
 
@@ -77,7 +77,7 @@ class Headers(unittest.TestCase):
     def test_rest(self):
         decoder = t85.Decoder()
         self.refused(53, decoder.rest, BEHIND)
-        # Of two stripes, which end the image only when the height arrives.
+        # The height behind the two stripes ends the image, and is not consumed.
         rows = decoder.feed(FRONT + BEHIND + b"more")
         self.assertEqual((rows, decoder.is_done, decoder.unused), ([b"\x80", b"\x80"], True, BEHIND + b"more"))
         self.assertTrue(decoder.rest(decoder.unused))
