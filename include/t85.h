@@ -408,10 +408,11 @@ uint8_t t85_decode_start(t85_decoder *decoder, size_t size, uint32_t max_rows);
    T85_MORE: all bytes have been consumed, and more are needed. All rows that these determine have
      been returned; or, behind the end marker of a stripe where a new height may still follow, all
      rows that the bytes before the marker determine.
-   0: the image is complete: it is the first t85_decode_height rows of those returned. A NEWLEN
-     after the last stripe, and the empty data entity after that, may be among the bytes not
-     consumed; comments behind the end of the stream may be among those consumed. Use
-     t85_stream_facts to find the end of a stream.
+   0: the image is complete: it is the first t85_decode_height rows of those returned. The bytes up
+     to the last stripe or, if a NEWLEN follows it, up to that have been consumed, and none behind
+     them; t85_decode_rest consumes what else belongs to the stream. Only if the header has
+     T85_VARIABLE_HEIGHT and no height follows, bytes of an earlier piece that could begin one, and
+     whole comments, may have been consumed behind the stream: t85_stream_facts finds its end.
    1 to 15: the stream is broken. All rows that the bytes before the error determine have been
      returned.
    24: the image has more than max_rows rows. Without T85_VARIABLE_HEIGHT in the header, the call
@@ -432,23 +433,19 @@ uint8_t t85_decode_bytes(t85_decoder *decoder, const uint8_t *bytes, size_t len,
 T85_NO_NULL((1, 4))
 uint8_t t85_decode_end(t85_decoder *decoder, uint8_t *window, size_t window_len, size_t *row);
 
-/* Consumes the bytes behind the last stripe that belong to the stream, after t85_decode_bytes has
-   returned 0: the rest of a height there (NEWLEN), and the empty stripe data entity behind it, if
-   there is one. t85_decode_bytes does not consume these, except those of a height that arrived in
-   earlier pieces. Pass the bytes that were not consumed, and those that follow them.
+/* Consumes what still belongs to the stream, after t85_decode_bytes has returned 0: the empty
+   stripe data entity behind a height (NEWLEN) that followed the last stripe, if there is one. Pass
+   the bytes that were not consumed, and those that follow them.
 
    Returns one of:
    0: nothing more belongs to the stream.
    T85_MORE: more bytes are needed to see whether the empty data entity follows; if the input ends
-     here, none does. All bytes have been consumed, except a last byte FF behind the height: pass it
-     again with the bytes that follow.
+     here, none does. Nothing was consumed: pass a byte FF again with the bytes that follow.
    1 to 15, 24: t85_decode_bytes returned this status. Nothing was consumed or changed.
    53: the decoder is not initialized, or has not returned 0 yet. Nothing was consumed or changed.
 
-   If a height comes behind the last stripe, all bytes consumed are then exactly the stream, as
-   t85_stream_facts determines its length. Otherwise the stream ends before this call. If the header
-   has T85_VARIABLE_HEIGHT, bytes of an earlier piece that could begin such a height, and whole
-   comments before it, have been consumed although they do not belong to the stream. */
+   After 0, if a height followed the last stripe, all bytes consumed are exactly the stream, as
+   t85_stream_facts determines its length. Otherwise the stream ended before this call. */
 T85_NO_NULL((1, 4))
 uint8_t t85_decode_rest(t85_decoder *decoder, const uint8_t *bytes, size_t len, size_t *taken);
 

@@ -77,9 +77,9 @@ class Headers(unittest.TestCase):
     def test_rest(self):
         decoder = t85.Decoder()
         self.refused(53, decoder.rest, BEHIND)
-        # The height behind the two stripes ends the image, and is not consumed.
+        # The height behind the two stripes ends the image. The empty stripe data entity is not consumed.
         rows = decoder.feed(FRONT + BEHIND + b"more")
-        self.assertEqual((rows, decoder.is_done, decoder.unused), ([b"\x80", b"\x80"], True, BEHIND + b"more"))
+        self.assertEqual((rows, decoder.is_done, decoder.unused), ([b"\x80", b"\x80"], True, b"\xff\x02more"))
         self.assertTrue(decoder.rest(decoder.unused))
         self.assertEqual((decoder.unused, decoder.height), (b"more", 2))
         self.assertTrue(decoder.rest(b"more"))
@@ -88,9 +88,9 @@ class Headers(unittest.TestCase):
     def test_rest_in_pieces(self):
         decoder = t85.Decoder()
         decoder.feed(FRONT + BEHIND[:6])
-        self.assertEqual(decoder.unused, BEHIND[:6])
-        self.assertFalse(decoder.rest(decoder.unused))
+        self.assertTrue(decoder.is_done)
         self.assertEqual(decoder.unused, b"")
+        self.assertFalse(decoder.rest(b""))
         # A byte FF may begin something else, so it is left.
         self.assertFalse(decoder.rest(b"\xff"))
         self.assertEqual(decoder.unused, b"\xff")
@@ -98,7 +98,6 @@ class Headers(unittest.TestCase):
         self.assertEqual(decoder.unused, b"more")
         decoder = t85.Decoder()
         decoder.feed(FRONT + BEHIND[:6])
-        decoder.rest(decoder.unused)
         self.assertTrue(decoder.rest(b"\xff\x04"))
         self.assertEqual(decoder.unused, b"\xff\x04")
 

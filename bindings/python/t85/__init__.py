@@ -652,8 +652,8 @@ class Decoder:
         return self._yielded(self._ended())
 
     def rest(self, data: Buffer) -> bool:
-        """Consumes bytes behind the last stripe that belong to the stream, once the image is complete: a height there, and
-        the empty stripe data entity behind it. Returns whether nothing more can belong to the stream.
+        """Consumes what still belongs to the stream, once the image is complete: the empty stripe data entity behind a height
+        that followed the last stripe. Returns whether nothing more can belong to the stream.
 
         `unused` then contains the bytes that do not belong to it. To continue, call this with those bytes, followed by the
         next ones. At the end of the input, nothing more belongs to the stream.

@@ -29,6 +29,7 @@ use Rattle.t85_core.specs.declared.pieces.walk.Stage.TheVariants as stage
 use Rattle.t85_core.specs.Options.{fields_of}
 use Rattle.t85_core.specs.Feeds.{HasFed, IsFeed}
 use Rattle.t85_core.specs.Pieces.{AreCertain, AwaitsHeight, HasDecoded, HandsOut, HoldsImage, IsLeastHeight, stripes_ended}
+use Rattle.t85_core.specs.Consumed.{ConsumesImage}
 use Rattle.t85_core.specs.Pieces.{call_of as piece_call}
 use Rattle.t85.specs.Decoded.{window_bytes}
 use Rattle.t85.specs.Decoder.{Answers, AwaitsBehindHeader, BreaksBehindHeader, BytesCall, GivesRowAt, IsBrokenStream, IsImageOf, IsShort, LacksWindow, ReadsHeader, StandAt, TellsAnswer, TellsCertain, bytes_of_call, bytes_call, is_waiting, stripes_ended_by}
@@ -79,7 +80,7 @@ in_rows hold stream out e has = (counted hold stream out e has).rows
 pub answers_from : {Has Has' : List ℕ → List ℕ → Type 0} (old mid new : Hold) (call : BytesCall) (what : Answer) → ((stream out : List ℕ) → Has stream out → Has' stream out) → IsOfEngine what → Answers Has' mid new call what → Answers Has old new call what
 answers_from old mid new call answer.Row k of a = record { bound = a.bound; tells = λ s o h. a.tells s o (k s o h) }
 answers_from old mid new call answer.More k of a = record { bound = a.bound; tells = (a.tells.0, (λ s o h. a.tells.1 s o (k s o h)), a.tells.2, (λ n w s o h. a.tells.3 n w s o (k s o h)), (λ n w s o h. a.tells.4 n w s o (k s o h))) }
-answers_from old mid new call answer.Done k of a = record { bound = a.bound; tells = (a.tells.0, λ s o r h m. a.tells.1 s o r (k s o h) m) }
+answers_from old mid new call answer.Done k of a = record { bound = a.bound; tells = (a.tells.0, (λ s o r h m. a.tells.1 s o r (k s o h) m), a.tells.2, (λ s o r h m. a.tells.3 s o r (k s o h) m)) }
 answers_from old mid new call (answer.Broken fault) k of a = record { bound = a.bound; tells = (a.tells.0, λ s o r h m. a.tells.1 s o r (k s o h) m) }
 answers_from old mid new call answer.TooManyRows k of a = record { bound = a.bound; tells = (a.tells.0, λ s o h. a.tells.1 s o (k s o h)) }
 answers_from old mid new call what k of a = absurd of
@@ -373,6 +374,13 @@ module _ (laws : HeaderLaws) (old kept new : T85Decoder) (memory memory' : List 
       IsOfEngine told.answer × Answers (CountsRows (hold_of old memory)) (hold_of old memory) (hold_of new memory') (bytes_call bytes is_all told.taken told.row) told.answer
   told_as what is of tells = subst (λ a. IsOfEngine a × Answers (CountsRows (hold_of old memory)) (hold_of old memory) (hold_of new memory') (bytes_call bytes is_all told.taken told.row) a) (sym is) (of, record { bound = bound; tells = tells })
 
+  stored_or_none : (held' ≡ []) ⊎ ((progress.taken ≡ 0) × (length held' ≤ length (bytes_held_by old))) → bytes_held_by new ≡ bytes_held_by kept → (bytes_held_by new ≡ []) ⊎ (told.taken ≡ 0)
+  stored_or_none (inl none) same = inl (same ∙ held_kept ∙ none)
+  stored_or_none (inr k) same = inr (taken ∙ k.0)
+
+  done_no_more : (height : ℕ) → outcome.Done height ≡ outcome.More → ⊥
+  done_no_more height e = cc
+
   -- the row that the engine returns
   row' : List ℕ
   row' = (rows_at kept.place header.xd memory').current
@@ -465,10 +473,10 @@ module _ (laws : HeaderLaws) (old kept new : T85Decoder) (memory memory' : List 
                   (subst (λ h. AwaitsHeight (fields_of h) (k.rows.text ++ bytes) (stripes_ended (decoder_view e' (rows_at kept.place header.xd memory') learned')) out) header_is ((call.fed.more e1 k.rows.text out (has_of stream out k.rows)).2 late))),
             )),
       )
-  row_told (outcome.Done height) e1 (is, ended, same) =
+  row_told (outcome.Done height) e1 (is, ended, same, counted, stored) =
       told_as answer.Done is tt (
         ended,
-        λ stream out rest k follows.
+        (λ stream out rest k follows.
             let high : height ≡ new.height = sym (same ∙ height_of ∙ (call.fed.done height e1).0) in
             subst (λ s. IsImageOf s new.height out) (sym (all_of stream out rest k.rows))
             (record {
@@ -477,6 +485,22 @@ module _ (laws : HeaderLaws) (old kept new : T85Decoder) (memory memory' : List 
               holds = subst (λ b. HoldsImage (fields_of header) b new.height out) (sym (behind ((k.rows.text ++ bytes) ++ rest)))
                   (subst (λ n. HoldsImage (fields_of header) ((k.rows.text ++ bytes) ++ rest) n out) high
                   (subst (λ h. HoldsImage (fields_of h) ((k.rows.text ++ bytes) ++ rest) height out) header_is ((call.fed.done height e1).1 k.rows.text out rest (has_of stream out k.rows) follows)));
+            })),
+        stored_or_none (call.earlier (λ more. done_no_more height (sym e1 ∙ more))) stored,
+        (λ stream out rest k follows.
+            let high : height ≡ new.height = sym (same ∙ height_of ∙ (call.fed.done height e1).0) in
+            let w = call.fed.consumed height e1 k.rows.text out rest (has_of stream out k.rows) follows in
+            let late : (e'.is_open && e'.waits) ≡ is_waiting new = sym (ap (λ z. z.is_open && z.waits) (counted ∙ numbers)) in
+            let whole : (k.rows.text ++ bytes) ++ rest ≡ drop 20 ((stream ++ bytes) ++ rest) = sym (ap (drop 20) (all_of stream out rest k.rows) ∙ behind ((k.rows.text ++ bytes) ++ rest)) in
+            record {
+              header = fields_of header;
+              header_of = subst (λ s. HeaderOf s (fields_of header)) (sym (further stream out k.rows)) (laws.stands old.header (k.rows.text ++ take progress.taken bytes) (fields_of header) header_of);
+              consumed = w.0;
+              stream_is = ap (drop 20) (further stream out k.rows) ∙ behind (k.rows.text ++ take progress.taken bytes) ∙ w.1 ∙ ap (λ z. w.0 ++ z) (sym (stored ∙ held_kept));
+              image = subst (ConsumesImage (fields_of header) (is_waiting new) new.height w.0) whole
+                  (subst (λ n. ConsumesImage (fields_of header) (is_waiting new) n w.0 ((k.rows.text ++ bytes) ++ rest)) high
+                  (subst (λ b. ConsumesImage (fields_of header) b height w.0 ((k.rows.text ++ bytes) ++ rest)) late
+                  (subst (λ h. ConsumesImage (fields_of h) (e'.is_open && e'.waits) height w.0 ((k.rows.text ++ bytes) ++ rest)) header_is w.2)));
             }),
       )
   row_told (outcome.Broken fault) e1 (is, ended, same) =
@@ -545,7 +569,7 @@ told_within d d' certain outcome.Row what is (inl counted) = subst (λ a. StaysW
 told_within d d' certain outcome.Row what is (inr (over, why)) = subst (λ a. StaysWithinLimit a d') (sym over.what_is) tt
 told_within d d' certain outcome.More what is (inl asked) = subst (λ a. StaysWithinLimit a d') (sym asked.what_is) (asked_within d d' certain asked.same is asked.certain_to)
 told_within d d' certain outcome.More what is (inr (over, why)) = subst (λ a. StaysWithinLimit a d') (sym over.what_is) tt
-told_within d d' certain (outcome.Done height) what is (told, ended, high) = subst (λ a. StaysWithinLimit a d') (sym told) tt
+told_within d d' certain (outcome.Done height) what is (told, ended, high, counted, stored) = subst (λ a. StaysWithinLimit a d') (sym told) tt
 told_within d d' certain (outcome.Broken fault) what is (told, ended, high) = subst (λ a. StaysWithinLimit a d') (sym told) tt
 
 -- ---- nothing taken
@@ -616,7 +640,7 @@ module _ (laws : HeaderLaws) (d d' : T85Decoder) (window memory' rest : List ℕ
   pub window_cut : (call : BytesCall) (what : Answer) → IsOfEngine what → Answers (HasRead (hold_of d (take needed window))) (hold_of d (take needed window)) (hold_of d' memory') call what → Answers (HasRead (hold_of d window)) (hold_of d window) (hold_of d' (memory' ++ rest)) call what
   window_cut call answer.Row of a = record { bound = a.bound; tells = λ s o h. row_back call (s ++ bytes_of_call call) o (a.tells s o (lent s o h)) }
   window_cut call answer.More of a = record { bound = a.bound; tells = (a.tells.0, (λ s o h. read_with d' memory' (memory' ++ rest) same_back (s ++ bytes_of_call call) o (a.tells.1 s o (lent s o h))), a.tells.2, (λ n w s o h. a.tells.3 n w s o (lent s o h)), (λ n w s o h. a.tells.4 n w s o (lent s o h))) }
-  window_cut call answer.Done of a = record { bound = a.bound; tells = (a.tells.0, λ s o r h m. a.tells.1 s o r (lent s o h) m) }
+  window_cut call answer.Done of a = record { bound = a.bound; tells = (a.tells.0, (λ s o r h m. a.tells.1 s o r (lent s o h) m), a.tells.2, (λ s o r h m. a.tells.3 s o r (lent s o h) m)) }
   window_cut call (answer.Broken fault) of a = record { bound = a.bound; tells = (a.tells.0, λ s o r h m. a.tells.1 s o r (lent s o h) m) }
   window_cut call answer.TooManyRows of a = record { bound = a.bound; tells = (a.tells.0, λ s o h. a.tells.1 s o (lent s o h)) }
   window_cut call what of a = absurd of

@@ -1,16 +1,15 @@
 pub mod DecoderCalls
 pub mod EncoderCalls
+pub mod Entities
 pub mod BestCalls
 pub mod Bytes
 pub mod Delivery
 pub mod Digits
 pub mod Headers
-pub mod LateRests
 pub mod Lines
 pub mod Meaning
 pub mod Placed
 pub mod RawRows
-pub mod RestCalls
 pub mod Rowed
 pub mod SameImage
 pub mod SameHeight

@@ -7,11 +7,12 @@ use Rattle.t85_core.specs.Fault.{fault_number}
 use Rattle.t85_core.specs.Header.{Fields, HeaderOf, header_fault, is_variable}
 use Rattle.t85_core.specs.Options.{fields_of}
 use Rattle.t85_core.specs.Pieces.{AwaitsHeight, HandsOut, HoldsImage, IsLeastHeight, MayFollow}
+use Rattle.t85_core.specs.Consumed.{ConsumesImage}
 use Rattle.t85.specs.Decoded.{window_bytes}
 use Rattle.t85.specs.declared.decoder.T85Decoder.{T85Decoder}
 use Rattle.t85.specs.declared.decoder.Answer.{Answer}
 use Rattle.t85.specs.declared.decoder.Answer.TheVariants as answer
-use Rattle.t85.specs.DecoderState.{Hold, hold_of, BehindHeader, InRows, CountsRows, HasRead}
+use Rattle.t85.specs.DecoderState.{Hold, hold_of, BehindHeader, InRows, CountsRows, HasRead, bytes_held_by}
 use Rattle.t85.specs.DecoderLimit.{IsAboveLimit, StaysWithinLimit}
 
 -- a call: the bytes, whether they are the last, the number of consumed bytes, and the place of the row in the window
@@ -28,6 +29,10 @@ abbrev pub bytes_of_call : BytesCall → List ℕ
 bytes_of_call call = take call.taken call.bytes
 
 -- ---- the effect of a call
+
+-- whether the decoder needs the bytes behind an end marker, or a height before the first stripe
+abbrev pub is_waiting : T85Decoder → Bool
+is_waiting d = not (d.is_open == 0) && not (d.waits == 0)
 
 -- the stream has ended, with this status
 pub record HasEnded (d : T85Decoder) (status : ℕ) : Type 0 where
@@ -74,6 +79,15 @@ IsBrokenStream stream height fault out = ((header_fault stream ≡ Some fault) �
 abbrev pub AwaitsBehindHeader : List ℕ → ℕ → List ℕ → Type 0
 AwaitsBehindHeader stream stripes out = (header : Fields) × HeaderOf stream header × AwaitsHeight header (drop 20 stream) stripes out
 
+-- These bytes of a stream were consumed when its image was complete: the header, those of the image, and the ones that are stored.
+-- A decoder that is still waiting has found the height behind the last stripe.
+pub record ConsumesStream (d : T85Decoder) (stream whole : List ℕ) : Type 0 where
+  pub header : Fields
+  pub header_of : HeaderOf stream header
+  pub consumed : List ℕ
+  pub stream_is : drop 20 stream ≡ consumed ++ bytes_held_by d
+  pub image : ConsumesImage header (is_waiting d) d.height consumed (drop 20 whole)
+
 -- a window is shorter than three rows of a stream
 pub record IsShort (window stream : List ℕ) : Type 0 where
   pub header : Fields
@@ -91,10 +105,6 @@ status_told answer.Row = 61
 status_told answer.More = 62
 status_told (answer.Ended status) = status
 
--- whether the decoder needs the bytes behind an end marker, or a height before the first stripe
-abbrev pub is_waiting : T85Decoder → Bool
-is_waiting d = not (d.is_open == 0) && not (d.waits == 0)
-
 -- the number of stripes whose end marker a waiting decoder has read
 abbrev pub stripes_ended_by : T85Decoder → ℕ
 stripes_ended_by d = if (d.stage == 2) || (d.stage == 3) then d.entities + 1 else d.entities
@@ -109,6 +119,9 @@ TellsAnswer Has old new call answer.More =
     × (new.decoder.next ≡ 2 → is_waiting new.decoder ≡ true → (stream out : List ℕ) → Has stream out → AwaitsBehindHeader (stream ++ call.bytes) (stripes_ended_by new.decoder) out)
 TellsAnswer Has old new call answer.Done =
     HasEnded new.decoder 0 × ((stream out rest : List ℕ) → Has stream out → MayFollow call.is_all rest → IsImageOf ((stream ++ call.bytes) ++ rest) new.decoder.height out)
+    -- only bytes of earlier calls are stored, and then none of this call was consumed
+    × ((bytes_held_by new.decoder ≡ []) ⊎ (call.taken ≡ 0))
+    × ((stream out rest : List ℕ) → Has stream out → MayFollow call.is_all rest → ConsumesStream new.decoder (stream ++ bytes_of_call call) ((stream ++ call.bytes) ++ rest))
 TellsAnswer Has old new call (answer.Broken fault) =
     HasEnded new.decoder (fault_number fault) × ((stream out rest : List ℕ) → Has stream out → MayFollow call.is_all rest → IsBrokenStream ((stream ++ call.bytes) ++ rest) new.decoder.height fault out)
 TellsAnswer Has old new call answer.TooManyRows = HasEnded new.decoder 24 × ((stream out : List ℕ) → Has stream out → IsAboveLimit new.decoder (stream ++ bytes_of_call call) out)

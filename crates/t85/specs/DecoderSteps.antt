@@ -98,11 +98,12 @@ IsRowTold d d' certain what = IsCounted d d' certain what ⊎ (IsOverLimit d d' 
 abbrev pub IsMoreTold : T85Decoder → T85Decoder → ℕ → Answer → Type 0
 IsMoreTold d d' certain what = IsAsked d d' certain what ⊎ (IsOverLimit d d' what × (d.max_rows < certain))
 
--- The result for one of the engine, where this many rows are certain. After an end, the height stays.
+-- The result for one of the engine, where this many rows are certain. After an end, the height stays. After a whole image, the
+-- other numbers and the stored bytes stay too.
 abbrev pub IsToldOf : Outcome → T85Decoder → T85Decoder → ℕ → Answer → Type 0
 IsToldOf outcome.Row d d' certain what = IsRowTold d d' certain what
 IsToldOf outcome.More d d' certain what = IsMoreTold d d' certain what
-IsToldOf (outcome.Done height) d d' certain what = (what ≡ answer.Done) × HasEnded d' 0 × (d'.height ≡ d.height)
+IsToldOf (outcome.Done height) d d' certain what = (what ≡ answer.Done) × HasEnded d' 0 × (d'.height ≡ d.height) × (numbers_of_decoder d' ≡ numbers_of_decoder d) × (bytes_held_by d' ≡ bytes_held_by d)
 IsToldOf (outcome.Broken fault) d d' certain what = (what ≡ answer.Broken fault) × HasEnded d' (fault_number fault) × (d'.height ≡ d.height)
 
 -- this many of these bytes were added to those of the header

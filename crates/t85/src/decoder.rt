@@ -424,6 +424,8 @@ impl T85Decoder {
     fn end(&mut self, status: u8)
         ensures ended { HasEnded self.new status }
         ensures height { self.new.height ≡ self.old.height }
+        ensures numbers { numbers_of_decoder self.new ≡ numbers_of_decoder self.old }
+        ensures held { bytes_held_by self.new ≡ bytes_held_by self.old }
         ensures limit { self.new.max_rows ≡ self.old.max_rows }
         ensures same_header { self.new.header ≡ self.old.header }
     {

@@ -34,6 +34,7 @@ pub mod PieceStood
 pub mod PieceFeeds
 pub mod PieceNumbers
 pub mod PieceLook
+pub mod LookOver
 pub mod PieceCertain
 pub mod PieceBelow
 pub mod PieceOpen

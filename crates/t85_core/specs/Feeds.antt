@@ -1,5 +1,5 @@
 -- The effect of `feed` on a decoder: it consumes all bytes, and stores those that it cannot decode yet.
-use Rattle.std.specs.Prelude.{⊤, ℕ, ◌≡◌, List, [], ◌∷◌, ◌++◌, length, take, flat_map, IfSome}
+use Rattle.std.specs.Prelude.{⊤, ℕ, ◌≡◌, ◌≢◌, ◌≤◌, ◌⊎◌, List, [], ◌∷◌, ◌++◌, length, take, flat_map, IfSome}
 use Rattle.t85_core.specs.Lent.{PieceView}
 use Rattle.t85_core.specs.Pieces.{HasDecoded, Call, IsCallBy, StreamGoesOn, bytes_taken, row_given}
 use Rattle.t85_core.specs.declared.pieces.Outcome.TheVariants as outcome
@@ -18,9 +18,11 @@ pub record HasFed (d : PieceView) (held text out : List ℕ) : Type 0 where
 
 -- the effect of a call of `feed` or `feed_last`: that of a call with a piece, for all bytes so far
 pub record IsFeed (old : PieceView) (held held' : List ℕ) (call : Call) : Type 0 where
-  pub fed : IsCallBy (HasFed old held) (HasFed call.new held') old call
+  pub fed : IsCallBy (HasFed old held) (HasFed call.new held') held' old call
   -- if more bytes are needed, all are consumed and stored
   pub all : call.answer ≡ outcome.More → call.taken ≡ length call.piece
+  -- otherwise only bytes of earlier calls are stored, and then none of this call is consumed
+  pub earlier : call.answer ≢ outcome.More → (held' ≡ []) ⊎ ((call.taken ≡ 0) × (length held' ≤ length held))
   -- after an end nothing changes
   pub stays : IfSome old.end (λ _. held' ≡ held)
 

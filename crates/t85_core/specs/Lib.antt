@@ -5,6 +5,7 @@ pub mod Grammar
 pub mod Refusal
 pub mod Height
 pub mod Coding
+pub mod Consumed
 pub mod Denotes
 pub mod Fixed
 pub mod Outcome

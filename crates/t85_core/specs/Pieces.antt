@@ -10,7 +10,8 @@ use Rattle.t85_core.specs.declared.pieces.Progress.{Progress}
 use Rattle.t85_core.specs.declared.pieces.Outcome.TheVariants as outcome
 use Rattle.t85_core.specs.Header.{Fields}
 use Rattle.t85_core.specs.Options.{fields_of}
-use Rattle.t85_core.specs.Grammar.{Stripe, stripe_bytes, marker_bytes}
+use Rattle.t85_core.specs.Grammar.{Stripe, marker_bytes, stripe_bytes}
+use Rattle.t85_core.specs.Consumed.{ConsumesImage}
 use Rattle.t85_core.specs.Height.{IsHeight, IsOpen}
 use Rattle.t85_core.specs.Denotes.{DenotesAt}
 use Rattle.t85_core.specs.Fixed.{Fixes}
@@ -135,6 +136,13 @@ abbrev pub IsWhole : (Before : List ℕ → List ℕ → Type 0) → PieceView �
 IsWhole Before old call =
     (height : ℕ) → call.answer ≡ outcome.Done height → (call.new.height ≡ height) × ((text out rest : List ℕ) → Before text out → MayFollow call.is_all rest → HoldsImage (stream_of old) ((text ++ call.piece) ++ rest) height out)
 
+-- These bytes were consumed when the image was complete, except the last ones, which are stored. A decoder that is still
+-- waiting has found the height behind the last stripe.
+abbrev pub ConsumesWhole : (Before : List ℕ → List ℕ → Type 0) (stored : List ℕ) → PieceView → Call → Type 0
+ConsumesWhole Before stored old call =
+    (height : ℕ) → call.answer ≡ outcome.Done height → (text out rest : List ℕ) → Before text out → MayFollow call.is_all rest →
+    (consumed : List ℕ) × (text ++ take call.taken call.piece ≡ consumed ++ stored) × ConsumesImage (stream_of old) (waits_behind call.new) height consumed ((text ++ call.piece) ++ rest)
+
 -- the returned rows are those that the stream fixes, whatever follows the piece
 abbrev pub IsBroken : (Before : List ℕ → List ℕ → Type 0) → PieceView → Call → Type 0
 IsBroken Before old call =
@@ -144,7 +152,7 @@ IsBroken Before old call =
 abbrev pub EndsAgain : PieceView → Call → Type 0
 EndsAgain old call = (end : End) → old.end ≡ Some end → (call.answer ≡ end_told end old.height) × (call.taken ≡ 0) × (call.new ≡ old)
 
-pub record IsCallBy (Before After : List ℕ → List ℕ → Type 0) (old : PieceView) (call : Call) : Type 0 where
+pub record IsCallBy (Before After : List ℕ → List ℕ → Type 0) (stored : List ℕ) (old : PieceView) (call : Call) : Type 0 where
   pub same : stream_of call.new ≡ stream_of old
   pub bound : call.taken ≤ length call.piece
   pub ends : call.is_all ≡ true → call.answer ≢ outcome.More
@@ -155,11 +163,12 @@ pub record IsCallBy (Before After : List ℕ → List ℕ → Type 0) (old : Pie
   pub waits : RowsWait Before old call
   pub more : WantsMore Before After old call
   pub done : IsWhole Before old call
+  pub consumed : ConsumesWhole Before stored old call
   pub broken : IsBroken Before old call
 
 -- the effect of a call of `next_row` or `next_of_last`
 abbrev pub IsCall : PieceView → Call → Type 0
-IsCall old call = IsCallBy (HasDecoded old) (HasDecoded call.new) old call
+IsCall old call = IsCallBy (HasDecoded old) (HasDecoded call.new) [] old call
 
 -- ---- calls one after another
 
@@ -204,6 +213,12 @@ abbrev pub PiecesWhole : Type 0
 PiecesWhole =
     (d : PieceView) (calls : List Call) (last : Call) (height : ℕ) (rest : List ℕ) → HasDecoded d [] [] → AreCalls d calls → IsCall (decoder_after d calls) last →
     last.answer ≡ outcome.Done height → MayFollow last.is_all rest → HoldsImage (stream_of d) ((flat_map bytes_taken calls ++ last.piece) ++ rest) height (flat_map row_given calls)
+
+-- the bytes that were consumed with it
+abbrev pub PiecesConsumed : Type 0
+PiecesConsumed =
+    (d : PieceView) (calls : List Call) (last : Call) (height : ℕ) (rest : List ℕ) → HasDecoded d [] [] → AreCalls d calls → IsCall (decoder_after d calls) last → last.answer ≡ outcome.Done height → MayFollow last.is_all rest →
+    ConsumesImage (stream_of d) (waits_behind last.new) height (flat_map bytes_taken calls ++ bytes_taken last) ((flat_map bytes_taken calls ++ last.piece) ++ rest)
 
 abbrev pub PiecesBroken : Type 0
 PiecesBroken =

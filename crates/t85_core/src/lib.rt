@@ -29,5 +29,6 @@ pub use options::Options;
 pub use parts::{Found, Part, PartKind, PartWalk};
 pub use pieces::held::HeldBytes;
 pub use pieces::numbers::{MoveNumbers, PieceNumbers};
+pub use pieces::steps::marker_at;
 pub use pieces::{Outcome, PieceDecoder, Progress};
 pub use summary::{Summary, info, summarize};

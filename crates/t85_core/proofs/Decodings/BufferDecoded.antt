@@ -34,7 +34,7 @@ all_handed old new bytes at end a e k =
     (subst (λ z. Keeps old (append_known new z)) (none_held bytes (a ∙ sym e)) k) (append_nothing new)
 
 pub image_handed : (h : Fields) (height : ℕ) (known known' text old new : Option (List ℕ)) → ImageRead h height (passage known known' text old) → Keeps old new → ImageRead h height (passage known known' text new)
-image_handed h height known known' text old new i k = record { given = i.given; taken = i.taken; rows = i.rows; denotes = i.denotes; appended = Appends-keeps text old new _ i.appended k }
+image_handed h height known known' text old new i k = record { given = i.given; taken = i.taken; parts = i.parts; only = i.only; rows = i.rows; denotes = i.denotes; appended = Appends-keeps text old new _ i.appended k }
 
 pub cut_handed : (h : Fields) (height : ℕ) (known known' text old new : Option (List ℕ)) (fault : Fault) → ImageCut h height (passage known known' text old) fault → Keeps old new → ImageCut h height (passage known known' text new) fault
 cut_handed h height known known' text old new fault i k = record { rows = i.rows; ends = i.ends; appended = Appends-keeps text old new _ i.appended k }

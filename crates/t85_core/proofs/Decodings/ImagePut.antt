@@ -1,5 +1,5 @@
 -- Stripes one after another are an image, or the rows that what came fixes.
-use Rattle.std.proofs.Common.{◌≡◌, ◌<◌, ◌+◌, ◌-◌, ◌*◌, ◌^◌, ℕ, List, [], ◌∷◌, ◌++◌, length, min, Option, refl, sym, ap, ◌∙◌, subst, arith, append_assoc, length-append, Bool}
+use Rattle.std.proofs.Common.{◌≡◌, ◌<◌, ◌+◌, ◌-◌, ◌*◌, ◌^◌, ℕ, List, [], ◌∷◌, ◌++◌, length, min, Option, refl, sym, ap, ◌∙◌, subst, arith, append_assoc, append-nil, length-append, Bool}
 use Rattle.std.specs.Prelude.{flat_map}
 use Rattle.std.specs.Io.KnownBytes.{Appends, Consumes}
 use Rattle.std.proofs.lemmas.Grind.{flat_map-append}
@@ -21,7 +21,7 @@ use Rattle.pbm_core.specs.Device.{AppendsBeginning}
 use Rattle.t85_core.specs.Steps.CoderLaws.{CoderLaws}
 use Rattle.t85_core.specs.Coding.{flagged}
 use Rattle.t85_core.specs.Steps.Passage.{passage}
-use Rattle.t85_core.proofs.Decodings.CarriedDenotes.{carried_denotes}
+use Rattle.t85_core.proofs.Decodings.CarriedDenotes.{carried_denotes, stripes_whole}
 use Rattle.t85_core.proofs.Decodings.CarriedFixes.{carried_fixes}
 use Rattle.t85_core.proofs.Walks.HeightFound.{accepted}
 use Rattle.t85_core.proofs.Bytes.Ends.{Ends-after}
@@ -114,6 +114,15 @@ pub image_read : (h : Fields) (height : ℕ) (known known' : Option (List ℕ)) 
 image_read h height known known' count heights carried text text' r use_ all = record {
   given = flat_map stripe_bytes r.stripes;
   taken = r.taken;
+  parts = record {
+    stripes = r.stripes;
+    rest = [];
+    body_is = sym (append-nil (flat_map stripe_bytes r.stripes));
+    count = r.many ∙ all;
+    each = stripes_whole h height (image_start h.xd) r.stripes r.rows r.flags r.next r.run;
+    gives = r.gives_in.gives;
+  };
+  only = refl;
   rows = r.rows;
   denotes = λ rest. carried_denotes h height (flat_map stripe_bytes r.stripes ++ rest) rest r.stripes r.rows r.flags r.next use_.accepted use_.from use_.to refl (r.many ∙ all) r.gives_in.gives r.run;
   appended = r.appended;

@@ -10,11 +10,13 @@ use Rattle.t85_core.specs.declared.pieces.End.TheVariants as end_type
 use Rattle.t85_core.specs.declared.pieces.Outcome.TheVariants as outcome
 use Rattle.t85_core.specs.declared.pieces.Progress.{Progress}
 use Rattle.t85_core.specs.Height.{IsHeight}
-use Rattle.t85_core.specs.Lent.{PieceView}
+use Rattle.t85_core.specs.Lent.{PieceView, waits_behind}
 use Rattle.t85_core.specs.Outcomes.{end_told}
 use Rattle.t85_core.specs.Pieces.{AwaitsHeight, HasDecoded, HandsOut, HoldsImage, IsCall, MayFollow, call_of, row_held, stream_of, stripes_ended}
+use Rattle.t85_core.specs.Consumed.{ConsumesImage}
 use Rattle.t85_core.specs.Feeds.{HasFed, IsFeed}
 use Rattle.t85_core.specs.Steps.Feeds.{Settles}
+use Rattle.t85_core.proofs.Decodings.PieceSteps.{nil_of}
 
 -- what is held is written, and bytes behind it
 pub joined_is : (n : ℕ) (a b x y held front : List ℕ) → length a ≡ n → a ≡ held → b ≡ front → take (n + length front) (take n (a ++ x) ++ (b ++ y)) ≡ held ++ front
@@ -52,6 +54,18 @@ settled_first bytes left count taken within e = went (cases_lt taken count) wher
       ∙ sym (drop-append-add (take count bytes) (drop count bytes) (taken - count))
       ∙ ap (λ z. drop (length (take count bytes) + (taken - count)) z) (take-append-drop count bytes)
       ∙ ap (λ n. drop n bytes) sum
+
+-- of the first bytes nothing is held if a byte behind them was taken
+pub settled_earlier : (bytes left : List ℕ) (count taken told : ℕ) → count ≤ length bytes → left ≡ drop (min taken count) (take count bytes) → told ≡ taken - count → (left ≡ []) ⊎ ((told ≡ 0) × (length left ≤ count))
+settled_earlier bytes left count taken told within e minus = went (cases_lt taken count) where
+  long : length (take count bytes) ≡ count
+  long = length-take-le count bytes within
+
+  went : (taken < count) ⊎ (count ≤ taken) → (left ≡ []) ⊎ ((told ≡ 0) × (length left ≤ count))
+  went (inl fewer) =
+      let some : length left ≡ length (take count bytes) - min taken count = ap length e ∙ length-drop (min taken count) (take count bytes) in
+      inr (omega (arith, fewer, minus), omega (arith, long, some))
+  went (inr all) = let low : min taken count ≡ count = omega (arith, all) in inl (e ∙ ap (λ n. drop n (take count bytes)) low ∙ drop_all count (take count bytes) (omega (arith, long)))
 
 -- an end needs no more bytes
 told_no_more : (end : End) (n : ℕ) → end_told end n ≢ outcome.More
@@ -146,9 +160,16 @@ module _ (old new : PieceView) (held left front back joined : List ℕ) (is_end 
             (λ w. subst (λ z. AwaitsHeight (stream_of old) z (stripes_ended new) out) (part k ∙ ap (λ z. text ++ z) (sym (ap (λ z. front ++ z) (whole (told_by e)) ∙ append-nil front))) (m.2 w)),
           );
       done = λ n e. let w = is.done n (told_by e) in (w.0, (λ text out more k f. subst (λ z. HoldsImage (stream_of old) z n out) (all_text k more) (w.1 k.decoded out (back ++ more) k.has (follows f))));
+      consumed = λ n e text out more k f.
+          let w = is.consumed n (told_by e) k.decoded out (back ++ more) k.has (follows f) in (
+            w.0,
+            ap (λ z. z ++ take told.taken (front ++ back)) k.text_is ∙ text_same k.decoded ∙ ap (λ z. z ++ left) (w.1 ∙ append-nil w.0),
+            subst (ConsumesImage (stream_of old) (waits_behind new) n w.0) (all_text k more) w.2,
+          );
       broken = λ fault e text out more k f. subst (λ z. HandsOut (stream_of old) z new.height fault out) (all_text k more) (is.broken fault (told_by e) k.decoded out (back ++ more) k.has (follows f));
     };
     all = all;
+    earlier = λ e. settled.earlier (λ z. e (settled.outcome_is ∙ z));
     stays = stays old.end refl;
   }
 
@@ -215,6 +236,10 @@ module _ (old mid new : PieceView) (held left front back joined rest : List ℕ)
   unended None e = tt
   unended (Some end) e = absurd (never end e)
 
+  emptied : (left ≡ []) ⊎ ((last.taken ≡ 0) × (length left ≤ 0)) → left ≡ []
+  emptied (inl e) = e
+  emptied (inr k) = nil_of left (let few = k.1 in omega (arith, few))
+
   pub feeds_on : IsFeed old held left (call_of (front ++ back) is_all (record { outcome = last.outcome; taken = length (front ++ back) - length rest + last.taken }) new)
   feeds_on = record {
     fed = record {
@@ -233,8 +258,15 @@ module _ (old mid new : PieceView) (held left front back joined rest : List ℕ)
             (λ w. subst (λ h. AwaitsHeight h (text ++ piece) (stripes_ended new) out) is.same (subst (λ z. AwaitsHeight (stream_of mid) z (stripes_ended new) out) (whole_text k) (m.2 w))),
           );
       done = λ n e. let w = next.fed.done n e in (w.0, (λ text out more k f. subst (λ h. HoldsImage h ((text ++ piece) ++ more) n out) is.same (subst (λ z. HoldsImage (stream_of mid) (z ++ more) n out) (whole_text k) (w.1 (decoded k) out more (mid_fed k) f))));
+      consumed = λ n e text out more k f.
+          let w = next.fed.consumed n e (decoded k) out more (mid_fed k) f in (
+            w.0,
+            sym (taken_text k) ∙ w.1,
+            subst (λ h. ConsumesImage h (waits_behind new) n w.0 ((text ++ piece) ++ more)) is.same (subst (λ z. ConsumesImage (stream_of mid) (waits_behind new) n w.0 (z ++ more)) (whole_text k) w.2),
+          );
       broken = λ fault e text out more k f. subst (λ h. HandsOut h ((text ++ piece) ++ more) new.height fault out) is.same (subst (λ z. HandsOut (stream_of mid) (z ++ more) new.height fault out) (whole_text k) (next.fed.broken fault e (decoded k) out more (mid_fed k) f));
     };
     all = λ e. (let all = next.all e in omega (arith, few, sum, left_long, all));
+    earlier = λ e. inl (emptied (next.earlier e));
     stays = unended old.end refl;
   }

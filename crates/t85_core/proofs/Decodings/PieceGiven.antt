@@ -1,19 +1,22 @@
 -- The results for a stream in pieces: its height, its image, or its error and the rows that it fixes.
-use Rattle.std.proofs.Common.{cond, ◌≡◌, ◌≢◌, ◌+◌, ◌⊎◌, inl, inr, ℕ, Bool, true, false, List, [], ◌∷◌, ◌++◌, length, take, nat_eq, nat_le, ◌==◌, ◌||◌, Option, None, Some, refl, sym, ap, ◌∙◌, subst, append_assoc, append-nil, arith, true≢false}
+use Rattle.std.proofs.Common.{cond, ◌≡◌, ◌≢◌, ◌+◌, ◌-◌, ◌<◌, ◌≤◌, ◌⊎◌, inl, inr, ℕ, Bool, true, false, List, [], ◌∷◌, ◌++◌, length, take, nat_eq, nat_le, ◌==◌, ◌||◌, Option, None, Some, refl, sym, ap, ◌∙◌, subst, append_assoc, append-nil, arith, true≢false}
 use Rattle.std.specs.Prelude.{flat_map}
+use Rattle.std.specs.List.{AllByRecursion}
 use Rattle.std.proofs.lemmas.Bool.Decides.{nat_tests}
-use Rattle.std.proofs.lemmas.Bool.{cases_eq}
+use Rattle.std.proofs.lemmas.Bool.{cases_eq, cases_lt}
 use Rattle.std.proofs.Math.Seq.{take-length}
 use Rattle.byteorder.specs.Endian.{big_bytes, big_number}
 use Rattle.t85_core.specs.declared.fault.Fault.{Fault}
 use Rattle.t85_core.specs.declared.fault.Fault.TheVariants.{Truncated, BadEscape, Aborted, Changed}
 use Rattle.t85_core.specs.Header.{Fields, IsAccepted, is_variable}
-use Rattle.t85_core.specs.Grammar.{NewLength, segment_bytes, stripe_count, all_segments, lengths}
+use Rattle.t85_core.specs.Height.{GivesHeight}
+use Rattle.t85_core.specs.Grammar.{NewLength, Parts, segment_bytes, stripe_bytes, stripe_count, all_segments, lengths}
 use Rattle.t85_core.specs.Refusal.{BodyFault, StripeFault, spot_after, rest_fault, length_fault, move_fault, comment_fault}
 use Rattle.t85_core.specs.Denotes.{DenotesAt}
 use Rattle.t85_core.specs.Fixed.{Fixes}
 use Rattle.t85_core.specs.Laws.{IsInUse}
 use Rattle.t85_core.specs.Pieces.{HasHeight, HandsOut, HoldsImage}
+use Rattle.t85_core.specs.Consumed.{ConsumesImage}
 use Rattle.t85_core.specs.declared.segments.Place.{Place}
 use Rattle.t85_core.specs.Steps.Segments.{PieceFault}
 use Rattle.t85_core.specs.Steps.DecodeStripes.{ImageRead}
@@ -21,9 +24,9 @@ use Rattle.t85_core.specs.Steps.Pieces.{CutOff}
 use Rattle.t85_core.specs.Steps.SizedImage.{sized}
 use Rattle.t85_core.specs.Steps.PieceStands.{HeightKnown}
 use Rattle.t85_core.specs.Steps.Passage.{passage}
-use Rattle.t85_core.proofs.Bytes.Lengths.{gives_none, valid_parts}
-use Rattle.t85_core.proofs.Grammar.Cut.{one_broken}
-use Rattle.t85_core.proofs.Grammar.Heights.{one_height_of, suits_in_use, none_left, none_right}
+use Rattle.t85_core.proofs.Bytes.Lengths.{gives_none, more_stripes, valid_over, valid_parts}
+use Rattle.t85_core.proofs.Grammar.Cut.{one_broken, one_front, parts_or_fault}
+use Rattle.t85_core.proofs.Grammar.Heights.{given_breaks, never_suits, one_given, one_height_of, suits_in_use, none_left, none_right}
 use Rattle.t85_core.proofs.Walks.Segments.{length_changed}
 use Rattle.t85_core.proofs.Decodings.Decoded.{fixes_more}
 use Rattle.t85_core.proofs.Bytes.Streams.{longer_or_all}
@@ -118,3 +121,58 @@ read_holds h height text out rest is i = record {
       (subst (λ z. DenotesAt h height (i.given ++ rest) (record { width = h.xd; rows = z })) (sym (ap (λ n. take n i.rows) (sym (i.denotes rest).height) ∙ take-length i.rows)) (i.denotes rest));
   out_is = i.appended;
 }
+
+-- the heights that may be among segments, if there is one
+one_length : (height : ℕ) (xs : List ℕ) → length xs ≤ 1 → AllByRecursion (λ n. n ≡ height) xs → (xs ≡ [] → ⊥) → xs ≡ height ∷ []
+one_length height [] few all some = absurd (some refl)
+one_length height (x ∷ []) few all some = ap (λ z. z ∷ []) all.0
+one_length height (x ∷ y ∷ xs) few all some = absurd (omega (arith, few))
+
+-- A height came before these stripes were over: it is in one of them.
+module _ (h : Fields) (height : ℕ) (text : List ℕ) (ok : IsAccepted h) (parts : Parts h height text) (only : parts.rest ≡ []) where
+  is : text ++ [] ≡ flat_map stripe_bytes parts.stripes ++ []
+  is = append-nil text ∙ parts.body_is ∙ ap (λ z. flat_map stripe_bytes parts.stripes ++ z) only
+
+  no_fewer : (g : GivesHeight h (text ++ []) height) → length g.stripes ≤ length parts.stripes
+  no_fewer g =
+      let over = valid_over h (length g.stripes) height g.valid in
+      let more = more_stripes height h.l0 (length g.stripes - 1) ok.stripe_from over in
+      let all = parts.count in
+      omega (arith, more, all)
+
+  never : (g : GivesHeight h (text ++ []) height) → lengths (all_segments parts.stripes) ≡ [] → ⊥
+  never g none = by (cases_lt (length g.stripes) (length parts.stripes)) where
+    no_bytes : (front rest : List ℕ) → [] ≡ front ++ (segment_bytes (NewLength height) ++ rest) → ⊥
+    no_bytes [] rest e = cc
+    no_bytes (x ∷ front) rest e = cc
+
+    by : (length g.stripes < length parts.stripes) ⊎ (length parts.stripes ≤ length g.stripes) → ⊥
+    by (inl less) =
+        parts_or_fault ok 0 (length parts.stripes) (never_suits h (length parts.stripes)) parts.stripes g.stripes [] parts.each g.each (gives_none 0 0 (all_segments parts.stripes) (omega arith) none)
+        (omega (arith, less)) less (given_breaks ok (text ++ []) height g) (sym is ∙ g.body_is)
+    by (inr more) =
+        let low = no_fewer g in
+        let same : length parts.stripes ≡ length g.stripes = omega (arith, low, more) in
+        let front = one_front ok parts.stripes g.stripes [] (flat_map segment_bytes g.segments ++ (segment_bytes (NewLength height) ++ g.rest)) parts.each g.each same (sym is ∙ g.body_is) in
+        no_bytes (flat_map segment_bytes g.segments) g.rest front.1
+
+  given_in : GivesHeight h (text ++ []) height → lengths (all_segments parts.stripes) ≡ height ∷ []
+  given_in g = one_length height (lengths (all_segments parts.stripes)) (let one = parts.gives.one in omega (arith, one)) parts.gives.this (never g)
+
+-- the bytes that are consumed, where no height is behind the stripes
+pub read_consumes : (h : Fields) (height : ℕ) (text out rest : List ℕ) → IsAccepted h → HeightKnown h height false text → ImageRead h height (passage (Some text) (Some []) (Some []) (Some out)) → ConsumesImage h false height text (text ++ rest)
+read_consumes h height text out rest ok k i = record {
+  stripes = i.parts.stripes;
+  bytes = [];
+  consumed_is = same ∙ i.parts.body_is ∙ ap (λ z. flat_map stripe_bytes i.parts.stripes ++ z) i.only;
+  each = i.parts.each;
+  all = i.parts.count;
+  behind = record { given = given; exact = λ _. refl };
+} where
+  same : text ≡ i.given
+  same = i.taken ∙ append-nil i.given
+
+  given : (n : ℕ) → GivesHeight h (text ++ rest) n → lengths (all_segments i.parts.stripes) ≡ n ∷ []
+  given n g =
+      let here : n ≡ height = one_given ok (text ++ rest) g (k.came refl g.variable rest) in
+      subst (λ m. lengths (all_segments i.parts.stripes) ≡ m ∷ []) (sym here) (given_in h height i.given ok i.parts i.only (subst (λ z. GivesHeight h (z ++ []) height) same (k.came refl g.variable [])))

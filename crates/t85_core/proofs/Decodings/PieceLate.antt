@@ -17,8 +17,9 @@ use Rattle.t85_core.specs.declared.segments.Code as code_type
 use Rattle.t85_core.specs.declared.segments.Move as move
 use Rattle.t85_core.specs.Lent.{Carried}
 use Rattle.t85_core.specs.Header.{Fields, IsAccepted, is_variable}
-use Rattle.t85_core.specs.Grammar.{NewLength, Stripe, segment_bytes, stripe_bytes, marker_bytes, stripe_count, all_segments, lengths, is_comment, is_valid_length}
+use Rattle.t85_core.specs.Grammar.{AreStripes, NewLength, Stripe, segment_bytes, stripe_bytes, marker_bytes, stripe_count, all_segments, lengths, is_comment, is_valid_length}
 use Rattle.t85_core.specs.Height.{GivesHeight}
+use Rattle.t85_core.specs.Consumed.{ConsumesImage}
 use Rattle.t85_core.specs.Steps.Segments.{HasPassed, segments_so_far}
 use Rattle.t85_core.specs.Coding.{mode_of, move_of, flagged}
 use Rattle.t85_core.specs.Denotes.{DenotesAt}
@@ -182,18 +183,31 @@ module _ {h : Fields} {entities row : ℕ} {text out : List ℕ} (q : CoderLaws)
       ∙ ap (λ z. flat_map stripe_bytes S ++ (z ++ (stuffed r.code ++ marker_bytes r.reset))) (r.head.passed.taken ∙ append-nil (flat_map segment_bytes r.head.passed.segments))
       ∙ sym (flat_map_push stripe_bytes S stripe)
 
+  many_here : length (S ++ stripe ∷ []) ≡ entities + 1
+  many_here = let long = length-append S (stripe ∷ []) in let many = r.head.stripes.many in omega (arith, long, many)
+
+  all_here : length (S ++ stripe ∷ []) ≡ stripe_count n h.l0
+  all_here = many_here ∙ stripes_of n h.l0 entities ok.stripe_from (omega (arith, n_is, some)) (omega (arith, n_is, fits))
+
+  each_here : AreStripes h (S ++ stripe ∷ [])
+  each_here = stripes_whole h n (image_start h.xd) (S ++ stripe ∷ []) (R ++ take k r.rows) (r.head.stripes.flags ++ front.flags) (next_stripe_start h.xd r.reset front.last) all_run
+
+  none_so_far : lengths (all_segments (S ++ stripe ∷ [])) ≡ []
+  none_so_far = ap lengths (segments_push S stripe) ∙ lengths_append (all_segments S) r.head.passed.segments ∙ ap (λ z. z ++ lengths r.head.passed.segments) none_before ∙ none_here
+
   -- whatever follows
   pub late_denotes : (rest : List ℕ) → DenotesAt h n (text ++ rest) (record { width = h.xd; rows = take n (R ++ r.rows) })
   late_denotes rest =
       subst (λ z. DenotesAt h n (text ++ rest) (record { width = h.xd; rows = z }))
       (sym (ap (λ m. take m (R ++ r.rows)) (n_is ∙ ap (λ m. m + k) (sym before_many)) ∙ take-append-add R r.rows k))
-      (carried_denotes h n (text ++ rest) rest (S ++ stripe ∷ []) (R ++ take k r.rows) (r.head.stripes.flags ++ front.flags) (next_stripe_start h.xd r.reset front.last) ok (omega (arith, n_is, some)) within (ap (λ z. z ++ rest) text_is)
-      ((let long = length-append S (stripe ∷ []) in let many = r.head.stripes.many in let e : length (S ++ stripe ∷ []) ≡ entities + 1 = omega (arith, long, many) in e) ∙ stripes_of n h.l0 entities ok.stripe_from (omega (arith, n_is, some)) (omega (arith, n_is, fits)))
-      (gives_none n 0 (all_segments (S ++ stripe ∷ [])) (omega arith) (ap lengths (segments_push S stripe) ∙ lengths_append (all_segments S) r.head.passed.segments ∙ ap (λ z. z ++ lengths r.head.passed.segments) none_before ∙ none_here))
-      all_run)
+      (carried_denotes h n (text ++ rest) rest (S ++ stripe ∷ []) (R ++ take k r.rows) (r.head.stripes.flags ++ front.flags) (next_stripe_start h.xd r.reset front.last) ok (omega (arith, n_is, some)) within (ap (λ z. z ++ rest) text_is) all_here
+      (gives_none n 0 (all_segments (S ++ stripe ∷ [])) (omega arith) none_so_far) all_run)
 
   pub late_out : out ≡ flat_map packed_row (R ++ r.rows)
   late_out = r.out_is ∙ ap (λ z. z ++ flat_map packed_row r.rows) r.head.stripes.appended ∙ sym (flat_map-append packed_row R r.rows)
+
+  none_with : {at : Option move.Move} {moved : Bool} {last : Bool} {back : List ℕ} {comments : ℕ} (p : HasPassed h (record { height = h.yd; entities = entities + 1; given = false }) last (Some back) (Some []) (segments_so_far at moved false comments)) → lengths (all_segments (S ++ stripe ∷ []) ++ p.segments) ≡ []
+  none_with p = lengths_append (all_segments (S ++ stripe ∷ [])) p.segments ∙ ap (λ z. z ++ lengths p.segments) none_so_far ∙ nil_of (lengths p.segments) (let e = p.given_is in omega (arith, e))
 
   -- it is the body's height
   pub late_gives : IsTrue (is_variable h) → is_valid_length h (entities + 1) n ≡ true → {at : Option move.Move} {moved : Bool} {last : Bool} {back : List ℕ} {comments : ℕ} (p : HasPassed h (record { height = h.yd; entities = entities + 1; given = false }) last (Some back) (Some []) (segments_so_far at moved false comments)) →
@@ -204,13 +218,22 @@ module _ {h : Fields} {entities row : ℕ} {text out : List ℕ} (q : CoderLaws)
     segments = p.segments;
     rest = rest;
     body_is = ap (λ z. z ++ (back ++ (segment_bytes (NewLength n) ++ rest))) text_is ∙ ap (λ z. flat_map stripe_bytes (S ++ stripe ∷ []) ++ (z ++ (segment_bytes (NewLength n) ++ rest))) (p.taken ∙ append-nil (flat_map segment_bytes p.segments));
-    each = stripes_whole h n (image_start h.xd) (S ++ stripe ∷ []) (R ++ take k r.rows) (r.head.stripes.flags ++ front.flags) (next_stripe_start h.xd r.reset front.last) all_run;
+    each = each_here;
     begun = p.begun;
-    first = lengths_append (all_segments (S ++ stripe ∷ [])) p.segments ∙ ap (λ z. z ++ lengths p.segments) (ap lengths (segments_push S stripe) ∙ lengths_append (all_segments S) r.head.passed.segments ∙ ap (λ z. z ++ lengths r.head.passed.segments) none_before ∙ none_here)
-        ∙ nil_of (lengths p.segments) (let e = p.given_is in omega (arith, e));
-    within = (let few = r.head.fewer in omega (arith, few, many));
-    behind = λ e. comments (sym many ∙ e);
-    valid = subst (λ m. is_valid_length h m n ≡ true) (sym many) valid;
-  } where
-    many : length (S ++ stripe ∷ []) ≡ entities + 1
-    many = let long = length-append S (stripe ∷ []) in let m = r.head.stripes.many in omega (arith, long, m)
+    first = none_with p;
+    within = (let few = r.head.fewer in let many = many_here in omega (arith, few, many));
+    behind = λ e. comments (sym many_here ∙ e);
+    valid = subst (λ m. is_valid_length h m n ≡ true) (sym many_here) valid;
+  }
+
+  -- the bytes up to it are the image's
+  pub late_consumes : {at : Option move.Move} {moved : Bool} {last : Bool} {back : List ℕ} {comments : ℕ} (p : HasPassed h (record { height = h.yd; entities = entities + 1; given = false }) last (Some back) (Some []) (segments_so_far at moved false comments)) →
+      (whole : List ℕ) → ConsumesImage h true n (text ++ (back ++ segment_bytes (NewLength n))) whole
+  late_consumes {back = back} p whole = record {
+    stripes = S ++ stripe ∷ [];
+    bytes = back ++ segment_bytes (NewLength n);
+    consumed_is = ap (λ z. z ++ (back ++ segment_bytes (NewLength n))) text_is;
+    each = each_here;
+    all = all_here;
+    behind = record { segments = p.segments; begun = p.begun; first = none_with p; bytes_are = ap (λ z. z ++ segment_bytes (NewLength n)) (p.taken ∙ append-nil (flat_map segment_bytes p.segments)) };
+  }

@@ -1,6 +1,6 @@
 -- The bytes behind the last stripe, and late heights.
 use Rattle.std.proofs.Common.{cond, ◌≡◌, ◌≢◌, ◌<◌, ◌≤◌, ◌+◌, ◌-◌, ◌*◌, ◌^◌, inl, inr, ℕ, Bool, true, false, List, [], ◌∷◌, ◌++◌, length, take, nat_le, count_by, Option, None, Some, refl, sym, ap, ◌∙◌, subst, append_assoc, append-nil, length-append, arith, true≢false}
-use Rattle.std.specs.Prelude.{flat_map, IsTrue}
+use Rattle.std.specs.Prelude.{IsTrue}
 use Rattle.std.specs.List.{AllByRecursion}
 use Rattle.std.proofs.lemmas.Bool.Decides.{nat_tests}
 use Rattle.std.proofs.lemmas.List.Sums.{sum_by-append}
@@ -8,7 +8,7 @@ use Rattle.std.proofs.lemmas.Grind.{div_ceil_times}
 use Rattle.byteorder.specs.Endian.{big_bytes}
 use Rattle.t85_core.specs.declared.fault.Fault.{Fault}
 use Rattle.t85_core.specs.declared.fault.Fault.TheVariants.{Truncated, Read}
-use Rattle.t85_core.specs.Lent.{PieceView, WalkView}
+use Rattle.t85_core.specs.Lent.{PieceView, WalkView, waits_behind}
 use Rattle.t85_core.specs.declared.pieces.behind.Behind.{Behind}
 use Rattle.t85_core.specs.declared.pieces.walk.Stage.TheVariants as stage
 use Rattle.t85_core.specs.declared.segments.Code as code_type
@@ -16,36 +16,29 @@ use Rattle.t85_core.specs.declared.segments.Move as move
 use Rattle.t85_core.specs.declared.segments.Place.{Place}
 use Rattle.t85_core.specs.Header.{Fields, is_variable}
 use Rattle.t85_core.specs.Options.{fields_of}
-use Rattle.t85_core.specs.Grammar.{Segment, NewLength, Move, Comment, ESC, COMMENT, segment_bytes, stripe_bytes, stripe_count, all_segments, lengths, is_move, is_comment, is_valid_length}
+use Rattle.t85_core.specs.Grammar.{Segment, NewLength, Move, Comment, ESC, COMMENT, segment_bytes, stripe_count, lengths, is_move, is_comment, is_valid_length}
 use Rattle.t85_core.specs.Failures.{Ends, counted_as}
-use Rattle.t85_core.specs.Height.{GivesHeight, IsHeight}
+use Rattle.t85_core.specs.Height.{GivesHeight}
 use Rattle.t85_core.specs.Denotes.{DenotesAt}
-use Rattle.t85_core.specs.Steps.State.{image_start}
-use Rattle.t85_core.specs.Pieces.{HoldsImage}
+use Rattle.t85_core.specs.Consumed.{ConsumesImage}
 use Rattle.t85_core.specs.Steps.CoderLaws.{CoderLaws}
 use Rattle.t85_core.specs.Steps.Segments.{HasPassed, PieceFault, code_bytes, segments_so_far}
 use Rattle.t85_core.specs.Steps.HeightWalk.{LookEnds}
-use Rattle.t85_core.specs.Steps.DecodeStripes.{StripesRead}
 use Rattle.t85_core.specs.Steps.Behind.{BehindStands, BehindOn, BreaksBehind, StopsBehind, move_came, behind_at}
 use Rattle.t85_core.specs.Steps.Pieces.{HeadStands, WalkStands, IsInCode, CodeStands, InRowStands, head_place, code_place}
 use Rattle.t85_core.specs.Steps.SizedImage.{sized}
-use Rattle.t85_core.specs.Steps.PieceStands.{HeightKnown, WalkWaits, IsAtMarker, place_behind, last_behind, entities_behind, is_last}
-use Rattle.t85_core.specs.Steps.PieceSteps.{SomeStand, DecoderOn, EndsWhole, StripeLeft, HeadEntered, HeightComes, LookIsOver, head_stage}
-use Rattle.t85_core.specs.Steps.Passage.{passage}
-use Rattle.t85_core.proofs.Bytes.Lengths.{gives_none, valid_over}
+use Rattle.t85_core.specs.Steps.PieceStands.{DecoderStands, HeightKnown, WalkWaits, IsAtMarker, place_behind, last_behind, entities_behind, is_last}
+use Rattle.t85_core.specs.Steps.PieceSteps.{SomeStand, DecoderOn, EndsConsumed, EndsWhole, HeadEntered, HeightComes, head_stage}
+use Rattle.t85_core.proofs.Bytes.Lengths.{valid_over}
 use Rattle.t85_core.proofs.Grammar.Heights.{one_height_of}
-use Rattle.t85_core.proofs.Grammar.SomeHeight.{height_of_ended}
 use Rattle.t85_core.proofs.Walks.Looked.{HasLooked, looked_fault, looked_code}
 use Rattle.t85_core.proofs.Walks.Segments.{comment_cut}
-use Rattle.t85_core.proofs.Decodings.CarriedDenotes.{stripes_whole}
-use Rattle.t85_core.proofs.Decodings.ImagePut.{image_read}
 use Rattle.t85_core.proofs.Decodings.PieceHead.{passed_ext}
 use Rattle.t85_core.proofs.Decodings.PieceInTime.{in_time_more}
-use Rattle.t85_core.proofs.Decodings.PieceSteps.{at_stage, put_stage, nil_of, last_stripe}
+use Rattle.t85_core.proofs.Decodings.PieceSteps.{at_stage, put_stage, nil_of}
 use Rattle.t85_core.proofs.Decodings.PieceHeights.{at_height, head_raised}
 use Rattle.t85_core.proofs.Decodings.PieceBehind.{front_is, part_of}
-use Rattle.t85_core.proofs.Decodings.PieceGiven.{read_holds}
-use Rattle.t85_core.proofs.Decodings.PieceLate.{RowsHeld, code_held, in_row_held, late_denotes, late_out, late_gives}
+use Rattle.t85_core.proofs.Decodings.PieceLate.{RowsHeld, code_held, in_row_held, late_consumes, late_denotes, late_out, late_gives}
 use Rattle.t85_core.proofs.Decodings.PieceStood.{own_height, place_at, waits_of, put_walks, put_waits, known_more, in_code_entities, in_code_last, marker_of}
 
 -- segments without a move and a height are comments
@@ -144,95 +137,67 @@ comments_behind h w some in_code left {at = at} p last = only_comments p.segment
 
 -- ---- the image ends in the stripe before
 
-pub late_whole : (d : PieceView) (q : CoderLaws) (n : ℕ) (p rest : List ℕ) → d.is_open ≡ true → d.waits ≡ true → d.behind.comment ≡ None → IsInCode d.walk.stage → HeightComes (fields_of d.header) d.walk n p rest → d.walk.left - (d.header.yd - n) ≤ d.header.l0 →
-    d.walk.left - (d.header.yd - n) ≤ d.walk.row → (is_all : Bool) → EndsWhole is_all d p n
-late_whole d q n p rest late waits between in_code comes fits few is_all text out more s follows = record {
-  height_is = λ m is. one_height_of ((text ++ p) ++ more) m n (own_height d.header).accepted is (inl (subst (λ z. GivesHeight (fields_of d.header) z n) (sym body) (late_gives q (own_height d.header).accepted r n (d.walk.left - (d.header.yd - n)) n_is few some fits within variable valid passed comments (rest ++ more))));
-  rows = r.head.stripes.rows ++ r.rows;
-  denotes = subst (λ z. DenotesAt (fields_of d.header) n z (record { width = d.header.xd; rows = take n (r.head.stripes.rows ++ r.rows) })) (sym body) (late_denotes q (own_height d.header).accepted r n (d.walk.left - (d.header.yd - n)) n_is few some fits within (w.behind.front ++ (segment_bytes (NewLength n) ++ (rest ++ more))));
-  out_is = late_out q (own_height d.header).accepted r n (d.walk.left - (d.header.yd - n)) n_is few some fits within;
-} where
-  w : WalkWaits (fields_of d.header) d.walk d.behind text out
-  w = waits_of d text out late waits s
+module _ (d : PieceView) (q : CoderLaws) (n : ℕ) (p rest : List ℕ) (late : d.is_open ≡ true) (waits : d.waits ≡ true) (between : d.behind.comment ≡ None) (in_code : IsInCode d.walk.stage) (comes : HeightComes (fields_of d.header) d.walk n p rest)
+    (fits : d.walk.left - (d.header.yd - n) ≤ d.header.l0) (few : d.walk.left - (d.header.yd - n) ≤ d.walk.row) where
+  abbrev h : Fields
+  h = fields_of d.header
 
-  r : RowsHeld (fields_of d.header) d.walk.entities d.walk.row w.done out
-  r = rows_held (fields_of d.header) d.walk d.behind text out q w in_code
+  -- the rows of the last stripe
+  abbrev k : ℕ
+  k = d.walk.left - (d.header.yd - n)
 
-  valid : is_valid_length (fields_of d.header) (d.walk.entities + 1) n ≡ true
-  valid = subst (λ z. is_valid_length (fields_of d.header) z n ≡ true) (in_code_entities d.walk.stage d.walk.entities in_code) comes.valid
+  valid : is_valid_length h (d.walk.entities + 1) n ≡ true
+  valid = subst (λ z. is_valid_length h z n ≡ true) (in_code_entities d.walk.stage d.walk.entities in_code) comes.valid
 
   over : d.walk.entities * d.header.l0 < n
-  over = let o = valid_over (fields_of d.header) (d.walk.entities + 1) n valid in let e : (d.walk.entities + 1 - 1) * d.header.l0 ≡ d.walk.entities * d.header.l0 = ap (λ (m : ℕ). m * d.header.l0) (let z : d.walk.entities + 1 - 1 ≡ d.walk.entities = omega arith in z) in omega (arith, o, e)
+  over = let o = valid_over h (d.walk.entities + 1) n valid in let e : (d.walk.entities + 1 - 1) * d.header.l0 ≡ d.walk.entities * d.header.l0 = ap (λ (m : ℕ). m * d.header.l0) (let z : d.walk.entities + 1 - 1 ≡ d.walk.entities = omega arith in z) in omega (arith, o, e)
 
   within : n ≤ d.header.yd
   within = comes.legal.2
 
-  n_is : n ≡ d.walk.entities * d.header.l0 + (d.walk.left - (d.header.yd - n))
-  n_is = let left = w.walk.left_is in omega (arith, left, over, within)
-
-  some : 1 ≤ (d.walk.left - (d.header.yd - n))
-  some = omega (arith, n_is, over)
-
-  variable : IsTrue (is_variable (fields_of d.header))
-  variable = s.height.variable late
-
-  passed : HasPassed (fields_of d.header) (record { height = d.header.yd; entities = d.walk.entities + 1; given = false }) (last_behind (fields_of d.header) d.walk.stage d.walk.left) (Some w.behind.front) (Some []) (segments_so_far d.behind.at (move_came (last_behind (fields_of d.header) d.walk.stage d.walk.left) d.behind.at) false w.behind.comments)
-  passed = subst (λ z. HasPassed (fields_of d.header) z (last_behind (fields_of d.header) d.walk.stage d.walk.left) (Some w.behind.front) (Some []) (segments_so_far d.behind.at (move_came (last_behind (fields_of d.header) d.walk.stage d.walk.left) d.behind.at) false w.behind.comments)) (place_here (fields_of d.header) d.walk d.behind text out q w in_code) w.behind.passed
-
-  comments : d.walk.entities + 1 ≡ stripe_count d.header.yd d.header.l0 → AllByRecursion (λ s. IsTrue (is_comment s)) passed.segments
-  comments = comments_behind (fields_of d.header) d.walk d.header.some_rows in_code w.walk.left_is passed
-
-  body : (text ++ p) ++ more ≡ w.done ++ (w.behind.front ++ (segment_bytes (NewLength n) ++ (rest ++ more)))
-  body =
-      append_assoc text p more ∙ ap (λ z. z ++ (p ++ more)) w.text_is ∙ append_assoc w.done w.back (p ++ more)
-      ∙ ap (λ z. w.done ++ (z ++ (p ++ more))) (front_is w.behind between) ∙ ap (λ z. w.done ++ (w.behind.front ++ z)) (ap (λ z. z ++ more) comes.piece_is ∙ append_assoc (segment_bytes (NewLength n)) rest more)
-
--- ---- the look is over
-
-pub look_whole : (d d' : PieceView) (p : List ℕ) (is_all : Bool) → CoderLaws → d.is_open ≡ true → d.waits ≡ true → last_behind (fields_of d.header) d.walk.stage d.walk.left ≡ true → LookIsOver is_all d p → StripeLeft d d' → EndsWhole is_all d p d.header.yd
-look_whole d d' p is_all q late waits last over ended text out more s follows =
-    subst (λ z. HoldsImage (fields_of d.header) z d.header.yd out) (sym body)
-    (read_holds (fields_of d.header) d.header.yd w.done out ((w.back ++ p) ++ more)
-    (λ m is. one_height_of (w.done ++ ((w.back ++ p) ++ more)) m d.header.yd (own_height d.header).accepted is height)
-    (image_read (fields_of d.header) d.header.yd (Some w.done) (Some []) (d.walk.entities + 1) 0 d'.walk.carried (Some []) (Some out) read (own_height d.header) many))
-  where
-    w : WalkWaits (fields_of d.header) d.walk d.behind text out
+  module _ {text out : List ℕ} (s : DecoderStands d text out) where
+    abbrev w : WalkWaits h d.walk d.behind text out
     w = waits_of d text out late waits s
 
-    in_code : IsInCode d.walk.stage
-    in_code = in_last (fields_of d.header) d.walk w.at last
+    r : RowsHeld h d.walk.entities d.walk.row w.done out
+    r = rows_held h d.walk d.behind text out q w in_code
 
-    read : StripesRead (fields_of d.header) d.header.yd (passage (Some w.done) (Some []) (Some []) (Some out)) (d.walk.entities + 1) 0 d'.walk.carried
-    read = subst (λ g. StripesRead (fields_of d.header) d.header.yd (passage (Some w.done) (Some []) (Some []) (Some out)) (d.walk.entities + 1) (cond {A = ℕ} g 1 0) d'.walk.carried) w.ungiven (ended.read w.done out w.walk)
+    n_is : n ≡ d.walk.entities * d.header.l0 + k
+    n_is = let left = w.walk.left_is in let low = over in let high = within in omega (arith, left, low, high)
 
-    all : d.header.yd ≤ (d.walk.entities + 1) * d.header.l0
-    all =
-        let t = sym (in_code_last d.walk.stage (nat_le d.walk.left d.header.l0) in_code) ∙ last in
-        let le : d.walk.left ≤ d.header.l0 = grind (arith, nat_tests) in
-        let left = w.walk.left_is in
-        let times : (d.walk.entities + 1) * d.header.l0 ≡ d.walk.entities * d.header.l0 + d.header.l0 = omega arith in
-        omega (arith, le, left, times)
+    some : 1 ≤ k
+    some = let is = n_is in let low = over in omega (arith, is, low)
 
-    many : d.walk.entities + 1 ≡ stripe_count d.header.yd d.header.l0
-    many = last_stripe d.header.yd d.header.l0 d.walk.entities d.header.some_rows (fewer_here (fields_of d.header) d.walk d.behind text out q w in_code) all
+    passed : HasPassed h (record { height = d.header.yd; entities = d.walk.entities + 1; given = false }) (last_behind h d.walk.stage d.walk.left) (Some w.behind.front) (Some []) (segments_so_far d.behind.at (move_came (last_behind h d.walk.stage d.walk.left) d.behind.at) false w.behind.comments)
+    passed = subst (λ z. HasPassed h z (last_behind h d.walk.stage d.walk.left) (Some w.behind.front) (Some []) (segments_so_far d.behind.at (move_came (last_behind h d.walk.stage d.walk.left) d.behind.at) false w.behind.comments)) (place_here h d.walk d.behind text out q w in_code) w.behind.passed
 
-    look : LookEnds (fields_of d.header) (place_behind (fields_of d.header) d.walk.stage d.walk.entities).entities ((w.back ++ p) ++ more)
-    look = over w.back more (subst (λ l. BehindStands (fields_of d.header) (behind_at (place_behind (fields_of d.header) d.walk.stage d.walk.entities) l) d.behind w.back) last w.behind) follows
+    comments : d.walk.entities + 1 ≡ stripe_count d.header.yd d.header.l0 → AllByRecursion (λ s. IsTrue (is_comment s)) passed.segments
+    comments = comments_behind h d.walk d.header.some_rows in_code w.walk.left_is passed
 
-    same : length read.stripes ≡ (place_behind (fields_of d.header) d.walk.stage d.walk.entities).entities
-    same = read.many ∙ sym (in_code_entities d.walk.stage d.walk.entities in_code)
+    front : (back : List ℕ) → text ++ back ≡ w.done ++ (w.behind.front ++ back)
+    front back = ap (λ z. z ++ back) w.text_is ∙ append_assoc w.done w.back back ∙ ap (λ z. w.done ++ (z ++ back)) (front_is w.behind between)
 
-    none : lengths (all_segments read.stripes) ≡ []
-    none = nil_of (lengths (all_segments read.stripes)) (let e = read.gives_in.heights_are in omega (arith, e))
+    body : (more : List ℕ) → (text ++ p) ++ more ≡ w.done ++ (w.behind.front ++ (segment_bytes (NewLength n) ++ (rest ++ more)))
+    body more = append_assoc text p more ∙ front (p ++ more) ∙ ap (λ z. w.done ++ (w.behind.front ++ z)) (ap (λ z. z ++ more) comes.piece_is ∙ append_assoc (segment_bytes (NewLength n)) rest more)
 
-    height : IsHeight (fields_of d.header) (w.done ++ ((w.back ++ p) ++ more)) d.header.yd
-    height = height_of_ended (own_height d.header).accepted read.stripes look.segments look.last (read.many ∙ many)
-        (stripes_whole (fields_of d.header) d.header.yd (image_start d.header.xd) read.stripes read.rows read.flags read.next read.run) (gives_none 0 0 (all_segments read.stripes) (omega arith) none)
-        (ap (λ z. z ++ ((w.back ++ p) ++ more)) (read.taken ∙ append-nil (flat_map stripe_bytes read.stripes))) look.are.comments look.are.legal
-        (λ n z valid e. look.no_height n z (subst (λ m. is_valid_length (fields_of d.header) m n ≡ true) same valid) e) look.no_comment look.rest_is
+  pub late_whole : (is_all : Bool) → EndsWhole is_all d p n
+  late_whole is_all text out more s follows = record {
+    height_is = λ m is. one_height_of ((text ++ p) ++ more) m n (own_height d.header).accepted is
+        (inl (subst (λ z. GivesHeight h z n) (sym (body s more)) (late_gives q (own_height d.header).accepted (r s) n k (n_is s) few (some s) fits within (s.height.variable late) valid (passed s) (comments s) (rest ++ more))));
+    rows = (r s).head.stripes.rows ++ (r s).rows;
+    denotes = subst (λ z. DenotesAt h n z (record { width = d.header.xd; rows = take n ((r s).head.stripes.rows ++ (r s).rows) })) (sym (body s more))
+        (late_denotes q (own_height d.header).accepted (r s) n k (n_is s) few (some s) fits within ((w s).behind.front ++ (segment_bytes (NewLength n) ++ (rest ++ more))));
+    out_is = late_out q (own_height d.header).accepted (r s) n k (n_is s) few (some s) fits within;
+  }
 
-    body : (text ++ p) ++ more ≡ w.done ++ ((w.back ++ p) ++ more)
-    body = ap (λ z. (z ++ p) ++ more) w.text_is ∙ ap (λ z. z ++ more) (append_assoc w.done w.back p) ∙ append_assoc w.done (w.back ++ p) more
+  pub late_consumed : (d' : PieceView) (is_all : Bool) → waits_behind d' ≡ true → EndsConsumed is_all d d' p rest n
+  late_consumed d' is_all still text out more s follows = (
+    segment_bytes (NewLength n),
+    comes.piece_is,
+    subst (λ b. ConsumesImage h b n (text ++ segment_bytes (NewLength n)) ((text ++ p) ++ more)) (sym still)
+        (subst (λ z. ConsumesImage h true n z ((text ++ p) ++ more)) (sym (front s (segment_bytes (NewLength n))))
+        (late_consumes q (own_height d.header).accepted (r s) n k (n_is s) few (some s) fits within (passed s) ((text ++ p) ++ more))),
+  )
 
 -- ---- the height is raised
 

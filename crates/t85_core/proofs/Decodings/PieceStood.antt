@@ -34,16 +34,17 @@ use Rattle.t85_core.specs.Options.{fields_of}
 use Rattle.t85_core.specs.Height.{GivesHeight, IsHeight}
 use Rattle.t85_core.specs.Laws.{IsInUse}
 use Rattle.t85_core.specs.Pieces.{AwaitsHeight, HasDecoded, HasHeight, HandsOut, HoldsImage, row_held, stripes_ended}
+use Rattle.t85_core.specs.Consumed.{ConsumesImage}
 use Rattle.t85_core.specs.Steps.Behind.{BehindStands, BreaksBehind, StopsBehind, behind_at}
 use Rattle.t85_core.specs.Steps.InTime.{MarkerAfterRows}
 use Rattle.t85_core.specs.Steps.Pieces.{HeadStands, CommentStands, InRowStands, IsFirstWalk, WalkStands, CutOff, SomeStands, StepsOn, StepsOff, Step, RowStep, RowLeaves, StripesOn, StageStands, KeepsPlace, HasMarker, IsInCode, head_place, code_place}
 use Rattle.t85_core.specs.Steps.SizedImage.{sized}
 use Rattle.t85_core.specs.Steps.PieceStands.{DecoderStands, HeightKnown, StandsAs, CodeWalks, WalkWaits, IsAtMarker, entities_behind, is_last, place_behind, last_behind}
-use Rattle.t85_core.specs.Steps.PieceSteps.{SomeStand, DecoderOn, DecoderOnAfterRows, EndsWhole, EndsBroken, NoHeightBelow, StaysOpen, StepLeaves, KeepsDecoder, StripeLeft, StripeClosed, HeadEntered, RowsAreGiven, head_stage, steps_left}
+use Rattle.t85_core.specs.Steps.PieceSteps.{SomeStand, DecoderOn, DecoderOnAfterRows, EndsConsumed, EndsWhole, EndsBroken, NoHeightBelow, StaysOpen, StepLeaves, KeepsDecoder, StripeLeft, StripeClosed, HeadEntered, RowsAreGiven, head_stage, steps_left}
 use Rattle.t85_core.specs.Steps.Passage.{passage}
 use Rattle.t85_core.proofs.Decodings.ImagePut.{in_use}
 use Rattle.t85_core.proofs.Decodings.PieceBehind.{behind_first, front_is, part_of}
-use Rattle.t85_core.proofs.Decodings.PieceGiven.{cut_hands, cut_hands_first, piece_other, height_known, read_holds}
+use Rattle.t85_core.proofs.Decodings.PieceGiven.{cut_hands, cut_hands_first, piece_other, height_known, read_consumes, read_holds}
 use Rattle.t85_core.proofs.Decodings.PieceInTime.{in_time_more, in_time_empty}
 use Rattle.t85_core.proofs.Decodings.PieceHead.{head_code, head_cut, comment_off}
 
@@ -122,7 +123,7 @@ abbrev AnswerLeaves : Bool → PieceView → PieceView → List ℕ → List ℕ
 AnswerLeaves is_all d d' p p' None = DecoderOn d d' p p' []
 AnswerLeaves is_all d d' p p' (Some outcome.Row) = DecoderOn d d' p p' (row_held d') × NoHeightBelow is_all d d' p
 AnswerLeaves is_all d d' p p' (Some outcome.More) = (is_all ≡ false) × DecoderOn d d' p p' [] × (waits_behind d' ≡ false → EndsBroken true d p d'.height Truncated) × (length p' ≤ 7) × (waits_behind d' ≡ true → StaysOpen d d' p)
-AnswerLeaves is_all d d' p p' (Some (outcome.Done n)) = (d'.height ≡ n) × EndsWhole is_all d p n
+AnswerLeaves is_all d d' p p' (Some (outcome.Done n)) = (d'.height ≡ n) × EndsWhole is_all d p n × EndsConsumed is_all d d' p p' n
 AnswerLeaves is_all d d' p p' (Some (outcome.Broken f)) = EndsBroken is_all d p d'.height f
 
 leaves_as : (is_all : Bool) (d d' : PieceView) (p p' : List ℕ) (r : Option Outcome) → d'.header ≡ d.header → d'.end ≡ d.end → AnswerLeaves is_all d d' p p' r → StepLeaves is_all d d' p p' r
@@ -321,6 +322,16 @@ module _ (is_all : Bool) (d e d' : PieceView) (p p1 p' : List ℕ) (header : e.h
       subst (λ k. HoldsImage (fields_of k) ((text ++ p) ++ rest) n out) header (subst (λ z. HoldsImage (fields_of e.header) z n out) (all_text text a.0 rest a.1)
       (subst (λ z. HoldsImage (fields_of e.header) (((text ++ a.0) ++ p1) ++ rest) n z) (append-nil out) (whole (text ++ a.0) (out ++ []) rest a.2 follows)))
 
+  consumed_after : (n : ℕ) → EndsConsumed is_all e d' p1 p' n → EndsConsumed is_all d d' p p' n
+  consumed_after n consumed text out rest s follows =
+      let a = on text out s in
+      let b = consumed (text ++ a.0) (out ++ []) rest a.2 follows in (
+        a.0 ++ b.0,
+        a.1 ∙ ap (λ z. a.0 ++ z) b.1 ∙ sym (append_assoc a.0 b.0 p'),
+        subst (λ k. ConsumesImage (fields_of k) (waits_behind d') n (text ++ (a.0 ++ b.0)) ((text ++ p) ++ rest)) header (subst (ConsumesImage (fields_of e.header) (waits_behind d') n (text ++ (a.0 ++ b.0))) (all_text text a.0 rest a.1)
+            (subst (λ z. ConsumesImage (fields_of e.header) (waits_behind d') n z (((text ++ a.0) ++ p1) ++ rest)) (append_assoc text a.0 b.0) b.2)),
+      )
+
   waits_after : NoHeightBelow is_all e d' p1 → NoHeightBelow is_all d d' p
   waits_after waits late marked text out rest n s follows i =
       let a = on text out s in
@@ -341,7 +352,7 @@ module _ (is_all : Bool) (d e d' : PieceView) (p p1 p' : List ℕ) (header : e.h
     row = λ is. on_compose d e d' p p1 p' (row_held d') on (k.row is);
     waits = λ is. waits_after (k.waits is);
     more = λ is. let m = k.more is in (m.0, on_compose d e d' p p1 p' [] on m.1, (λ w. broken_after true d'.height Truncated (m.2 w)), m.3, (λ w. open_after (m.4 w)));
-    done = λ n is. let m = k.done n is in (m.0, whole_after n m.1);
+    done = λ n is. let m = k.done n is in (m.0, whole_after n m.1, consumed_after n m.2);
     broken = λ f is. broken_after is_all d'.height f (k.broken f is);
   }
 
@@ -349,8 +360,8 @@ module _ (is_all : Bool) (d e d' : PieceView) (p p1 p' : List ℕ) (header : e.h
 pub leaves_broken : (is_all : Bool) (d d' : PieceView) (p p' : List ℕ) (f : Fault) → d'.header ≡ d.header → d'.end ≡ d.end → EndsBroken is_all d p d'.height f → StepLeaves is_all d d' p p' (Some (outcome.Broken f))
 leaves_broken is_all d d' p p' f header going broken = leaves_as is_all d d' p p' (Some (outcome.Broken f)) header going broken
 
-pub leaves_done : (is_all : Bool) (d d' : PieceView) (p p' : List ℕ) (n : ℕ) → d'.header ≡ d.header → d'.end ≡ d.end → d'.height ≡ n → EndsWhole is_all d p n → StepLeaves is_all d d' p p' (Some (outcome.Done n))
-leaves_done is_all d d' p p' n header going height whole = leaves_as is_all d d' p p' (Some (outcome.Done n)) header going (height, whole)
+pub leaves_done : (is_all : Bool) (d d' : PieceView) (p p' : List ℕ) (n : ℕ) → d'.header ≡ d.header → d'.end ≡ d.end → d'.height ≡ n → EndsWhole is_all d p n → EndsConsumed is_all d d' p p' n → StepLeaves is_all d d' p p' (Some (outcome.Done n))
+leaves_done is_all d d' p p' n header going height whole consumed = leaves_as is_all d d' p p' (Some (outcome.Done n)) header going (height, whole, consumed)
 
 -- ---- in the code
 
@@ -608,6 +619,19 @@ module _ (d : PieceView) (known : d.is_open ≡ false) where
       (read_holds (fields_of d.header) d.height (text ++ k.0) out (p' ++ rest) (subst (λ z. HasHeight (fields_of d.header) z d.height) (sym (append_assoc text k.0 (p' ++ rest))) (known_of text (k.0 ++ (p' ++ rest)) s.height))
       (at_stage done (subst (WalkStands (sized (fields_of d.header) d.height) w (text ++ k.0)) (append-nil out) k.2)))
 
+  pub turn_consumed : (d' : PieceView) (p p' : List ℕ) → KeepsDecoder d d' → StepsOn (sized (fields_of d.header) d.height) d.walk d'.walk p p' [] → d'.walk.stage ≡ stage.Done → (is_all : Bool) → EndsConsumed is_all d d' p p' d.height
+  turn_consumed d' p p' keeps on done is_all text out rest s follows =
+      let k = on text out (walks_of d text out known s) in
+      let body : (text ++ k.0) ++ (p' ++ rest) ≡ (text ++ p) ++ rest = append_assoc text k.0 (p' ++ rest) ∙ ap (λ z. text ++ z) (sym (append_assoc k.0 p' rest) ∙ ap (λ z. z ++ rest) (sym k.1)) ∙ sym (append_assoc text p rest) in
+      let height = subst (λ b. HeightKnown (fields_of d.header) d.height b (text ++ k.0)) known (known_more (fields_of d.header) d.height d.is_open text k.0 s.height) in (
+        k.0,
+        k.1,
+        subst (λ b. ConsumesImage (fields_of d.header) (b && d'.waits) d.height (text ++ k.0) ((text ++ p) ++ rest)) (sym (keeps.is_open ∙ known))
+            (subst (ConsumesImage (fields_of d.header) false d.height (text ++ k.0)) body
+            (read_consumes (fields_of d.header) d.height (text ++ k.0) out (p' ++ rest) (own_height d.header).accepted height
+            (at_stage done (subst (WalkStands (sized (fields_of d.header) d.height) d'.walk (text ++ k.0)) (append-nil out) k.2)))),
+      )
+
   pub turn_broken : (p : List ℕ) (f : Fault) → StepsOff (sized (fields_of d.header) d.height) d.walk p f → (is_all : Bool) → (f ≡ Truncated → is_all ≡ true) → EndsBroken is_all d p d.height f
   turn_broken p f off is_all all text out rest s follows =
       cut_hands (fields_of d.header) d.height (text ++ p) out rest f (subst (λ z. HasHeight (fields_of d.header) z d.height) (sym (append_assoc text p rest)) (known_of text (p ++ rest) s.height)) (λ t. follows (all t)) (off text out (walks_of d text out known s))
@@ -682,7 +706,7 @@ module _ (is_all : Bool) (d d' : PieceView) (p p' : List ℕ) (header : d'.heade
     row = λ e text out s. (there (text, out, s)).row e text out s;
     waits = λ e late marked text out rest n s. (there (text, out, s)).waits e late marked text out rest n s;
     more = λ e. ((cut e).0, (λ text out s. ((there (text, out, s)).more e).1 text out s), (λ w text out rest s. ((there (text, out, s)).more e).2 w text out rest s), (cut e).1, (λ w text out s. ((there (text, out, s)).more e).4 w text out s));
-    done = λ n e. (done n e, (λ text out rest s. ((there (text, out, s)).done n e).1 text out rest s));
+    done = λ n e. (done n e, (λ text out rest s. ((there (text, out, s)).done n e).1 text out rest s), (λ text out rest s. ((there (text, out, s)).done n e).2 text out rest s));
     broken = λ f e text out rest s. (there (text, out, s)).broken f e text out rest s;
   }
 

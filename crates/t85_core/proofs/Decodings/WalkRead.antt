@@ -267,6 +267,8 @@ module _ (h : Fields) (height : ℕ) (w w' : WalkView) (known known' known'' tex
       record {
         given = done.given;
         taken = subst (Consumes known known'') (done.taken ∙ append-nil done.given) (Consumes-more known known' known'' so.bytes x.0 so.taken x.1);
+        parts = done.parts;
+        only = done.only;
         rows = done.rows;
         denotes = done.denotes;
         appended = subst (Appends text text') (sym (append-nil so.out) ∙ done.appended) so.put;

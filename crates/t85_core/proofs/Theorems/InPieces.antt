@@ -2,16 +2,17 @@
 use Rattle.std.proofs.Common.{◌≡◌, ℕ, List, [], ◌∷◌, ◌++◌, refl, sym, ap, ◌∙◌, subst, append_assoc, append-nil}
 use Rattle.std.specs.Prelude.{flat_map}
 use Rattle.t85_core.specs.declared.fault.Fault.TheVariants.{Truncated}
-use Rattle.t85_core.specs.Lent.{PieceView}
+use Rattle.t85_core.specs.Lent.{PieceView, waits_behind}
 use Rattle.t85_core.specs.declared.pieces.Outcome.{Outcome}
 use Rattle.t85_core.specs.declared.pieces.Outcome.TheVariants as outcome
 use Rattle.t85_core.specs.Height.{IsHeight}
-use Rattle.t85_core.specs.Pieces.{AwaitsHeight, PiecesAwait, stripes_ended, stream_of, row_held, HasDecoded, HandsOut, HoldsImage, PiecesTaken, PiecesWait, PiecesMore, PiecesWhole, PiecesBroken, Call, IsCallBy, StreamGoesOn, bytes_taken, given_with, row_given, AreCalls, decoder_after}
+use Rattle.t85_core.specs.Pieces.{AwaitsHeight, PiecesAwait, PiecesConsumed, stripes_ended, stream_of, row_held, HasDecoded, HandsOut, HoldsImage, PiecesTaken, PiecesWait, PiecesMore, PiecesWhole, PiecesBroken, Call, IsCallBy, StreamGoesOn, bytes_taken, given_with, row_given, AreCalls, decoder_after}
+use Rattle.t85_core.specs.Consumed.{ConsumesImage}
 use Rattle.t85_core.specs.Feeds.{HasFed, Feed, AreFeeds, FeedsTaken, decoder_fed, held_after}
 
 -- a call more
-call_on : (Before After : List ℕ → List ℕ → Type 0) (d : PieceView) (call : Call) → IsCallBy Before After d call → StreamGoesOn call.answer → (text out : List ℕ) → Before text out → After (text ++ bytes_taken call) (out ++ row_given call)
-call_on Before After d call is on text out s = by_answer call.answer refl where
+call_on : (Before After : List ℕ → List ℕ → Type 0) (stored : List ℕ) (d : PieceView) (call : Call) → IsCallBy Before After stored d call → StreamGoesOn call.answer → (text out : List ℕ) → Before text out → After (text ++ bytes_taken call) (out ++ row_given call)
+call_on Before After stored d call is on text out s = by_answer call.answer refl where
   same : (row : List ℕ) → row_given call ≡ row → After (text ++ bytes_taken call) (out ++ row) → After (text ++ bytes_taken call) (out ++ row_given call)
   same row e k = subst (λ z. After (text ++ bytes_taken call) (out ++ z)) (sym e) k
 
@@ -27,7 +28,7 @@ calls_on d [] are text out s = subst (λ z. HasDecoded d z (out ++ [])) (sym (ap
 calls_on d (call ∷ calls) are text out s =
     subst (λ z. HasDecoded (decoder_after call.new calls) z (out ++ flat_map row_given (call ∷ calls))) (append_assoc text (bytes_taken call) (flat_map bytes_taken calls))
     (subst (HasDecoded (decoder_after call.new calls) ((text ++ bytes_taken call) ++ flat_map bytes_taken calls)) (append_assoc out (row_given call) (flat_map row_given calls))
-    (calls_on call.new calls are.2 (text ++ bytes_taken call) (out ++ row_given call) (call_on (HasDecoded d) (HasDecoded call.new) d call are.0 are.1 text out s)))
+    (calls_on call.new calls are.2 (text ++ bytes_taken call) (out ++ row_given call) (call_on (HasDecoded d) (HasDecoded call.new) [] d call are.0 are.1 text out s)))
 
 -- where bytes are held
 feeds_on : (d : PieceView) (held : List ℕ) (feeds : List Feed) → AreFeeds d held feeds → (text out : List ℕ) → HasFed d held text out →
@@ -36,7 +37,7 @@ feeds_on d held [] are text out s = subst (λ z. HasFed d held z (out ++ [])) (s
 feeds_on d held (feed ∷ feeds) are text out s =
     subst (λ z. HasFed (decoder_fed feed.call.new feeds) (held_after feed.held feeds) z (out ++ flat_map (λ feed. row_given feed.call) (feed ∷ feeds))) (append_assoc text (bytes_taken feed.call) (flat_map (λ feed. bytes_taken feed.call) feeds))
     (subst (HasFed (decoder_fed feed.call.new feeds) (held_after feed.held feeds) ((text ++ bytes_taken feed.call) ++ flat_map (λ feed. bytes_taken feed.call) feeds)) (append_assoc out (row_given feed.call) (flat_map (λ feed. row_given feed.call) feeds))
-    (feeds_on feed.call.new feed.held feeds are.2 (text ++ bytes_taken feed.call) (out ++ row_given feed.call) (call_on (HasFed d held) (HasFed feed.call.new feed.held) d feed.call are.0.fed are.1 text out s)))
+    (feeds_on feed.call.new feed.held feeds are.2 (text ++ bytes_taken feed.call) (out ++ row_given feed.call) (call_on (HasFed d held) (HasFed feed.call.new feed.held) feed.held d feed.call are.0.fed are.1 text out s)))
 
 pub fed_at : FeedsTaken
 fed_at d feeds s are = feeds_on d [] feeds are [] [] (record { decoded = []; text_is = refl; has = s })
@@ -68,6 +69,12 @@ pub whole_at : PiecesWhole
 whole_at d calls last height rest s are is e follows =
     subst (λ z. HoldsImage z ((flat_map bytes_taken calls ++ last.piece) ++ rest) height (flat_map row_given calls)) (stream_after d calls are)
     ((is.done height e).1 (flat_map bytes_taken calls) (flat_map row_given calls) rest (taken_at d calls s are) follows)
+
+pub consumed_at : PiecesConsumed
+consumed_at d calls last height rest s are is e follows =
+    let w = is.consumed height e (flat_map bytes_taken calls) (flat_map row_given calls) rest (taken_at d calls s are) follows in
+    subst (λ z. ConsumesImage z (waits_behind last.new) height (flat_map bytes_taken calls ++ bytes_taken last) ((flat_map bytes_taken calls ++ last.piece) ++ rest)) (stream_after d calls are)
+    (subst (λ z. ConsumesImage (stream_of (decoder_after d calls)) (waits_behind last.new) height z ((flat_map bytes_taken calls ++ last.piece) ++ rest)) (sym (w.1 ∙ append-nil w.0)) w.2)
 
 pub broken_at : PiecesBroken
 broken_at d calls last fault rest s are is e follows =

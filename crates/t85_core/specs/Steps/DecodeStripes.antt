@@ -1,12 +1,12 @@
 -- The effect of a decoder of stripes.
-use Rattle.std.specs.Prelude.{ℕ, ◌+◌, ◌≡◌, Bool, List, ◌++◌, length, Option, flat_map, ◌⊎◌}
+use Rattle.std.specs.Prelude.{ℕ, ◌+◌, ◌≡◌, Bool, List, [], ◌++◌, length, Option, flat_map, ◌⊎◌}
 use Rattle.std.specs.Io.KnownBytes.{Appends, Consumes}
 use Rattle.pbm_core.specs.Device.{AppendsBeginning}
 use Rattle.qm_core.specs.Code.{stuffed}
 use Rattle.raster_core.specs.Packed.{packed_row}
 use Rattle.t85_core.specs.Lent.{Carried}
 use Rattle.t85_core.specs.Header.{Fields}
-use Rattle.t85_core.specs.Grammar.{Segment, Stripe, segment_bytes, stripe_bytes, IsBegun, lengths, all_segments, GiveOnly}
+use Rattle.t85_core.specs.Grammar.{Parts, Segment, Stripe, segment_bytes, stripe_bytes, IsBegun, lengths, all_segments, GiveOnly}
 use Rattle.t85_core.specs.Refusal.{Spot, StripeFault}
 use Rattle.t85_core.specs.Failures.{Ends}
 use Rattle.t85_core.specs.Denotes.{DenotesAt}
@@ -75,6 +75,8 @@ pub record StripesRead (h : Fields) (height : ℕ) (bytes : Passage) (count heig
 pub record ImageRead (h : Fields) (height : ℕ) (bytes : Passage) : Type 0 where
   pub given : List ℕ
   pub taken : Consumes bytes.input bytes.input_after given
+  pub parts : Parts h height given
+  pub only : parts.rest ≡ []
   pub rows : List (List Bool)
   pub denotes : (rest : List ℕ) → DenotesAt h height (given ++ rest) (record { width = h.xd; rows = rows })
   pub appended : Appends bytes.output bytes.output_after (flat_map packed_row rows)

@@ -256,8 +256,8 @@ fn code_len(bytes: &[u8]) -> usize
     len
 }
 
-/// The end marker at the beginning of these bytes: whether it resets.
-pub(crate) fn marker_at(bytes: &[u8]) -> Option<bool>
+/// The end marker (SDNORM or SDRST) at the beginning of these bytes: whether it resets the contexts (T.82, 6.2.5).
+pub fn marker_at(bytes: &[u8]) -> Option<bool>
     ensures some { IfSome result (λ reset. (rest : List ℕ) ×
         (bytes.now ≡ marker_bytes reset ++ rest)) }
     ensures none { result ≡ None → (reset : Bool) (rest : List ℕ) →

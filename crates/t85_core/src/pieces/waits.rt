@@ -133,6 +133,7 @@ impl PieceDecoder {
             return Some(Outcome::Row);
         }
         if self.ends_in_stripe(left) {
+            piece.rest = rest;
             self.height = height;
             return Some(Outcome::Done(height));
         }
@@ -224,6 +225,7 @@ impl PieceDecoder {
             return Outcome::Row;
         }
         self.end_stripe(lent);
+        self.waits = false;
         Outcome::Done(self.height)
     }
 }

@@ -1,4 +1,4 @@
-use Rattle.t85_core.proofs.Theorems.InPieces.{taken_at, fed_at, wait_at, more_at, await_at, whole_at, broken_at}
+use Rattle.t85_core.proofs.Theorems.InPieces.{taken_at, fed_at, wait_at, more_at, await_at, whole_at, consumed_at, broken_at}
 use Rattle.t85_core.proofs.laws.pieces.Goals as goal
 
 pub returns-clause-taken : goal.returns-clause-taken
@@ -18,6 +18,9 @@ returns-clause-awaits c = await_at
 
 pub returns-clause-whole : goal.returns-clause-whole
 returns-clause-whole c = whole_at
+
+pub returns-clause-consumed : goal.returns-clause-consumed
+returns-clause-consumed c = consumed_at
 
 pub returns-clause-broken : goal.returns-clause-broken
 returns-clause-broken c = broken_at

@@ -1,10 +1,10 @@
-use Rattle.std.proofs.Common.{◌++◌, ◌∙◌, [], Some, true≢false, ap, append-nil, arith, refl, subst, sym}
+use Rattle.std.proofs.Common.{◌++◌, ◌∙◌, [], Some, take, true≢false, ap, append-nil, arith, refl, subst, sym}
 use Rattle.t85_core.specs.Options.{fields_of}
 use Rattle.t85_core.specs.Outcomes.{end_in}
 use Rattle.t85_core.specs.Pieces.{HasDecoded, HandsOut, stream_of, row_held}
 use Rattle.t85_core.specs.declared.fault.Fault.TheVariants.{Truncated}
 use Rattle.t85_core.specs.Lent.{decoder_lent}
-use Rattle.t85_core.proofs.Decodings.PieceStood.{call_on}
+use Rattle.t85_core.proofs.Decodings.PieceStood.{call_on, taken_is}
 use Rattle.t85_core.proofs.pieces.PieceDecoder.take.Goals as goal
 
 pub returns-clause-call : goal.returns-clause-call
@@ -24,5 +24,11 @@ returns-clause-call c = record {
       );
   done = λ n is.
       let k = c.go_on-outcome.ensures.leaves.done n (ap Some is) in (k.0, (λ text out rest s follows. k.1 text out rest s.stands follows));
+  consumed = λ n is text out rest s follows.
+      let k = (c.go_on-outcome.ensures.leaves.done n (ap Some is)).2 text out rest s.stands follows in (
+        text ++ k.0,
+        ap (λ z. text ++ z) (ap (λ m. take m c.args.piece.now) c.saturating_sub.ensures ∙ taken_is c.args.piece.now c.go_on-outcome.new.piece.rest.now k.0 k.1) ∙ sym (append-nil (text ++ k.0)),
+        k.2,
+      );
   broken = λ f is text out rest s follows. c.go_on-outcome.ensures.leaves.broken f (ap Some is) text out rest s.stands follows;
 }

@@ -1,11 +1,12 @@
 use Rattle.std.proofs.Common.{◌≡◌, ◌∙◌, ◌≤◌, ◌<◌, ◌-◌, refl, sym, ap, subst, true, false, rules, arith}
+use Rattle.std.specs.Prelude.{◌&&◌}
 use Rattle.t85_core.specs.Options.{fields_of}
 use Rattle.t85_core.specs.Steps.Pieces.{IsInCode}
 use Rattle.t85_core.specs.Steps.PieceStands.{last_behind}
 use Rattle.t85_core.specs.Steps.PieceSteps.{SomeStand, HeadEntered}
 use Rattle.t85_core.specs.Lent.{decoder_lent, walk_lent}
 use Rattle.t85_core.proofs.Decodings.PieceStood.{leaves_on, leaves_done, on_where, row_where, not_last}
-use Rattle.t85_core.proofs.Decodings.PieceLook.{late_whole, height_over, raised_on}
+use Rattle.t85_core.proofs.Decodings.PieceLook.{late_consumed, late_whole, height_over, raised_on}
 use Rattle.t85_core.proofs.Decodings.PieceBelow.{leaves_height}
 use Rattle.t85_core.proofs.pieces.PieceDecoder.take_height.Goals as goal
 
@@ -24,8 +25,11 @@ returns-then-ends_in_stripe-clause-leaves c = λ is_all.
     let fits : c.args.self.now.walk.left - (c.args.self.now.header.yd - c.args.height) ≤ c.args.self.now.header.l0 = omega (arith, low, left) in
     let given = above.all code in
     let few : c.args.self.now.walk.left - (c.args.self.now.header.yd - c.args.height) ≤ c.args.self.now.walk.row = omega (arith, c.min.ensures, left, fits, given) in
-    leaves_done is_all (decoder_lent c.args.self.now c.args.lent.now) _ c.args.piece.now.rest.now c.args.piece.now.rest.now c.args.height (ap (λ z. z.header) above.same) (ap (λ z. z.end) above.same) refl
+    let ended = record (decoder_lent c.gives_below.new.self c.gives_below.new.lent) { height = c.args.height } in
+    leaves_done is_all (decoder_lent c.args.self.now c.args.lent.now) ended c.args.piece.now.rest.now c.args.rest.now c.args.height (ap (λ z. z.header) above.same) (ap (λ z. z.end) above.same) refl
     (late_whole (decoder_lent c.args.self.now c.args.lent.now) c.coder_laws.ensures c.args.height c.args.piece.now.rest.now c.args.rest.now c.requires.looks.0 c.requires.looks.1 c.requires.between code c.requires.comes fits few is_all)
+    (late_consumed (decoder_lent c.args.self.now c.args.lent.now) c.coder_laws.ensures c.args.height c.args.piece.now.rest.now c.args.rest.now c.requires.looks.0 c.requires.looks.1 c.requires.between code c.requires.comes fits few ended is_all
+    (ap (λ z. z.is_open && z.waits) above.same ∙ ap (λ b. b && c.args.self.now.waits) c.requires.looks.0 ∙ c.requires.looks.1))
 
 pub returns-clause-leaves : goal.returns-clause-leaves
 returns-clause-leaves c = λ is_all.

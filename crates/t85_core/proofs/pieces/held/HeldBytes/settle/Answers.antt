@@ -1,6 +1,6 @@
 use Rattle.std.proofs.Common.{◌≡◌, ◌++◌, ◌-◌, min, take, drop, refl, sym, ap, ◌∙◌, arith}
 use Rattle.t85_core.specs.Feeds.{held_bytes}
-use Rattle.t85_core.proofs.Decodings.PieceFeeds.{settled_all, settled_first}
+use Rattle.t85_core.proofs.Decodings.PieceFeeds.{settled_all, settled_earlier, settled_first}
 use Rattle.t85_core.proofs.pieces.held.HeldBytes.settle.Goals as goal
 
 pub returns-in-More : goal.returns-in-More
@@ -9,6 +9,7 @@ returns-in-More c = record {
   bound = omega arith;
   rest = settled_all c.args.bytes.now (held_bytes c.keep.new.self) c.args.count c.args.call.taken (c.keep.ensures ∙ c.split_at.ensures.back);
   all = λ _. refl;
+  earlier = λ other. absurd (other c.in-More.is);
   none = λ z other. absurd (other c.in-More.is);
 }
 
@@ -20,6 +21,7 @@ returns-in_default c =
       bound = omega (arith, c.saturating_sub.ensures, c.requires.bound);
       rest = ap (λ n. held_bytes c.keep-in_default.new.self ++ drop n (drop c.args.count c.args.bytes.now)) c.saturating_sub.ensures ∙ settled_first c.args.bytes.now (held_bytes c.keep-in_default.new.self) c.args.count c.args.call.taken c.requires.within held;
       all = λ e. absurd (c.in_default.not-More e);
+      earlier = λ _. settled_earlier c.args.bytes.now (held_bytes c.keep-in_default.new.self) c.args.count c.args.call.taken c.saturating_sub.result c.requires.within held c.saturating_sub.ensures;
       none = λ z _.
           let first : min c.args.call.taken c.args.count ≡ 0 = omega (arith, z) in
           let none : c.args.call.taken - c.args.count ≡ 0 = omega (arith, z) in (held ∙ ap (λ n. drop n (take c.args.count c.args.bytes.now)) first, c.saturating_sub.ensures ∙ none);
