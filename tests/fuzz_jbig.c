@@ -39,10 +39,21 @@ text zeros(size_t len)
     return made;
 }
 
+/* The room for this many bytes. It doubles, so that appending row by row takes linear time. */
+static size_t room_for(size_t len)
+{
+    size_t room = 64;
+    while (room < len)
+        room *= 2;
+    return room;
+}
+
 void put(byte *start, size_t len, void *file)
 {
     text *to = file;
-    to->bytes = realloc(to->bytes, to->len + len + 1);
+    size_t room = room_for(to->len + len);
+    if (!to->bytes || room > room_for(to->len))
+        to->bytes = realloc(to->bytes, room);
     CHECK(to->bytes);
     memcpy(to->bytes + to->len, start, len);
     to->len += len;

@@ -32,7 +32,7 @@ unsigned long roll(unsigned long count);
 text copy(const byte *bytes, size_t len);
 text zeros(size_t len);
 
-/* Appends bytes; has the type of data_out. */
+/* Appends bytes to those of earlier calls, of which there were none at {NULL, 0}; has the type of data_out. */
 void put(byte *start, size_t len, void *file);
 
 /* Returns an image of random size, with the pixels of `from`, repeated. */
