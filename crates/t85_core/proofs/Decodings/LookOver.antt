@@ -26,7 +26,8 @@ use Rattle.t85_core.proofs.Decodings.ImagePut.{image_read}
 use Rattle.t85_core.proofs.Decodings.PieceSteps.{nil_of, last_stripe}
 use Rattle.t85_core.proofs.Decodings.PieceGiven.{read_holds}
 use Rattle.t85_core.proofs.Decodings.PieceStood.{own_height, waits_of, in_code_entities, in_code_last}
-use Rattle.t85_core.proofs.Decodings.PieceLook.{in_last, fewer_here}
+use Rattle.t85_core.proofs.Decodings.PieceBehind.{comments_so_far}
+use Rattle.t85_core.proofs.Decodings.PieceLook.{comments_behind, in_last, fewer_here}
 
 module _ (d d' : PieceView) (p : List ℕ) (is_all : Bool) (q : CoderLaws) (late : d.is_open ≡ true) (waits : d.waits ≡ true) (last : last_behind (fields_of d.header) d.walk.stage d.walk.left ≡ true) (over : LookIsOver is_all d p) (ended : StripeLeft d d') where
   abbrev h : Fields
@@ -100,6 +101,7 @@ module _ (d d' : PieceView) (p : List ℕ) (is_all : Bool) (q : CoderLaws) (late
       behind = record {
         given = λ n g. absurd (no_height s more follows n (subst (λ z. GivesHeight h z n) (body s more) g));
         exact = λ why. absurd (neither why);
+        comments = comments_so_far (w s).behind (comments_behind h d.walk d.header.some_rows (in_code s) (w s).walk.left_is (w s).behind.passed (many s));
       };
     } where
       neither : (is_variable h ≡ false) ⊎ (1 ≤ length (lengths (all_segments (read s).stripes))) → ⊥

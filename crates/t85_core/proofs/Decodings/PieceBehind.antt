@@ -1,12 +1,15 @@
 -- Segments behind an end marker that come in pieces.
-use Rattle.std.proofs.Common.{◌≡◌, ◌<◌, ◌≤◌, ◌+◌, ◌-◌, ◌^◌, ◌||◌, ℕ, Bool, true, false, List, [], ◌∷◌, ◌++◌, length, min, Option, None, Some, refl, sym, ap, ◌∙◌, subst, append_assoc, append-nil, length-append, arith}
-use Rattle.std.specs.Prelude.{IfSome, is_some}
+use Rattle.std.proofs.Common.{◌≡◌, ◌<◌, ◌≤◌, ◌+◌, ◌-◌, ◌^◌, ◌||◌, ℕ, Bool, true, false, List, [], ◌∷◌, ◌++◌, length, min, replicate, inl, inr, Option, None, Some, refl, sym, ap, ◌∙◌, subst, append_assoc, append-nil, length-append, arith}
+use Rattle.std.specs.Prelude.{IfSome, IsTrue, flat_map, is_some}
+use Rattle.std.specs.List.{AllByRecursion}
+use Rattle.std.proofs.lemmas.List.{length-replicate}
 use Rattle.byteorder.specs.Endian.{big_bytes}
 use Rattle.t85_core.specs.declared.pieces.behind.Behind.{Behind}
 use Rattle.t85_core.specs.declared.segments.Move as move
 use Rattle.t85_core.specs.declared.segments.Place.{Place}
 use Rattle.t85_core.specs.Header.{Fields}
-use Rattle.t85_core.specs.Grammar.{Move, Comment, ESC, COMMENT, segment_bytes, IsLegal}
+use Rattle.t85_core.specs.Consumed.{AreComments}
+use Rattle.t85_core.specs.Grammar.{Move, Comment, ESC, COMMENT, is_comment, segment_bytes, IsLegal}
 use Rattle.t85_core.specs.Steps.Segments.{HasPassed, segments_so_far}
 use Rattle.t85_core.specs.Steps.Behind.{BehindStands, BehindOn, CommentBegun, move_came, behind_at}
 use Rattle.t85_core.proofs.Walks.Passed.{passed_none, passed_move, passed_comment}
@@ -48,6 +51,30 @@ module _ {h : Fields} {place : Place} {last : Bool} {b : Behind} {back : List �
 
   pub part_of : (left : ℕ) → b.comment ≡ Some left → Part left
   part_of left is = subst (λ z. CommentBegun z s.front back) is s.begun
+
+  -- only comments, if the segments are
+  pub comments_so_far : AllByRecursion (λ s. IsTrue (is_comment s)) s.passed.segments → AreComments back
+  comments_so_far are = by b.comment s.begun where
+    front_is : s.front ≡ flat_map segment_bytes s.passed.segments
+    front_is = s.passed.taken ∙ append-nil (flat_map segment_bytes s.passed.segments)
+
+    same : (part : List ℕ) (left : ℕ) → length (part ++ replicate left 0) ≡ length part + left
+    same part left = length-append part (replicate left 0) ∙ ap (λ n. length part + n) (length-replicate left 0)
+
+    by : (c : Option ℕ) → CommentBegun c s.front back → AreComments back
+    by None e = record { comments = s.passed.segments; are = are; part = []; begun = inl refl; bytes_are = e ∙ front_is ∙ sym (append-nil (flat_map segment_bytes s.passed.segments)) }
+    by (Some left) (part, few, e) = record {
+      comments = s.passed.segments;
+      are = are;
+      part = ESC ∷ COMMENT ∷ (big_bytes 4 (length part + left) ++ part);
+      begun = inr (
+        part ++ replicate left 0,
+        replicate left 0,
+        (let long = same part left in omega (arith, long, few)),
+        ap (λ z. ESC ∷ COMMENT ∷ z) (append_assoc (big_bytes 4 (length part + left)) part (replicate left 0) ∙ ap (λ n. big_bytes 4 n ++ (part ++ replicate left 0)) (sym (same part left))),
+      );
+      bytes_are = e ∙ ap (λ z. z ++ (ESC ∷ COMMENT ∷ (big_bytes 4 (length part + left) ++ part))) front_is;
+    }
 
   part_more : (left : ℕ) (k : Part left) (more : List ℕ) → back ++ more ≡ s.front ++ (ESC ∷ COMMENT ∷ (big_bytes 4 (length k.0 + left) ++ (k.0 ++ more)))
   part_more left k more =

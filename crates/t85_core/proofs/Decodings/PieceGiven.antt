@@ -167,7 +167,7 @@ read_consumes h height text out rest ok k i = record {
   consumed_is = same ∙ i.parts.body_is ∙ ap (λ z. flat_map stripe_bytes i.parts.stripes ++ z) i.only;
   each = i.parts.each;
   all = i.parts.count;
-  behind = record { given = given; exact = λ _. refl };
+  behind = record { given = given; exact = λ _. refl; comments = record { comments = []; are = tt; part = []; begun = inl refl; bytes_are = refl } };
 } where
   same : text ≡ i.given
   same = i.taken ∙ append-nil i.given
