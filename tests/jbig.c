@@ -757,10 +757,14 @@ static void check_memory(void)
         own_enc_init(&e, of.width, of.height, 1, &plane, put, &stream);
         own_enc_out(&e);
         is_done = allocations < fails;
-        CHECK(is_done ? stream.len > 22 : stream.len == 2 && stream.bytes[0] == 0xff && stream.bytes[1] == 4);
+        /* Two allocations are for the stream with libjbig's moves, and two for another that may be shorter. */
+        if (fails <= 2)
+            CHECK(stream.len == 2 && stream.bytes[0] == 0xff && stream.bytes[1] == 4);
+        else
+            CHECK(stream.len > 22);
         free(stream.bytes);
     }
-    CHECK(fails > 2);
+    CHECK(fails == 6);
     for (fails = 1, is_done = 0; !is_done; fails++) {
         allocations = 0;
         code = decode(&ours, &s, whole.bytes, whole.len, whole.len, &taken);

@@ -74,24 +74,6 @@ void jbg_enc_options(struct jbg_enc_state *s, int order, int options, unsigned l
         s->my = (unsigned)my;
 }
 
-/* Writes the image with JBIG-KIT's library. */
-static void write_by_kit(const kit_calls *kit, struct jbg_enc_state *s)
-{
-    struct jbg_enc_state theirs;
-    kit->enc_init(&theirs, s->xd, s->yd, s->planes, s->lhp[0], s->data_out, s->file);
-    kit->enc_layers(&theirs, s->d);
-    kit->enc_lrange(&theirs, s->dl, s->dh);
-    kit->enc_options(&theirs, s->order, s->options, s->l0, (int)s->mx, (int)s->my);
-    theirs.yd1 = s->yd1;
-    if (s->dppriv)
-        theirs.dppriv = s->dppriv;
-    theirs.comment = s->comment;
-    theirs.comment_len = s->comment_len;
-    kit->enc_out(&theirs);
-    s->comment = theirs.comment;
-    kit->enc_free(&theirs);
-}
-
 static t85_options options_of(const struct jbg_enc_state *s)
 {
     t85_options options = T85_OPTIONS;
@@ -105,8 +87,13 @@ static t85_options options_of(const struct jbg_enc_state *s)
     return options;
 }
 
-/* The state of an encoding: its memory, and the offset of the adaptive pixel. */
+/* The moves of the adaptive pixel before a stripe: to the offset that libjbig's rule chooses, or to the best one for the
+   stripe. */
+typedef enum { BY_RULE, TO_BEST } moves;
+
+/* The state of an encoding: its memory, its moves, and the offset of the adaptive pixel. */
 typedef struct {
+    moves moves;
     t85_encoder encoder;
     t85_choice choice;
     unsigned char *window, *stream; /* the window, and as much memory behind it */
@@ -123,13 +110,12 @@ static int start(const struct jbg_enc_state *s, encoding *it)
                             s->comment ? s->comment_len : 0, it->window, it->window_len, it->stream, it->room, &it->len);
 }
 
-/* Moves the adaptive pixel before a stripe: with JBG_DELAY_AT to the offset to which libjbig moves, otherwise to the best
-   offset for the stripe, since libjbig then moves within stripes, which T.85 does not allow. */
-static void move(const struct jbg_enc_state *s, encoding *it, const unsigned char *rows, size_t len)
+/* Moves the adaptive pixel before a stripe. */
+static void move(encoding *it, const unsigned char *rows, size_t len)
 {
-    if (s->options & JBG_DELAY_AT)
+    if (it->moves == BY_RULE)
         t85_choice_offset(&it->choice, it->offset, &it->offset);
-    else if (s->mx > 0)
+    else
         t85_best_offset(&it->encoder, rows, len, it->window, it->window_len, it->window + it->window_len, it->window_len,
                         &it->offset);
     t85_encode_offset(&it->encoder, it->offset);
@@ -148,7 +134,7 @@ static int put_rows(const struct jbg_enc_state *s, encoding *it)
             t85_choice_row(&it->choice, last, len, above_last, above_last ? len : 0);
             above_last = last;
         } else {
-            move(s, it, row, (s->yd - y) * len);
+            move(it, row, (s->yd - y) * len);
             above_last = s->options & JBG_SDRST ? NULL : last;
         }
         status = t85_encode_row(&it->encoder, row, len, it->window, it->window_len, it->stream + it->len,
@@ -161,9 +147,9 @@ static int put_rows(const struct jbg_enc_state *s, encoding *it)
 }
 
 /* Encodes the image into `room` bytes of `stream`, and returns a status of t85.h. */
-static int encode(const struct jbg_enc_state *s, unsigned char *stream, size_t room, size_t *len)
+static int encode(const struct jbg_enc_state *s, moves moves, unsigned char *stream, size_t room, size_t *len)
 {
-    encoding it = {.stream = stream, .room = room, .window_len = t85_window_bytes(t85jbig_word(s->xd))};
+    encoding it = {.moves = moves, .stream = stream, .room = room, .window_len = t85_window_bytes(t85jbig_word(s->xd))};
     size_t written = 0;
     int status;
     it.window = malloc(2 * it.window_len);
@@ -188,7 +174,7 @@ static bool is_possible(const struct jbg_enc_state *s)
 }
 
 /* Returns the stream in memory of its own, or NULL. A buffer as long as the image is almost always long enough. */
-static unsigned char *encoded(const struct jbg_enc_state *s, size_t *len)
+static unsigned char *encoded(const struct jbg_enc_state *s, moves moves, size_t *len)
 {
     size_t room;
     if (!is_possible(s))
@@ -196,7 +182,7 @@ static unsigned char *encoded(const struct jbg_enc_state *s, size_t *len)
     room = t85_row_bytes((uint32_t)s->xd) * s->yd + (s->comment ? s->comment_len : 0) + JBG_BUFSIZE;
     while (room <= PTRDIFF_MAX / 2) {
         unsigned char *stream = malloc(room);
-        int status = stream ? encode(s, stream, room, len) : T85_SHORT_WINDOW;
+        int status = stream ? encode(s, moves, stream, room, len) : T85_SHORT_WINDOW;
         if (status == T85_OK)
             return stream;
         free(stream);
@@ -205,6 +191,24 @@ static unsigned char *encoded(const struct jbg_enc_state *s, size_t *len)
         room *= 2;
     }
     return NULL;
+}
+
+/* Returns the stream with libjbig's moves, or NULL. Without JBG_DELAY_AT libjbig moves within stripes, which T.85 does not
+   allow: then a shorter stream with the best moves takes its place. */
+static unsigned char *shortest(const struct jbg_enc_state *s, size_t *len)
+{
+    unsigned char *stream = encoded(s, BY_RULE, len), *other;
+    size_t other_len;
+    if (!stream || s->options & JBG_DELAY_AT || s->mx == 0)
+        return stream;
+    other = encoded(s, TO_BEST, &other_len);
+    if (!other || other_len >= *len) {
+        free(other);
+        return stream;
+    }
+    free(stream);
+    *len = other_len;
+    return other;
 }
 
 static void pass_on(const struct jbg_enc_state *s, unsigned char *bytes, size_t len, size_t most)
@@ -261,10 +265,10 @@ void jbg_enc_out(struct jbg_enc_state *s)
     size_t len;
     s->stripes = jbg_stripes(s->l0, s->yd, (unsigned long)s->d);
     if (kit && (s->planes != 1 || s->d > 0 || s->xd > T85_MOST_WIDTH)) {
-        write_by_kit(kit, s);
+        t85jbig_write_by_kit(kit, s);
         return;
     }
-    stream = encoded(s, &len);
+    stream = shortest(s, &len);
     if (!stream) {
         write_abort(s);
         return;

@@ -50,3 +50,20 @@ const kit_calls *t85jbig_kit(void)
     pthread_once(&once, load);
     return is_loaded ? &loaded : NULL;
 }
+
+void t85jbig_write_by_kit(const kit_calls *kit, struct jbg_enc_state *s)
+{
+    struct jbg_enc_state theirs;
+    kit->enc_init(&theirs, s->xd, s->yd, s->planes, s->lhp[0], s->data_out, s->file);
+    kit->enc_layers(&theirs, s->d);
+    kit->enc_lrange(&theirs, s->dl, s->dh);
+    kit->enc_options(&theirs, s->order, s->options, s->l0, (int)s->mx, (int)s->my);
+    theirs.yd1 = s->yd1;
+    if (s->dppriv)
+        theirs.dppriv = s->dppriv;
+    theirs.comment = s->comment;
+    theirs.comment_len = s->comment_len;
+    kit->enc_out(&theirs);
+    s->comment = theirs.comment;
+    kit->enc_free(&theirs);
+}

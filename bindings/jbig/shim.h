@@ -48,6 +48,9 @@ typedef struct {
 /* Returns JBIG-KIT's functions, or NULL unless the environment names JBIG-KIT's library. */
 const kit_calls *t85jbig_kit(void);
 
+/* Writes the image of an encoder with JBIG-KIT's library. */
+void t85jbig_write_by_kit(const kit_calls *kit, struct jbg_enc_state *s);
+
 /* Returns JBIG-KIT's functions for a decoder that was handed over to them, or NULL. */
 const kit_calls *t85jbig_kit_of(const struct jbg_dec_state *s);
 

@@ -281,7 +281,7 @@ static void keep(struct jbg85_dec_state *s, const unsigned char *bytes, size_t l
 {
     size_t at;
     t85_raw_header_fields header;
-    if (s->bie_len == sizeof s->buffer)
+    if (!bytes || s->bie_len == sizeof s->buffer)
         return;
     for (at = 0; at < len && s->bie_len < sizeof s->buffer; at++)
         s->buffer[s->bie_len++] = bytes[at];
@@ -336,31 +336,26 @@ static int code_of(const struct jbg85_dec_state *s, int status)
     }
 }
 
-/* Consumes what belongs to the stream behind its last stripe, so that all bytes of the stream are consumed. libt85 leaves
-   a last byte that may belong to something else. It is stored here, since libjbig consumes all bytes if it needs more. */
+/* Consumes what belongs to the stream behind its last stripe, so that all bytes of the stream are consumed. Two bytes show
+   it. libt85 leaves a single one that may belong to something else. It is stored here, since libjbig consumes all bytes if
+   it needs more. */
 static int take_rest(struct jbg85_dec_state *s, const unsigned char *data, size_t len, size_t *cnt)
 {
-    int status = T85_MORE;
-    while (s->ending == 1 && status == T85_MORE && (*cnt < len || !s->has_left)) {
-        const unsigned char *bytes = *cnt < len ? data + *cnt : NULL;
-        unsigned char both[2] = {s->left, 0};
-        size_t count = len - *cnt, before = s->has_left ? 1 : 0, taken;
-        if (before > 0) {
-            both[1] = data[*cnt];
-            bytes = both;
-            count = sizeof both;
-        }
-        status = t85_decode_rest(decoder_of(s), bytes, count, &taken);
-        *cnt += taken > before ? taken - before : 0;
-        s->has_left = status == T85_MORE && taken < count;
-        if (s->has_left)
-            s->left = data[(*cnt)++];
-        else if (status == T85_MORE)
-            break;
+    unsigned char both[2] = {s->left, 0};
+    size_t before = s->has_left ? 1 : 0, count = before, taken;
+    if (s->ending != 1)
+        return JBG_EOK;
+    for (; count < sizeof both && *cnt + count - before < len; count++)
+        both[count] = data[*cnt + count - before];
+    if (t85_decode_rest(decoder_of(s), both, count, &taken) == T85_MORE) {
+        s->left = both[0];
+        s->has_left = count > 0;
+        *cnt += count - before;
+        return s->end_of_bie ? JBG_EOK : JBG_EAGAIN;
     }
-    if (status != T85_MORE)
-        s->ending = 2;
-    return s->ending == 1 && !s->end_of_bie ? JBG_EAGAIN : JBG_EOK;
+    *cnt += taken > before ? taken - before : 0;
+    s->ending = 2;
+    return JBG_EOK;
 }
 
 int jbg85_dec_in(struct jbg85_dec_state *s, unsigned char *data, size_t len, size_t *cnt)
