@@ -411,8 +411,8 @@ uint8_t t85_decode_start(t85_decoder *decoder, size_t size, uint32_t max_rows);
    0: the image is complete: it is the first t85_decode_height rows of those returned. The bytes up
      to the last stripe or, if a NEWLEN follows it, up to that have been consumed, and none behind
      them; t85_decode_rest consumes what else belongs to the stream. Only if the header has
-     T85_VARIABLE_HEIGHT and no height follows, bytes of an earlier piece that could begin one, and
-     whole comments, may have been consumed behind the stream: t85_stream_facts finds its end.
+     T85_VARIABLE_HEIGHT and no height follows, comments, and bytes of an earlier piece that could
+     begin a height, may have been consumed behind the stream: t85_stream_facts finds its end.
    1 to 15: the stream is broken. All rows that the bytes before the error determine have been
      returned.
    24: the image has more than max_rows rows. Without T85_VARIABLE_HEIGHT in the header, the call
