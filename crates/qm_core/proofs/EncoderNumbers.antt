@@ -1,9 +1,10 @@
 -- Encoders with the same numbers are equal, and each is at some coding interval.
-use Rattle.std.proofs.Common.{◌≡◌, ℕ, true, false, ◌+◌, ◌*◌, ◌/◌, ◌^◌, ◌-◌, ◌≤◌, ◌<◌, ◌%◌, Option, Some, None, List, [], ◌++◌, length, refl, ap, sym, ◌∙◌, arith}
+use Rattle.std.proofs.Common.{◌≡◌, ◌≢◌, ℕ, false, ◌+◌, ◌*◌, ◌/◌, ◌^◌, ◌-◌, ◌≤◌, ◌<◌, ◌%◌, Option, Some, None, List, [], ◌++◌, length, refl, ap, sym, ◌∙◌, arith}
 use Rattle.std.specs.Prelude.{is_some}
 use Rattle.std.specs.Option.{unwrap_or}
 use Rattle.std.specs.Coded.{le_prop}
 use Rattle.std.proofs.Props.{props}
+use Rattle.std.proofs.lemmas.Bool.Decides.{nat_tests}
 use Rattle.std.proofs.lemmas.Nat.{pow-add}
 use Rattle.std.proofs.Math.Nat.{mul_assoc, mul_comm}
 use mathlib.Core.HLevel.{is_prop→PathP}
@@ -30,15 +31,14 @@ alike_tails t u zeros held ones =
       raisable = is_prop→PathP (λ j. (x : ℕ) → held j ≡ Some x → x < 255) (λ j. hlevel props) t.raisable u.raisable i;
     }
 
-alike_encoders : (e f : Encoder) → e.low ≡ f.low → e.span ≡ f.span → e.bits ≡ f.bits → e.tail ≡ f.tail → e.events ≡ f.events → e.failed ≡ f.failed → e.floor ≡ f.floor → e ≡ f
-alike_encoders e f low span bits tail events failed floor =
+alike_encoders : (e f : Encoder) → e.low ≡ f.low → e.span ≡ f.span → e.bits ≡ f.bits → e.tail ≡ f.tail → e.events ≡ f.events → e.floor ≡ f.floor → e ≡ f
+alike_encoders e f low span bits tail events floor =
     λ i. record {
       low = low i;
       span = span i;
       bits = bits i;
       tail = tail i;
       events = events i;
-      failed = failed i;
       floor = floor i;
       large = is_prop→PathP (λ j. 0x40_0000 ≤ span j) (λ j. le_prop) e.large f.large i;
       small = is_prop→PathP (λ j. span j ≤ 0x80_0000) (λ j. le_prop) e.small f.small i;
@@ -49,9 +49,7 @@ alike_encoders e f low span bits tail events failed floor =
       fixed = is_prop→PathP (λ j. (tail j).held ≡ None → low j + span j ≤ 2 ^ (bits j + 7)) (λ j. hlevel props) e.fixed f.fixed i;
       count = is_prop→PathP (λ j. 8 * ((tail j).zeros + (tail j).ones) + bits j ≤ 16 * events j + 16) (λ j. le_prop) e.count f.count i;
       few = is_prop→PathP (λ j. events j ≤ 2 ^ 56) (λ j. le_prop) e.few f.few i;
-      going = is_prop→PathP (λ j. failed j ≡ false → floor j ≡ 0x40_0000) (λ j. hlevel props) e.going f.going i;
-      stuck = is_prop→PathP (λ j. failed j ≡ true → 0x80_0000 < floor j) (λ j. hlevel props) e.stuck f.stuck i;
-      low_enough = is_prop→PathP (λ j. floor j ≤ 0x8000_0000) (λ j. le_prop) e.low_enough f.low_enough i;
+      going = is_prop→PathP (λ j. floor j ≢ 0x8000_0000 → floor j ≡ 0x40_0000) (λ j. hlevel props) e.going f.going i;
     }
 
 -- of two encoders that have not failed
@@ -59,7 +57,7 @@ pub one_encoder : (e f : Encoder) → has_failed e ≡ false → has_failed f �
 one_encoder e f s t r =
     let held = same_held e.tail.held f.tail.held (ap (λ n. n.has_held) r) (ap (λ n. n.held) r) in
     let tail = alike_tails e.tail f.tail (ap (λ n. n.zeros) r) held (ap (λ n. n.ones) r) in
-    alike_encoders e f (ap (λ n. n.low) r) (ap (λ n. n.span) r) (ap (λ n. n.bits) r) tail (ap (λ n. n.events) r) (s ∙ sym t) (e.going s ∙ sym (f.going t))
+    alike_encoders e f (ap (λ n. n.low) r) (ap (λ n. n.span) r) (ap (λ n. n.bits) r) tail (ap (λ n. n.events) r) (grind (arith, nat_tests))
 
 scaled : (n bits : ℕ) → n * 2 ^ (bits + 7) ≡ 128 * (n * 2 ^ bits)
 scaled n bits = ap (λ u. n * u) (pow-add 2 bits 7) ∙ (sym (mul_assoc n (2 ^ bits) 128) ∙ mul_comm (n * 2 ^ bits) 128)

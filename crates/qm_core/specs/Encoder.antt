@@ -1,5 +1,5 @@
 -- How the fields of an encoder relate to its place and to the bytes written.
-use Rattle.std.specs.Prelude.{ℕ, ◌+◌, ◌/◌, ◌≡◌, ◌↔◌, Bool, true, false, List, ◌++◌, length, Result, Err, Option, is_some, IsErr, IsTrue, OnOk, OnErr}
+use Rattle.std.specs.Prelude.{ℕ, ◌+◌, ◌/◌, ◌≡◌, ◌==◌, ◌↔◌, Bool, true, false, List, ◌++◌, length, Result, Err, Option, is_some, IsErr, IsTrue, OnOk, OnErr}
 use Rattle.std.specs.Option.{unwrap_or}
 use Rattle.qm_core.specs.Counts.{one_more}
 use Rattle.qm_core.specs.Place.{Place, IsPlace, State, Estimate, step}
@@ -17,7 +17,7 @@ event_count e = e.events
 
 -- whether the sink of an encoder has refused a byte
 abbrev pub has_failed : Encoder → Bool
-has_failed e = e.failed
+has_failed e = e.floor == 0x8000_0000
 
 -- A failed encoder writes nothing and returns `Failed`. Any other returns an error if and only if its sink fails, once.
 abbrev pub EndsOnce : {S T : Type 0} → (S → ℕ) → Encoder → S → S → Result T CoderFault → Type 0
@@ -50,7 +50,7 @@ encoder_registers e = record {
   held = unwrap_or e.tail.held 0;
   ones = e.tail.ones;
   events = e.events;
-  has_failed = e.failed;
+  has_failed = has_failed e;
 }
 
 -- The bytes that an encoder has not written yet: zeros, a byte that a carry may still increment, and bytes 255.

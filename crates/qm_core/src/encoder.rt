@@ -1,6 +1,6 @@
 //! The encoder (T.82, 6.8).
 
-ghost use Rattle.std.specs.Prelude.{◌≡◌, ◌+◌, ◌-◌, ◌*◌, ◌%◌, ◌^◌, ◌≤◌, ◌<◌, List, ℕ, ◌++◌, None, IsTrue, false, true, Err, Ok, [], IsErr, nat_lt, not, if◌then◌else◌};
+ghost use Rattle.std.specs.Prelude.{◌≡◌, ◌≢◌, ◌+◌, ◌-◌, ◌*◌, ◌%◌, ◌^◌, ◌≤◌, ◌<◌, List, ℕ, ◌++◌, None, IsTrue, false, true, Err, Ok, [], IsErr, nat_lt, not, if◌then◌else◌};
 ghost use Rattle.qm_core.specs.Place.{Place, start};
 ghost use Rattle.qm_core.specs.Code.{stuffed};
 ghost use Rattle.qm_core.specs.Machine.{run_bytes, Digits, FitsIn};
@@ -30,6 +30,12 @@ pub enum CoderFault {
 /// The greatest number of pixels for one encoder, 2^56.
 pub const MAX_EVENTS: u64 = 0x100_0000_0000_0000;
 
+/// The least size of an interval, times 128.
+const LARGE: u32 = 0x40_0000;
+
+/// A size that no interval has, times 128.
+const FAILED: u32 = 0x8000_0000;
+
 /// An encoder between two pixels.
 #[derive(Drop)]
 pub struct Encoder {
@@ -42,9 +48,8 @@ pub struct Encoder {
     /// The bytes before `low` that have not been written.
     tail: Tail,
     events: u64,
-    failed: bool,
     /// If the more probable symbol leaves at least this size, which is then the larger subinterval, only the size
-    /// changes. After a failure it is greater than any size.
+    /// changes. It is `FAILED` after a failure, and otherwise `LARGE`.
     floor: u32,
     ghost large: { 0x40_0000 ≤ span },
     ghost small: { span ≤ 0x80_0000 },
@@ -55,9 +60,7 @@ pub struct Encoder {
     ghost fixed: { tail.held ≡ None → low + span ≤ 2 ^ (bits + 7) },
     ghost count: { 8 * (tail.zeros + tail.ones) + bits ≤ 16 * events + 16 },
     ghost few: { events ≤ 2 ^ 56 },
-    ghost going: { failed ≡ false → floor ≡ 0x40_0000 },
-    ghost stuck: { failed ≡ true → 0x80_0000 < floor },
-    ghost low_enough: { floor ≤ 0x8000_0000 },
+    ghost going: { floor ≢ 0x8000_0000 → floor ≡ 0x40_0000 },
 }
 
 /// The rest of `low` after its highest byte has moved to the tail, and the bytes that are then final.
@@ -121,14 +124,9 @@ fn bytes_out(tail: &mut Tail, low: u64, span: u32, bits: u32) -> Shifted
 {
     let first = byte_out(tail, low, span, bits);
     if bits < 32 {
-        let second = Batch {
-            zeros: 0,
-            byte: None,
-            ones: 0,
-        };
         return Shifted {
             first: first.batch,
-            second,
+            second: Batch::EMPTY,
             low: first.low,
             bits: bits - 8,
         };
@@ -169,15 +167,6 @@ fn is_quiet(cost: u32, span: u32, floor: u32) -> bool
     floor + cost <= span
 }
 
-/// The value of `floor` for an encoder.
-fn floor_of(failed: bool) -> u32
-    ensures going { failed ≡ false → result ≡ 0x40_0000 }
-    ensures stuck { failed ≡ true → 0x80_0000 < result }
-    ensures most { result ≤ 0x8000_0000 }
-{
-    if failed { 0x8000_0000 } else { 0x40_0000 }
-}
-
 /// Whether a pixel takes the lower subinterval.
 #[inline(always)]
 fn is_lower(is_favoured: bool, lower: u32, upper: u32) -> bool
@@ -209,8 +198,7 @@ impl Encoder {
                 ones: 0,
             },
             events: 0,
-            failed: false,
-            floor: 0x40_0000,
+            floor: LARGE,
         }
     }
 
@@ -244,7 +232,7 @@ impl Encoder {
             self.events += 1;
             return Ok(());
         }
-        if self.failed {
+        if self.floor == FAILED {
             return Err(CoderFault::Failed);
         }
         self.events += 1;
@@ -272,7 +260,7 @@ impl Encoder {
             EncoderIsAt self.old p pushed →
             result ≡ has_room (state_of p learned.now) (event_of cx pixel) count }
     {
-        if self.failed {
+        if self.floor == FAILED {
             return false;
         }
         match left_of(learned, cx, pixel, count, self.span) {

@@ -4,7 +4,7 @@ ghost use Rattle.std.specs.Prelude.{◌≡◌, ◌+◌, ◌-◌, ◌*◌, ◌^�
 ghost use Rattle.qm_core.specs.Counts.{one_more};
 ghost use Rattle.qm_core.specs.Place.{Place, same};
 
-use crate::encoder::{CoderFault, Encoder, byte_out, write_both};
+use crate::encoder::{CoderFault, Encoder, FAILED, byte_out, write_both};
 use crate::sink::CodeSink;
 
 impl Encoder {
@@ -14,7 +14,7 @@ impl Encoder {
 
     /// Pushes final bytes until fewer than 24 bits remain.
     fn shorten<W: CodeSink>(&mut self, out: &mut W) -> Result<(), CoderFault>
-        requires failed { self.old.failed ≡ false }
+        requires going { has_failed self.old ≡ false }
         ensures short { self.new.bits ≤ 23 }
         ensures fails { FailsOnce W.failed self.old self.new out.old out.new result }
         ensures goes { (p : Place) (pushed : List ℕ) → EncoderIsAt self.old p pushed →
@@ -33,7 +33,7 @@ impl Encoder {
         ensures code { (p : Place) (pushed : List ℕ) → has_failed self ≡ false → EncoderIsAt self p
             pushed → Finish (sink_at W.CodeSink out.old pushed) p out.new result }
     {
-        if self.failed {
+        if self.floor == FAILED {
             return Err(CoderFault::Failed);
         }
         self.shorten(out)?;

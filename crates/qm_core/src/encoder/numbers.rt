@@ -5,7 +5,7 @@ ghost use Rattle.qm_core.specs.Place.{Place, same};
 ghost use Rattle.qm_core.specs.Code.{stuffed};
 
 use crate::batch::Tail;
-use crate::encoder::{Encoder, MAX_EVENTS, floor_of};
+use crate::encoder::{Encoder, FAILED, LARGE, MAX_EVENTS};
 use crate::registers::EncoderRegisters;
 
 impl Encoder {
@@ -25,7 +25,7 @@ impl Encoder {
             held: self.tail.held.unwrap_or(0),
             ones: self.tail.ones,
             events: self.events,
-            has_failed: self.failed,
+            has_failed: self.floor == FAILED,
         }
     }
 
@@ -68,8 +68,7 @@ impl Encoder {
                 ones: registers.ones,
             },
             events: registers.events,
-            failed: registers.has_failed,
-            floor: floor_of(registers.has_failed),
+            floor: LARGE,
         })
     }
 

@@ -4,7 +4,7 @@ ghost use Rattle.std.specs.Prelude.{◌≡◌, ◌+◌, ◌-◌, ◌*◌, ◌^�
 ghost use Rattle.qm_core.specs.Place.{Place, renormalised};
 ghost use Rattle.qm_core.specs.Machine.{Digits, FitsIn, IsLargeEnough, IsTooSmall};
 
-use crate::encoder::{CoderFault, Encoder, bytes_out, floor_of, write_both};
+use crate::encoder::{CoderFault, Encoder, FAILED, LARGE, bytes_out, write_both};
 use crate::sink::CodeSink;
 
 /// The registers after doublings.
@@ -38,7 +38,7 @@ fn raise(low: u64, span: u32, bits: u32) -> Doubled
 }
 
 impl Encoder {
-    ghost use Rattle.qm_core.specs.Encoder.{RegistersAreAt, FailsOnce, Goes, held_by};
+    ghost use Rattle.qm_core.specs.Encoder.{has_failed, RegistersAreAt, FailsOnce, Goes, held_by};
     ghost use Rattle.qm_core.specs.Sink.{sink_at};
 
     /// Selects a subinterval that is too small, and doubles it until it is large enough (renormalization).
@@ -53,7 +53,7 @@ impl Encoder {
         requires room { FitsIn low span self.old.bits self.old.tail.held }
         requires count { 8 * (self.old.tail.zeros + self.old.tail.ones) + self.old.bits ≤
             16 * self.old.events }
-        requires failed { self.old.failed ≡ false }
+        requires going { has_failed self.old ≡ false }
         ensures events { self.new.events ≡ self.old.events }
         ensures fails { FailsOnce W.failed self.old self.new out.old out.new result }
         ensures goes { (p : Place) (pushed : List ℕ) →
@@ -84,7 +84,7 @@ impl Encoder {
         requires room { FitsIn low span bits self.old.tail.held }
         requires count { 8 * (self.old.tail.zeros + self.old.tail.ones) + bits ≤
             16 * self.old.events + 16 }
-        requires failed { self.old.failed ≡ false }
+        requires going { has_failed self.old ≡ false }
         ensures events { self.new.events ≡ self.old.events }
         ensures short { bits ≤ 39 → self.new.bits ≤ 23 }
         ensures fails { FailsOnce W.failed self.old self.new out.old out.new result }
@@ -97,8 +97,7 @@ impl Encoder {
         self.low = shifted.low;
         self.bits = shifted.bits;
         let written = write_both(shifted.first, shifted.second, out);
-        self.failed = written.is_err();
-        self.floor = floor_of(self.failed);
+        self.floor = if written.is_err() { FAILED } else { LARGE };
         written
     }
 }
