@@ -1,41 +1,19 @@
 //! The command line.
 
-ghost use Rattle.std.specs.Prelude.{◌≡◌, IfErr, IfOk, map, false, true};
-ghost use Rattle.clap.specs.Words.{app_of, found_of, is_simple, rows_of, rule_of};
+ghost use Rattle.std.specs.Prelude.{◌≡◌, IfErr, IfOk, map, true};
+ghost use Rattle.clap.specs.Words.{app_of, found_of, is_simple, rows_of};
 ghost use Rattle.program_core.specs.Line.{IsRefusal};
-ghost use Rattle.program_core.specs.Options.{HasAlso, with_version};
-ghost use Rattle.program_core.specs.Jbgtopbm85.{IsDecodeJobOf, decode_command as the_command, info_rule, decode_matches, max_rows_rule, decode_refusals};
+ghost use Rattle.program_core.specs.Options.{with_version};
+ghost use Rattle.program_core.specs.Jbgtopbm85.{IsDecodeJobOf, decode_command as the_command, decode_matches, decode_refusals};
 
 use super::NAME;
 use super::work::Job;
-use crate::args::{VERSION, with_file};
+use crate::args::{Kind, VERSION, with_arg};
 use crate::line_fault::LineFault;
 use crate::matches::{flag, matches_of, number, text};
-use clap::{Arg, ArgAction, ArgMatches, Command, value_parser};
+use clap::{ArgMatches, Command};
 use std::alloc::{AllocError, Global};
 use std::convert::AsStr;
-
-fn info_arg<'a>(alloc: Global) -> Arg<'a>
-    ensures rule { rule_of result ≡ info_rule }
-    ensures local { result.global ≡ false }
-{
-    Arg::new(alloc, "info")
-        .long("info")
-        .action(ArgAction::SetTrue)
-        .help("Write a line of numbers about the stream in place of its image")
-}
-
-fn max_rows_arg<'a>(alloc: Global) -> Arg<'a>
-    ensures rule { rule_of result ≡ max_rows_rule }
-    ensures local { result.global ≡ false }
-{
-    Arg::new(alloc, "max-rows")
-        .long("max-rows")
-        .action(ArgAction::Set)
-        .value_name("N")
-        .value_parser(value_parser!(u32))
-        .help("Refuse an image of more rows")
-}
 
 fn command<'a>(alloc: Global) -> Result<Command<'a>, AllocError>
     ensures { IfOk result (λ c. app_of c ≡ the_command) }
@@ -47,36 +25,35 @@ fn command<'a>(alloc: Global) -> Result<Command<'a>, AllocError>
 fn unversioned<'a>(alloc: Global) -> Result<Command<'a>, AllocError>
     ensures { IfOk result (λ c. with_version (app_of c) ≡ the_command) }
 {
-    let command = with_info(Command::new(alloc, NAME), alloc)?;
-    let command = with_max_rows(command, alloc)?;
-    let command = with_file(
+    let command = Command::new(alloc, NAME);
+    let command = with_arg(
+        command,
+        alloc,
+        "info",
+        Kind::LongFlag,
+        "Write a line of numbers about the stream in place of its image",
+    )?;
+    let command = with_arg(
+        command,
+        alloc,
+        "max-rows",
+        Kind::LongNumber,
+        "Refuse an image of more rows",
+    )?;
+    let command = with_arg(
         command,
         alloc,
         "input",
+        Kind::File,
         "The JBIG1 stream, or `-` for standard input",
     )?;
-    with_file(
+    with_arg(
         command,
         alloc,
         "output",
+        Kind::File,
         "The file to write, or `-` for standard output",
     )
-}
-
-/// The command with the option `--info` added.
-#[inline(never)]
-fn with_info<'a>(command: Command<'a>, alloc: Global) -> Result<Command<'a>, AllocError>
-    ensures { IfOk result (HasAlso command.entry info_rule) }
-{
-    command.arg(info_arg(alloc))
-}
-
-/// The command with the option `--max-rows` added.
-#[inline(never)]
-fn with_max_rows<'a>(command: Command<'a>, alloc: Global) -> Result<Command<'a>, AllocError>
-    ensures { IfOk result (HasAlso command.entry max_rows_rule) }
-{
-    command.arg(max_rows_arg(alloc))
 }
 
 /// The job that the matches ask for.

@@ -7,7 +7,7 @@ ghost use Rattle.program_core.specs.Pbmtojbg85.{HasDefaults, IsFaultOf, IsEncode
 
 use super::NAME;
 use super::work::Job;
-use crate::args::{VERSION, with_default, with_file, with_flag, with_number, with_text};
+use crate::args::{Kind, VERSION, with_arg};
 use crate::line_fault::LineFault;
 use crate::matches::{flag, matches_of, number, text};
 use clap::{ArgMatches, Command};
@@ -26,18 +26,32 @@ fn unversioned<'a>(alloc: Global) -> Result<Command<'a>, AllocError>
     ensures { IfOk result (λ c. with_version (app_of c) ≡ the_command) }
 {
     let command = with_numbers(alloc)?;
-    let command = with_text(command, alloc, "comment", 'C', "A comment in the stream")?;
-    let command = with_flag(command, alloc, "reset", 'r', "Begin each stripe anew")?;
-    let command = with_file(
+    let command = with_arg(
+        command,
+        alloc,
+        "comment",
+        Kind::Text('C'),
+        "A comment in the stream",
+    )?;
+    let command = with_arg(
+        command,
+        alloc,
+        "reset",
+        Kind::Flag('r'),
+        "Begin each stripe anew",
+    )?;
+    let command = with_arg(
         command,
         alloc,
         "input",
+        Kind::File,
         "The PBM image, or `-` for standard input",
     )?;
-    with_file(
+    with_arg(
         command,
         alloc,
         "output",
+        Kind::File,
         "The file to write, or `-` for standard output",
     )
 }
@@ -48,28 +62,32 @@ fn with_numbers<'a>(alloc: Global) -> Result<Command<'a>, AllocError>
     ensures { IfOk result (λ c. app_of c ≡ encode_numbers) }
 {
     let command = Command::new(alloc, NAME);
-    let command = with_default(
+    let command = with_arg(
         command,
         alloc,
         "options",
-        'p',
-        "8",
+        Kind::Default('p', "8"),
         "Options: 64 two lines, 32 variable height, 8 typical prediction, summed",
     )?;
-    let command = with_default(command, alloc, "stripe", 's', "128", "Rows in a stripe")?;
-    let command = with_default(
+    let command = with_arg(
+        command,
+        alloc,
+        "stripe",
+        Kind::Default('s', "128"),
+        "Rows in a stripe",
+    )?;
+    let command = with_arg(
         command,
         alloc,
         "move",
-        'm',
-        "0",
+        Kind::Default('m', "0"),
         "Greatest offset of the adaptive pixel",
     )?;
-    with_number(
+    with_arg(
         command,
         alloc,
         "announced",
-        'Y',
+        Kind::Number('Y'),
         "Announce a height that the image may fall short of",
     )
 }

@@ -1,8 +1,8 @@
-use Rattle.std.proofs.Common.{ap, map, subst, ◌≡◌, ◌∙◌, List}
+use Rattle.std.proofs.Common.{ap, map, subst, ◌≡◌, ◌∙◌}
 use Rattle.std.proofs.lemmas.Result.{err_from_is_err_and}
-use Rattle.clap.specs.Words.{App, Row, app_of, fault_of, is_simple, is_simple_and_free, matches_of}
+use Rattle.clap.specs.Words.{App, app_of, fault_of, is_simple, is_simple_and_free, matches_of}
 use Rattle.program_core.specs.Line.{IsRefusal}
-use Rattle.program_core.specs.Jbgtopbm85.{IsDecodeJobOf, decode_command, decode_matches, decode_refusals}
+use Rattle.program_core.specs.Jbgtopbm85.{decode_command, decode_matches, decode_refusals}
 use Rattle.program_core.proofs.jbgtopbm85.words.job.Goals as goal
 
 pub returns-in_err-matches-clause-fault : goal.returns-in_err-matches-clause-fault

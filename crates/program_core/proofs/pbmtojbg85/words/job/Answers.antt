@@ -3,9 +3,8 @@ use Rattle.program_core.proofs.Defaults.{default_given, lone_at}
 use Rattle.std.proofs.Common.{arith, codes, inl, inr, is_some, refl, sym, ap, map, subst, ◌≡◌, ◌∙◌, List}
 use Rattle.std.proofs.lemmas.Result.{IfErr-weaker, err_from_is_err_and}
 use Rattle.clap.specs.Words.{App, Row, found_of, app_of, fault_of, is_simple, is_simple_and_free, matches_of, rows_of}
-use Rattle.std.specs.Prelude.{IfOk}
 use Rattle.program_core.specs.Line.{IsRefusal}
-use Rattle.program_core.specs.Pbmtojbg85.{IsFaultOf, IsEncodeJobOf, IsOptionFault, encode_command, encode_matches, encode_refusals}
+use Rattle.program_core.specs.Pbmtojbg85.{IsFaultOf, IsOptionFault, encode_command, encode_matches, encode_refusals}
 use Rattle.program_core.proofs.pbmtojbg85.words.job.Goals as goal
 
 pub returns-in_err-matches-clause-fault : goal.returns-in_err-matches-clause-fault
