@@ -15,5 +15,6 @@ pub mod FixedRows
 pub mod Stays
 pub mod Outcomes
 pub mod CodeParts
+pub mod HeaderWritten
 pub mod CodeDenotes
 pub mod InPieces

@@ -1,9 +1,8 @@
 -- Whole stripes and the rows of one that breaks, as a decoder ran through them, are what a broken body fixes.
-use Rattle.std.proofs.Common.{◌≡◌, ℕ, zero, suc, ◌+◌, ◌-◌, ◌*◌, ◌<◌, ◌≤◌, ◌⊎◌, inl, inr, nat_eq, Bool, true, false, List, [], ◌∷◌, ◌++◌, length, map, refl, sym, ◌∙◌, ap, subst, arith, Option, None, length-append, append-nil}
-use Rattle.std.specs.Prelude.{slice_index_or, if◌then◌else◌, ◌==◌, flat_map, min}
+use Rattle.std.proofs.Common.{◌≡◌, ℕ, suc, ◌+◌, ◌-◌, ◌*◌, ◌<◌, ◌≤◌, ◌⊎◌, inl, inr, Bool, false, List, [], ◌∷◌, ◌++◌, length, map, refl, sym, ◌∙◌, ap, subst, arith, Option, None, length-append, append-nil}
+use Rattle.std.specs.Prelude.{slice_index_or, flat_map, min}
 use Rattle.std.specs.List.{AllByRecursion}
 use Rattle.std.proofs.lemmas.Bool.{cases_lt}
-use Rattle.std.proofs.lemmas.Bool.Decides.{nat_tests}
 use Rattle.std.proofs.Math.Nat.{mul-le-mul_right}
 use Rattle.std.proofs.lemmas.Grind.{flat_map-append}
 use Rattle.std.proofs.lemmas.List.{length-map}
@@ -16,21 +15,21 @@ use Rattle.t85_core.specs.declared.fault.Fault.{Fault}
 use Rattle.t85_core.specs.Header.{Fields, IsAccepted}
 use Rattle.t85_core.specs.Grammar.{Segment, Stripe, stripe_bytes, stripe_count, all_segments, GiveOnly}
 use Rattle.t85_core.specs.Refusal.{StripeFault, spot_after}
-use Rattle.t85_core.specs.Coding.{Coding, fresh_stripe, lines_of, flag_of, events_of_row, learned_at, place_of, begun, mode_of, move_of, flagged}
+use Rattle.t85_core.specs.Coding.{Coding, FlaggedRows, fresh_stripe, lines_of, flag_of, events_of_row, learned_at, place_of, begun, mode_of, move_of, flagged}
 use Rattle.t85_core.specs.Denotes.{coding_in}
 use Rattle.t85_core.specs.Fixed.{AreDecided, IsLongest, Fixes, begun_stripes}
-use Rattle.t85_core.specs.Steps.State.{RowStart, StripeStart, first_row_start, image_start, after_row, lines_with, Run, StripesRun, row_coding, stripe_coding}
+use Rattle.t85_core.specs.Steps.State.{RowStart, StripeStart, first_row_start, image_start, lines_with, Run, StripesRun, row_coding, stripe_coding}
 use Rattle.t85_core.specs.Steps.Cut.{events_with, RunEnough, NoneDecided, BegunRun, FrontRun, open_stripe}
 use Rattle.t85_core.specs.Steps.CoderLaws.{CoderLaws}
 use Rattle.t85_core.proofs.Bytes.Lists.{All-append}
-use Rattle.t85_core.proofs.Theorems.Alike.{coding}
-use Rattle.t85_core.proofs.Bytes.Elements.{Continues, continues_all, continues_left, continues_right, continues_first, continues_rest, get_left, get_here, all_right, length-push, map_push}
+use Rattle.t85_core.proofs.Theorems.Alike.{coding, Agree, all_same, same_events_in}
+use Rattle.t85_core.proofs.Bytes.Elements.{Continues, continues_all, continues_left, continues_right, get_left, get_here, all_right, length-push, map_push}
 use Rattle.t85_core.proofs.Theorems.Joined.{one_row_more, numbers_from_last, fresh_le}
-use Rattle.t85_core.proofs.Theorems.Agreed.{Agree, events_in, learned_agrees, above_agrees}
+use Rattle.t85_core.proofs.Theorems.Agreed.{learned_agrees, above_agrees, previous_agrees}
 use Rattle.t85_core.proofs.Theorems.Longest.{beginnings_append, decided_agree}
 use Rattle.t85_core.proofs.Theorems.FixedRows.{begun_length, begins_within, AreLying}
-use Rattle.t85_core.specs.Steps.Looked.{CarryAt, flag_before}
-use Rattle.t85_core.proofs.Theorems.StateLookedUp.{CarriedAt, Ran, stripe_begins, rows_run, row_carried, row_is_coded, row_lines}
+use Rattle.t85_core.specs.Steps.Looked.{CarryAt}
+use Rattle.t85_core.proofs.Theorems.StateLookedUp.{CarriedAt, RowAt, RowsAt, Ran, stripe_begins, first_row, first_flag, next_rows, rows_run, row_is_coded, row_lines}
 use Rattle.t85_core.proofs.Decodings.StripesCarried.{run_wide, run_flags, AllFollowed, stripes_follow}
 use Rattle.t85_core.proofs.Decodings.CarriedDenotes.{run_many, stripes_wide, stripes_whole, begins_at}
 
@@ -48,65 +47,44 @@ enough_rest count s xs ys h =
 rows_more : (c : Coding) (first k : ℕ) → flat_map (events_of_row c) (numbers_from first (suc k)) ≡ flat_map (events_of_row c) (numbers_from first k) ++ (events_of_row c (first + k) ++ [])
 rows_more c first k = ap (flat_map (events_of_row c)) (numbers_from_last first k) ∙ flat_map-append (events_of_row c) (numbers_from first k) ((first + k) ∷ [])
 
-module _ (c : Coding) (i count : ℕ) (move : Option (ℕ × ℕ)) (move_is : slice_index_or c.moves i None ≡ move) where
+module _ (c : Coding) (i : ℕ) where
   abbrev to_row : ℕ → List Event
   to_row r = flat_map (events_of_row c) (numbers_from (i * c.stripe_rows) r)
 
   -- rows that are decided one by one are decided together
-  pub rows_enough : (rows : List (List Bool)) (flags : List Bool) (r y : ℕ) (b last : RowStart) →
-      r + length rows ≤ c.stripe_rows → y ≡ i * c.stripe_rows + r → CarriedAt c i r y b →
-      Continues (white_row c.raster.width) c.raster.rows y rows → Continues false c.flags y flags →
+  rows_enough : {move : Option (ℕ × ℕ)} (count : ℕ) (last : RowStart) (rows : List (List Bool)) (flags : List Bool) {r y : ℕ} {b : RowStart} → RowsAt c i r y move b rows flags →
       Run (row_coding c.raster.width c.mode move) r b rows flags last → RunEnough count (row_coding c.raster.width c.mode move) r b rows flags →
       AreEnough count (begun (learned_at c i)) (to_row r) → AreEnough count (begun (learned_at c i)) (to_row (r + length rows))
-  rows_enough [] [] r y b last few y_is h rows_at flags_at run enough so_far = let r0 : r ≡ r + 0 = omega arith in subst (λ z. AreEnough count (begun (learned_at c i)) (to_row z)) r0 so_far
-  rows_enough [] (flag ∷ flags) r y b last few y_is h rows_at flags_at run enough so_far = absurd run
-  rows_enough (row ∷ rows) [] r y b last few y_is h rows_at flags_at run enough so_far = absurd run
-  rows_enough (row ∷ rows) (flag ∷ flags) r y b last few y_is h rows_at flags_at run enough so_far =
-      let lt : r < c.stripe_rows = omega (arith, few) in
-      let row_is = continues_first (white_row c.raster.width) c.raster.rows y row rows rows_at in
-      let flag_is = continues_first false c.flags y flag flags flags_at in
-      let y_next : y + 1 ≡ i * c.stripe_rows + (r + 1) = omega (arith, y_is) in
+  rows_enough count last [] [] {r} a run enough so_far = let r0 : r ≡ r + 0 = omega arith in subst (λ z. AreEnough count (begun (learned_at c i)) (to_row z)) r0 so_far
+  rows_enough count last [] (flag ∷ flags) a run enough so_far = absurd run
+  rows_enough count last (row ∷ rows) [] a run enough so_far = absurd run
+  rows_enough {move} count last (row ∷ rows) (flag ∷ flags) {r} {y} {b} a run enough so_far =
       let one : suc r ≡ r + 1 = omega arith in
       let coded : events_with c.mode move r b row flag ≡ events_of_row c (i * c.stripe_rows + r) ++ [] =
-      row_is_coded c i r y lt y_is b h row flag row_is flag_is move move_is ∙ ap (events_of_row c) y_is ∙ sym (append-nil (events_of_row c (i * c.stripe_rows + r))) in
+      row_is_coded (first_row a) (first_flag a) ∙ ap (events_of_row c) a.y_is ∙ sym (append-nil (events_of_row c (i * c.stripe_rows + r))) in
       let here : AreEnough count (after (begun (learned_at c i)) (to_row r)) (events_of_row c (i * c.stripe_rows + r) ++ []) =
-      subst (AreEnough count (after (begun (learned_at c i)) (to_row r))) coded (subst (λ s. AreEnough count s (events_with c.mode move r b row flag)) h.state enough.0) in
+      subst (AreEnough count (after (begun (learned_at c i)) (to_row r))) coded (subst (λ s. AreEnough count s (events_with c.mode move r b row flag)) a.carried.state enough.0) in
       let more : AreEnough count (begun (learned_at c i)) (to_row (r + 1)) =
       subst (λ z. AreEnough count (begun (learned_at c i)) (to_row z)) one
       (subst (AreEnough count (begun (learned_at c i))) (sym (rows_more c (i * c.stripe_rows) r)) (enough_append count (begun (learned_at c i)) (to_row r) (events_of_row c (i * c.stripe_rows + r) ++ []) so_far here)) in
       let rs : (r + 1) + length rows ≡ r + suc (length rows) = omega arith in
-      subst (λ z. AreEnough count (begun (learned_at c i)) (to_row z)) rs
-      (rows_enough rows flags (r + 1) (y + 1) (after_row c.mode move r b row flag) last (omega (arith, few)) y_next
-      (row_carried c i r y lt y_is b h row flag row_is flag_is move move_is)
-      (continues_rest (white_row c.raster.width) c.raster.rows y row rows rows_at) (continues_rest false c.flags y flag flags flags_at) run.1 enough.1 more)
+      subst (λ z. AreEnough count (begun (learned_at c i)) (to_row z)) rs (rows_enough count last rows flags (next_rows a) run.1 enough.1 more)
 
-module _ (w : ℕ) (mode : Mode) (l : ℕ) (some : 0 < l) (moves : List (Option (ℕ × ℕ))) (resets : List Bool) (rows rows' : List (List Bool)) (flags flags' : List Bool) where
-  abbrev c : Coding
-  c = coding w mode l rows moves resets flags
-
-  abbrev d : Coding
-  d = coding w mode l rows' moves resets flags'
-
-  flag_agrees : (t n : ℕ) → t ≤ n → Agree w mode l some moves resets rows rows' flags flags' n → flag_before c t n ≡ flag_before d t n
-  flag_agrees t zero le a =
-      let test : nat_eq t zero ≡ true = grind (arith, nat_tests) in
-      ap (λ b. if b then false else slice_index_or flags (zero - 1) false) test ∙ ap (λ b. if b then false else slice_index_or flags' (zero - 1) false) (sym test)
-  flag_agrees t (suc n) le a = ap (λ f. if t == suc n then false else f) (a.flags_are (suc n - 1) (omega arith))
-
-  -- what is carried to a row is the same in every coding that agrees up to it
-  pub carried_agrees : (i r n : ℕ) (b : RowStart) → n ≡ i * l + r → n ≤ length rows → n ≤ length rows' → Agree w mode l some moves resets rows rows' flags flags' n →
-      CarriedAt c i r n b → CarriedAt d i r n b
-  carried_agrees i r n b n_is le le' a h =
-      let up : fresh_stripe c i * l ≤ i * l = mul-le-mul_right l (fresh_le c i) in
-      record {
-        state = h.state
-            ∙ ap (λ e. after (begun e) (flat_map (events_of_row c) (numbers_from (i * l) r))) (learned_agrees w mode l some moves resets rows rows' flags flags' n i a (omega (arith, n_is)) le le')
-            ∙ ap (after (begun (learned_at d i))) (events_in w mode l some moves resets rows rows' flags flags' n (i * l) r a (omega (arith, n_is)));
-        offset = h.offset;
-        previous = h.previous ∙ flag_agrees (fresh_stripe c i * l) n (omega (arith, up, n_is)) a;
-        above = h.above ∙ above_agrees w mode l some moves resets rows rows' flags flags' n (fresh_stripe c i * l) 1 a (omega arith);
-        second = h.second ∙ above_agrees w mode l some moves resets rows rows' flags flags' n (fresh_stripe c i * l) 2 a (omega arith);
-      }
+-- what is carried to a row is the same in every coding that agrees up to it
+carried_agrees : {h : Fields} (stripes : List Stripe) {x y : FlaggedRows} {n : ℕ} → Agree h x y n → {b : RowStart} (i r : ℕ) → n ≡ i * h.l0 + r → n ≤ length x.rows → n ≤ length y.rows →
+    CarriedAt (coding h stripes x) i r n b → CarriedAt (coding h stripes y) i r n b
+carried_agrees {h} stripes {x} {n} a i r n_is le le' k =
+    let top : ℕ = fresh_stripe (coding h stripes x) i * h.l0 in
+    let up : fresh_stripe (coding h stripes x) i * h.l0 ≤ i * h.l0 = mul-le-mul_right h.l0 (fresh_le (coding h stripes x) i) in
+    let learned = learned_agrees stripes a le le' i (omega (arith, n_is)) in
+    let events = same_events_in (all_same stripes) a (i * h.l0) r (omega (arith, n_is)) in
+    record {
+      state = k.state ∙ (λ j. after (begun (learned j)) (events j));
+      offset = k.offset;
+      previous = k.previous ∙ previous_agrees stripes a top (omega (arith, up, n_is));
+      above = k.above ∙ above_agrees stripes a top 1 (omega arith);
+      second = k.second ∙ above_agrees stripes a top 2 (omega arith);
+    }
 
 -- whole stripes that were run through, and then a stripe of which first rows were
 module _ (h : Fields) (height : ℕ) (ok : IsAccepted h) (stripes : List Stripe) (segments : List Segment) (code : List ℕ) (first more : List (List Bool)) (first_flags more_flags : List Bool) (mid : StripeStart)
@@ -221,11 +199,11 @@ module _ (h : Fields) (height : ℕ) (ok : IsAccepted h) (stripes : List Stripe)
       let at : 0 + length first_flags ≡ length stripes * h.l0 = omega (arith, flags_many) in
       subst (λ z. Continues false (first_flags ++ more_flags) z more_flags) at (continues_right false (first_flags ++ more_flags) 0 first_flags more_flags flags_all)
 
-  begins_at_row : CarriedAt whole (length stripes) 0 (length stripes * h.l0) (first_row_start mid)
-  begins_at_row = stripe_begins whole (length stripes) mid carry_is
+  begins_rows : RowsAt whole (length stripes) 0 (length stripes * h.l0) move (first_row_start mid) more more_flags
+  begins_rows = record { few = few; y_is = y_is; move_is = move_is; carried = stripe_begins whole (length stripes) mid carry_is; rows_at = more_at; flags_at = more_flags_at }
 
   ran : Ran whole (length stripes) 0 (length stripes * h.l0) (length more) begins.last
-  ran = rows_run whole (length stripes) move move_is more more_flags 0 (length stripes * h.l0) (first_row_start mid) begins.last few y_is begins_at_row more_at more_flags_at begins.run
+  ran = rows_run more more_flags begins_rows begins.run
 
   in_stripe : 0 + length more ≡ min h.l0 (length (first ++ more) - length stripes * h.l0)
   in_stripe = omega (arith, few, all_many)
@@ -239,14 +217,16 @@ module _ (h : Fields) (height : ℕ) (ok : IsAccepted h) (stripes : List Stripe)
   pub carried_few : length (first ++ more) ≤ height
   carried_few = omega (arith, all_many, begins.few, room)
 
-  pub carried_lying : AreLying h all (length stripes) flags rows
+  pub carried_lying : AreLying h all (length stripes) (flagged rows flags)
   carried_lying = record {
-    wide = All-append (λ row. length row ≡ h.xd) first more (stripes_wide h height (image_start h.xd) stripes first first_flags mid run)
-        (run_wide (row_coding h.xd mode move) 0 (first_row_start mid) more more_flags begins.last begins.run);
+    lying = record {
+      wide = All-append (λ row. length row ≡ h.xd) first more (stripes_wide h height (image_start h.xd) stripes first first_flags mid run)
+          (run_wide (row_coding h.xd mode move) 0 (first_row_start mid) more more_flags begins.last begins.run);
+      legal = λ y lt. legal_at y lt (cases_lt y (length first));
+      lies = λ i lt. lies_at i lt (cases_lt i (length stripes));
+    };
     from = omega (arith, all_many);
     to = omega (arith, all_many, few);
-    legal = λ y lt. legal_at y lt (cases_lt y (length first));
-    lies = λ i lt. lies_at i lt (cases_lt i (length stripes));
   } where
     legal_at : (y : ℕ) → y < length (first ++ more) → (y < length first) ⊎ (length first ≤ y) → IsLegalFlag mode (lines_of whole y) (flag_of whole y)
     legal_at y lt (inl less) =
@@ -272,14 +252,14 @@ module _ (h : Fields) (height : ℕ) (ok : IsAccepted h) (stripes : List Stripe)
 
   pub carried_decided : RunEnough (length code) (row_coding h.xd mode move) 0 (first_row_start mid) more more_flags → AreDecided h height all (length stripes) code (flagged rows flags)
   carried_decided so = record {
-    wide = carried_lying.wide;
+    wide = carried_lying.lying.wide;
     from = carried_lying.from;
     to = omega (arith, all_many, begins.few, room);
-    legal = carried_lying.legal;
-    lies = carried_lying.lies;
+    legal = carried_lying.lying.legal;
+    lies = carried_lying.lying.lies;
     enough =
         subst (λ m. AreEnough (length code) (begun (learned_at whole (length stripes))) (flat_map (events_of_row whole) (numbers_from (length stripes * h.l0) m))) in_stripe
-        (rows_enough whole (length stripes) (length code) move move_is more more_flags 0 (length stripes * h.l0) (first_row_start mid) begins.last few y_is begins_at_row more_at more_flags_at begins.run so tt);
+        (rows_enough whole (length stripes) (length code) begins.last more more_flags begins_rows begins.run so tt);
   }
 
   pub carried_longest : CoderLaws → RunEnough (length code) (row_coding h.xd mode move) 0 (first_row_start mid) more more_flags →
@@ -303,8 +283,8 @@ module _ (h : Fields) (height : ℕ) (ok : IsAccepted h) (stripes : List Stripe)
       wide : length row ≡ h.xd
       wide = (all_right (λ r. length r ≡ h.xd) (first ++ more) (row ∷ []) d.wide).0
 
-      alike : Agree h.xd mode h.l0 ok.stripe_from (map (λ (s : Stripe). move_of s.segments) all) (map (λ (s : Stripe). s.reset) all) (first ++ more) ((first ++ more) ++ row ∷ []) flags other (length (first ++ more))
-      alike = decided_agree q h height ok all (length stripes) code last_one (first ++ more) ((first ++ more) ++ row ∷ []) flags other (carried_decided so) d (length (first ++ more)) (omega arith) (omega (arith, longer))
+      alike : Agree h (flagged rows flags) (flagged (rows ++ row ∷ []) other) (length (first ++ more))
+      alike = decided_agree q ok last_one (carried_decided so) d (length (first ++ more)) (omega arith) (omega (arith, longer))
 
       r_is : 0 + length more ≡ length more
       r_is = omega arith
@@ -314,26 +294,25 @@ module _ (h : Fields) (height : ℕ) (ok : IsAccepted h) (stripes : List Stripe)
 
       at_row : CarriedAt with_row (length stripes) (length more) (length (first ++ more)) begins.last
       at_row =
-          carried_agrees h.xd mode h.l0 ok.stripe_from (map (λ (s : Stripe). move_of s.segments) all) (map (λ (s : Stripe). s.reset) all) (first ++ more) ((first ++ more) ++ row ∷ []) flags other
-          (length stripes) (length more) (length (first ++ more)) begins.last rows_are (omega arith) (omega (arith, longer)) alike
+          carried_agrees all alike (length stripes) (length more) rows_are (omega arith) (omega (arith, longer))
           (subst (λ y. CarriedAt whole (length stripes) (length more) y begins.last) (sym rows_are)
           (subst (λ r. CarriedAt whole (length stripes) r (length stripes * h.l0 + length more) begins.last) r_is ran.carried))
 
       inside : length more < h.l0
       inside = omega (arith, d.to, longer, all_many)
 
-      row_is : slice_index_or ((first ++ more) ++ row ∷ []) (length (first ++ more)) (white_row h.xd) ≡ row
-      row_is = get_here (first ++ more) row [] (white_row h.xd)
+      here : RowAt with_row (length stripes) (length more) (length (first ++ more)) move begins.last row
+      here = record { in_stripe = inside; y_is = rows_are; move_is = move_is; carried = at_row; row_is = get_here (first ++ more) row [] (white_row h.xd) }
 
       coded : events_with mode move (length more) begins.last row flag ≡ events_of_row with_row (length stripes * h.l0 + length more)
-      coded = row_is_coded with_row (length stripes) (length more) (length (first ++ more)) inside rows_are begins.last at_row row flag row_is refl move move_is ∙ ap (events_of_row with_row) rows_are
+      coded = row_is_coded here refl ∙ ap (events_of_row with_row) rows_are
 
       one_more : min h.l0 (length ((first ++ more) ++ row ∷ []) - length stripes * h.l0) ≡ suc (length more)
       one_more = omega (arith, longer, all_many, inside)
 
       legal : IsLegalFlag mode (lines_with begins.last row) flag
       legal =
-          subst (λ u. IsLegalFlag mode u flag) (sym (row_lines with_row (length stripes) (length more) (length (first ++ more)) inside rows_are begins.last at_row row flag row_is refl move move_is))
+          subst (λ u. IsLegalFlag mode u flag) (sym (row_lines here))
           (d.legal (length (first ++ more)) (omega (arith, longer)))
 
       lies : Lies code (after begins.last.state (events_with mode move (length more) begins.last row flag)).place

@@ -147,7 +147,7 @@ denoted : CoderLaws → (h : Fields) (height : ℕ) (bytes body : List ℕ) (out
 denoted q h height bytes body out_old out_new header_of height_is same w = record {
   raster = w.raster;
   denotes = denotes;
-  only = λ other o. one_raster_of q bytes w.raster other denotes o;
+  only = λ other o. one_raster_of q denotes o;
   appends = w.appends;
 } where
   denotes : Denotes bytes w.raster

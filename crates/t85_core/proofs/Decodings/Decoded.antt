@@ -71,7 +71,7 @@ module _ (q : CoderLaws) (h : Fields) (height : ℕ) (use_ : IsInUse h height) (
   rows_written body fault rows fixes out = record {
     rows = rows;
     fixes = fixes;
-    only = λ other others o. one_fixed_at q h height body other fault others rows use_ o fixes;
+    only = λ other others o. one_fixed_at q use_ o fixes;
     appends = written rows out;
   }
 
@@ -81,7 +81,7 @@ module _ (q : CoderLaws) (h : Fields) (height : ℕ) (use_ : IsInUse h height) (
   raster_known (Some body) (Some rest) i = record {
     raster = raster;
     denotes = denotes;
-    only = λ other o. one_raster_at q h height body raster other use_.accepted small denotes o;
+    only = λ other o. one_raster_at q use_.accepted small denotes o;
     appends = subst (λ n. Appends out_old out_new (pbm_rows h.xd n i.rows)) (sym denotes.height) (written i.rows i.appended);
   } where
     raster : Raster

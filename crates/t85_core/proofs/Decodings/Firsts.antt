@@ -25,7 +25,7 @@ use Rattle.t85_core.proofs.Grammar.Cut.{first_parts, begun_in_stripe, begun_in_f
 use Rattle.t85_core.proofs.Grammar.Heights.{suits_in_use, whole_or_broken_at}
 use Rattle.t85_core.proofs.Theorems.FixedRows.{AreLying, begun_length}
 use Rattle.t85_core.proofs.Theorems.Longest.{decided_in_longest}
-use Rattle.t85_core.proofs.Theorems.Stays.{long_lying, lying_in_raster, lying_in_rows, decided_longer}
+use Rattle.t85_core.proofs.Theorems.Stays.{Continued, long_lying, lying_in_raster, lying_in_rows, decided_longer}
 use Rattle.t85_core.proofs.Decodings.CarriedDenotes.{stripes_whole}
 use Rattle.t85_core.proofs.Decodings.CarriedFixes.{carried_few, carried_lying, carried_decided}
 use Rattle.t85_core.proofs.Theorems.OneRaster.{one_raster_at}
@@ -63,14 +63,15 @@ module _ (q : CoderLaws) (h : Fields) (height : ℕ) (u : IsInUse h height) (str
   module _ (segments : List Segment) (code more : List ℕ) (rows : List (List Bool)) (flags : List Bool) (bytes : IsBytes code) (others : IsBytes more)
       (front : FrontRun (open_stripe h mid segments) (min (height - length stripes * h.l0) h.l0) code rows flags)
       (decides : (RunEnough (length code) (stripe_coding h segments) 0 (first_row_start mid) rows flags) ⊎ (more ≡ [])) where
-    lying : AreLying h (begun_stripes stripes segments (code ++ more)) (length stripes) (first_flags ++ flags) (first ++ rows)
+    abbrev here : Continued
+    here = record { stripes = stripes; segments = segments; code = code; more = more; bytes = bytes; others = others }
+
+    lying : AreLying h (begun_stripes stripes segments (code ++ more)) (length stripes) (flagged (first ++ rows) (first_flags ++ flags))
     lying = went decides where
-      went : (RunEnough (length code) (stripe_coding h segments) 0 (first_row_start mid) rows flags) ⊎ (more ≡ []) → AreLying h (begun_stripes stripes segments (code ++ more)) (length stripes) (first_flags ++ flags) (first ++ rows)
-      went (inl enough) =
-          long_lying q h height u.accepted stripes segments code more bytes others (first_flags ++ flags) (first ++ rows)
-          (carried_decided h height u.accepted stripes segments code first rows first_flags flags mid fewer run front enough)
+      went : (RunEnough (length code) (stripe_coding h segments) 0 (first_row_start mid) rows flags) ⊎ (more ≡ []) → AreLying h (begun_stripes stripes segments (code ++ more)) (length stripes) (flagged (first ++ rows) (first_flags ++ flags))
+      went (inl enough) = long_lying q u.accepted here (carried_decided h height u.accepted stripes segments code first rows first_flags flags mid fewer run front enough)
       went (inr none) =
-          subst (λ z. AreLying h (begun_stripes stripes segments z) (length stripes) (first_flags ++ flags) (first ++ rows)) (sym (append-nil code) ∙ ap (λ z. code ++ z) (sym none))
+          subst (λ z. AreLying h (begun_stripes stripes segments z) (length stripes) (flagged (first ++ rows) (first_flags ++ flags))) (sym (append-nil code) ∙ ap (λ z. code ++ z) (sym none))
           (carried_lying h height u.accepted stripes segments code first rows first_flags flags mid fewer run front)
 
     few : length (first ++ rows) ≤ height
@@ -78,13 +79,11 @@ module _ (q : CoderLaws) (h : Fields) (height : ℕ) (u : IsInUse h height) (str
 
     in_raster : (reset : Bool) (later : List Stripe) (body : List ℕ) (raster : Raster) (p : DenotesAt h height body raster) →
         p.parts.stripes ≡ stripes ++ record { segments = segments; code = code ++ more; reset = reset } ∷ later → take (length (first ++ rows)) raster.rows ≡ first ++ rows
-    in_raster reset later body raster p e = lying_in_raster q h height stripes segments code more reset later (first_flags ++ flags) (first ++ rows) body raster u.accepted bytes others lying few p e
+    in_raster reset later body raster p e = lying_in_raster q u.accepted here reset later lying few p e
 
     in_rows : (reset : Bool) (later : List Stripe) (body : List ℕ) (fault : Fault) (all : List (List Bool)) (x : Fixes h height body fault all) →
         x.broken.stripes ≡ stripes ++ record { segments = segments; code = code ++ more; reset = reset } ∷ later → take (length (first ++ rows)) all ≡ first ++ rows
-    in_rows reset later body fault all x e =
-        lying_in_rows q h height stripes segments code more reset later (first_flags ++ flags) (first ++ rows) x.broken.stripes x.broken.tail_has.segments x.broken.tail_has.code x.fixed.flags all
-        u.accepted bytes others lying x.fixed.decided e
+    in_rows reset later body fault all x e = lying_in_rows q u.accepted here reset later lying x.fixed e
 
   -- the stripe is the one that isn't whole
   in_broken : (segments : List Segment) (code more : List ℕ) (rows : List (List Bool)) (flags : List Bool) → IsBytes code → IsBytes more →
@@ -93,12 +92,9 @@ module _ (q : CoderLaws) (h : Fields) (height : ℕ) (u : IsInUse h height) (str
       take (length (first ++ rows)) all ≡ first ++ rows
   in_broken segments code more rows flags bytes others front enough body fault all x s_is segments_is code_is =
       let d = carried_decided h height u.accepted stripes segments code first rows first_flags flags mid fewer run front enough in
-      let l = decided_longer q h height stripes segments code more (first_flags ++ flags) (first ++ rows) u.accepted bytes others d in
-      let l1 = subst (λ z. AreDecided h height (begun_stripes stripes segments z) (length stripes) z (flagged (first ++ rows) (first_flags ++ flags))) (sym code_is) l in
-      let l2 = subst (λ z. AreDecided h height (begun_stripes stripes z x.broken.tail_has.code) (length stripes) x.broken.tail_has.code (flagged (first ++ rows) (first_flags ++ flags))) segments_is l1 in
-      let l3 = subst (λ z. AreDecided h height (begun_stripes z x.broken.tail_has.segments x.broken.tail_has.code) (length z) x.broken.tail_has.code (flagged (first ++ rows) (first_flags ++ flags))) (sym s_is) l2 in
-      decided_in_longest q h height u.accepted (begun_stripes x.broken.stripes x.broken.tail_has.segments x.broken.tail_has.code) (length x.broken.stripes) x.broken.tail_has.code
-      (begun_length x.broken.stripes x.broken.tail_has.segments x.broken.tail_has.code) (first ++ rows) all (first_flags ++ flags) x.fixed.flags l3 x.fixed.decided x.fixed.longest
+      let l = decided_longer q u.accepted (record { stripes = stripes; segments = segments; code = code; more = more; bytes = bytes; others = others }) d in
+      let there = subst (λ (z : List Stripe × List Segment × List ℕ). AreDecided h height (begun_stripes z.0 z.1 z.2) (length z.0) z.2 (flagged (first ++ rows) (first_flags ++ flags))) (λ i. (sym s_is i, segments_is i, sym code_is i)) l in
+      decided_in_longest q u.accepted (begun_length x.broken.stripes x.broken.tail_has.segments x.broken.tail_has.code) there x.fixed.decided x.fixed.longest
 
   -- the stripe of another reading at this place
   record Matched (rows : List (List Bool)) (t : Stripe) : Type 0 where
@@ -242,6 +238,6 @@ pub whole_first : (q : CoderLaws) (h : Fields) (height : ℕ) → IsInUse h heig
     ((rest : List ℕ) → DenotesAt h height (given ++ rest) (record { width = h.xd; rows = rows })) → AreFirst h height given rows
 whole_first q h height u given rows denotes rest None text o =
     let d = denotes rest in
-    let same = one_raster_at q h height (given ++ rest) (record { width = h.xd; rows = rows }) o.0 u.accepted (let to = u.to in let top = u.accepted.height_to in omega (arith, to, top)) d o.1 in
+    let same = one_raster_at q u.accepted (let to = u.to in let top = u.accepted.height_to in omega (arith, to, top)) d o.1 in
     ([], o.2 ∙ ap pbm_text same ∙ ap (λ n. pbm_rows h.xd n rows) d.height ∙ sym (append-nil (pbm_rows h.xd height rows)))
 whole_first q h height u given rows denotes rest (Some fault) text o = absurd (whole_or_broken_at h height (given ++ rest) fault u (denotes rest).parts o.1.broken)

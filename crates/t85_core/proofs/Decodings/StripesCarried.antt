@@ -16,7 +16,7 @@ use Rattle.t85_core.specs.Steps.State.{RowStart, StripeStart, first_row_start, n
 use Rattle.t85_core.proofs.Theorems.Joined.{row_above_top}
 use Rattle.t85_core.proofs.Bytes.Elements.{Continues, continues_left, continues_right, continues_first, continues_rest}
 use Rattle.t85_core.specs.Steps.Looked.{CarryAt, offset_before, flag_before}
-use Rattle.t85_core.proofs.Theorems.StateLookedUp.{CarriedAt, stripe_begins, rows_run}
+use Rattle.t85_core.proofs.Theorems.StateLookedUp.{CarriedAt, Ran, stripe_begins, rows_run}
 
 -- as many flags as rows, each as wide as it should be
 pub run_flags : (coding : RowCoding) (r : ℕ) (b : RowStart) (rows : List (List Bool)) (flags : List Bool) (last : RowStart) → Run coding r b rows flags last → length flags ≡ length rows
@@ -74,7 +74,7 @@ module _ (h : Fields) (some : 0 < h.l0) (all : List Stripe) (all_flags : List Bo
       StripeRun h n b s (flagged rows flags) next → Followed i s n next
   stripe_follows i n b s rows flags next n_is k move_is reset_is rows_at flags_at run =
       let y : i * h.l0 ≡ i * h.l0 + 0 = omega arith in
-      let ran = rows_run c i (move_of s.segments) move_is rows flags 0 (i * h.l0) (first_row_start b) run.last (omega (arith, n_is, run.many)) y (stripe_begins c i b k) rows_at flags_at run.run in
+      let ran : Ran c i 0 (i * h.l0) (length rows) run.last = rows_run rows flags (record { few = omega (arith, n_is, run.many); y_is = y; move_is = move_is; carried = stripe_begins c i b k; rows_at = rows_at; flags_at = flags_at }) run.run in
       let zero_n : 0 + length rows ≡ n = omega (arith, run.many) in
       record {
         legal = λ j lt. ran.legal j (omega (arith, lt, run.many));

@@ -369,33 +369,43 @@ code_front (b ∷ c) (b' ∷ d) x y e q =
     let rest = code_front c d x y first.1 q in
     (rest.0, ap (λ z. z ∷ d) (sym first.0) ∙ ap (λ z. b ∷ z) rest.1)
 
+-- two readings of the same bytes after some segments: segments and a code that has begun, and segments and a whole code
+record TwoReadings (h : Fields) (Fits : List Segment → Type 0) (before ss ts : List Segment) (b : ℕ) (c x d y : List ℕ) : Type 0 where
+  pub same : flat_map segment_bytes ss ++ (stuffed (b ∷ c) ++ x) ≡ flat_map segment_bytes ts ++ (stuffed d ++ y)
+  pub begun : AllByRecursion (IsLegal h) ss
+  pub whole : AllByRecursion (IsLegal h) ts
+  pub fits : Fits (before ++ ss)
+  pub ends : EndsPieces h Fits (before ++ ts) d y
+
 -- a code that has begun goes on in the same stripe
-begun_cut : {h : Fields} {Fits : List Segment → Type 0} {d y : List ℕ} → IsAccepted h → ((ss ts : List Segment) → Fits (ss ++ ts) → Fits ss) →
-    (before ss ts : List Segment) (b : ℕ) (c x : List ℕ) →
-    flat_map segment_bytes ss ++ (stuffed (b ∷ c) ++ x) ≡ flat_map segment_bytes ts ++ (stuffed d ++ y) → AllByRecursion (IsLegal h) ss → AllByRecursion (IsLegal h) ts →
-    Fits (before ++ ss) →
-    EndsPieces h Fits (before ++ ts) d y → (ss ≡ ts) × (more : List ℕ) × (d ≡ (b ∷ c) ++ more)
-begun_cut {Fits} {d} {y} ok closed before [] [] b c x e p q f ends = let k = code_front (b ∷ c) d x y e ends.no_code in (refl, k.0, k.1)
-begun_cut {Fits} {d} {y} ok closed before [] (t ∷ ts) b c x e p q f ends =
+begun_cut : {h : Fields} {Fits : List Segment → Type 0} {b : ℕ} {c x d y : List ℕ} → IsAccepted h → ((ss ts : List Segment) → Fits (ss ++ ts) → Fits ss) →
+    (ss ts : List Segment) {before : List Segment} → TwoReadings h Fits before ss ts b c x d y → (ss ≡ ts) × (more : List ℕ) × (d ≡ (b ∷ c) ++ more)
+begun_cut {b} {c} {x} {d} {y} ok closed [] [] r = let k = code_front (b ∷ c) d x y r.same r.ends.no_code in (refl, k.0, k.1)
+begun_cut {b} {c} {x} {d} {y} ok closed [] (t ∷ ts) r =
     absurd (no_segment_in_code b (stuffed c ++ x) (flat_map segment_bytes ts ++ (stuffed d ++ y)) t
-    (sym (stuffed_cons b c x) ∙ e ∙ append_assoc (segment_bytes t) (flat_map segment_bytes ts) (stuffed d ++ y)))
-begun_cut {h} {Fits} {d} {y} ok closed before (s ∷ ss) [] b c x e p q f ends =
-    let fits : Fits (before ++ s ∷ []) = closed (before ++ s ∷ []) ss (subst Fits (sym (append_assoc before (s ∷ []) ss)) f) in
-    absurd (no_segment_before ok Fits closed (flat_map segment_bytes ss ++ (stuffed (b ∷ c) ++ x)) s p.0 fits (subst (λ u. EndsPieces h Fits u d y) (append-nil before) ends)
-    (sym e ∙ append_assoc (segment_bytes s) (flat_map segment_bytes ss) (stuffed (b ∷ c) ++ x)))
-begun_cut {h} {Fits} {d} {y} ok closed before (s ∷ ss) (t ∷ ts) b c x e p q f ends =
-    let first = one_segment ok s t (flat_map segment_bytes ss ++ (stuffed (b ∷ c) ++ x)) (flat_map segment_bytes ts ++ (stuffed d ++ y)) p.0 q.0
-    (sym (append_assoc (segment_bytes s) (flat_map segment_bytes ss) (stuffed (b ∷ c) ++ x)) ∙ e ∙ append_assoc (segment_bytes t) (flat_map segment_bytes ts) (stuffed d ++ y)) in
-    let a : before ++ s ∷ ss ≡ (before ++ s ∷ []) ++ ss = sym (append_assoc before (s ∷ []) ss) in
-    let k : before ++ t ∷ ts ≡ (before ++ s ∷ []) ++ ts = ap (λ u. before ++ u ∷ ts) (sym first.0) ∙ sym (append_assoc before (s ∷ []) ts) in
-    let rest = begun_cut ok closed (before ++ s ∷ []) ss ts b c x first.1 p.1 q.1 (subst Fits a f) (subst (λ u. EndsPieces h Fits u d y) k ends) in
-    (ap (λ z. z ∷ ss) first.0 ∙ ap (λ z. t ∷ z) rest.0, rest.1, rest.2)
+    (sym (stuffed_cons b c x) ∙ r.same ∙ append_assoc (segment_bytes t) (flat_map segment_bytes ts) (stuffed d ++ y)))
+begun_cut {h} {Fits} {b} {c} {x} {d} {y} ok closed (s ∷ ss) [] {before} r =
+    let fits = closed (before ++ s ∷ []) ss (subst Fits (sym (append_assoc before (s ∷ []) ss)) r.fits) in
+    absurd (no_segment_before ok Fits closed (flat_map segment_bytes ss ++ (stuffed (b ∷ c) ++ x)) s r.begun.0 fits (subst (λ u. EndsPieces h Fits u d y) (append-nil before) r.ends)
+    (sym r.same ∙ append_assoc (segment_bytes s) (flat_map segment_bytes ss) (stuffed (b ∷ c) ++ x)))
+begun_cut {h} {Fits} {b} {c} {x} {d} {y} ok closed (s ∷ ss) (t ∷ ts) {before} r =
+    let after_s : List ℕ = flat_map segment_bytes ss ++ (stuffed (b ∷ c) ++ x) in
+    let after_t : List ℕ = flat_map segment_bytes ts ++ (stuffed d ++ y) in
+    let first = one_segment ok s t after_s after_t r.begun.0 r.whole.0
+    (sym (append_assoc (segment_bytes s) (flat_map segment_bytes ss) (stuffed (b ∷ c) ++ x)) ∙ r.same ∙ append_assoc (segment_bytes t) (flat_map segment_bytes ts) (stuffed d ++ y)) in
+    let front = sym (append_assoc before (s ∷ []) ss) in
+    let front' = ap (λ u. before ++ u ∷ ts) (sym first.0) ∙ sym (append_assoc before (s ∷ []) ts) in
+    let r' : TwoReadings h Fits (before ++ s ∷ []) ss ts b c x d y =
+    record { same = first.1; begun = r.begun.1; whole = r.whole.1; fits = subst Fits front r.fits; ends = subst (λ u. EndsPieces h Fits u d y) front' r.ends } in
+    let rest = begun_cut ok closed ss ts r' in
+    (λ i. first.0 i ∷ rest.0 i, rest.1, rest.2)
 
 -- in a whole stripe
 pub begun_in_stripe : {h : Fields} {ss : List Segment} {b : ℕ} {c : List ℕ} → IsAccepted h → (x : List ℕ) (t : Stripe) (y : List ℕ) → IsBegun h ss (b ∷ c) → IsStripe h t →
     flat_map segment_bytes ss ++ (stuffed (b ∷ c) ++ x) ≡ stripe_bytes t ++ y → (ss ≡ t.segments) × (more : List ℕ) × (t.code ≡ (b ∷ c) ++ more)
 begun_in_stripe {h} {ss} {b} {c} ok x t y p q e =
-    begun_cut ok (λ _ _ _. tt) [] ss t.segments b c x (e ∙ cut_at_marker t y) p.legal q.legal tt (marker_ends h Any t.segments t.code t.reset y)
+    begun_cut {Fits = Any} {c = c} {x = x} ok (λ _ _ _. tt) ss t.segments {before = []}
+    (record { same = e ∙ cut_at_marker t y; begun = p.legal; whole = q.legal; fits = tt; ends = marker_ends h Any t.segments t.code t.reset y })
 
 -- in one that isn't whole
 pub begun_in_fault : {h : Fields} {height n b : ℕ} {ss : List Segment} {c tail : List ℕ} {f : Fault} → IsAccepted h → (k : ℕ) → Suits h height k → (x : List ℕ) →
@@ -403,8 +413,8 @@ pub begun_in_fault : {h : Fields} {height n b : ℕ} {ss : List Segment} {c tail
     GiveOnly height n ss →
     (w : StripeFault h (spot_of height k n) tail f) → flat_map segment_bytes ss ++ (stuffed (b ∷ c) ++ x) ≡ tail → (ss ≡ w.segments) × (more : List ℕ) × (w.code ≡ (b ∷ c) ++ more)
 begun_in_fault {height} {n} {b} {ss} {c} ok k suits x p g w e =
-    begun_cut ok (fits_closed ok height k n suits) [] ss w.segments b c x (e ∙ w.bytes_are) p.legal w.begun.legal
-    (record { one_move = p.one_move; gives = g }) (left_ends ok height k n suits w)
+    begun_cut {c = c} {x = x} ok (fits_closed ok height k n suits) ss w.segments {before = []}
+    (record { same = e ∙ w.bytes_are; begun = p.legal; whole = w.begun.legal; fits = record { one_move = p.one_move; gives = g }; ends = left_ends ok height k n suits w })
 
 -- a whole stripe that is at the front of one that isn't
 pub stripe_in_fault : {h : Fields} {height n : ℕ} {tail : List ℕ} {f : Fault} → IsAccepted h → (k : ℕ) → Suits h height k → (s : Stripe) (x : List ℕ) → IsStripe h s →

@@ -1,170 +1,167 @@
 -- Codes decide the rows and flags of their stripes, from the first on.
-use Rattle.std.proofs.Common.{◌≡◌, ℕ, zero, suc, ◌+◌, ◌-◌, ◌*◌, ◌/◌, ◌<◌, ◌≤◌, ◌⊎◌, inl, inr, Bool, true, false, nat_lt, nat_eq, List, [], ◌∷◌, ◌++◌, length, arith, refl, ap, ◌∙◌, sym, subst, Option}
+use Rattle.std.proofs.Common.{◌≡◌, ℕ, zero, suc, ◌+◌, ◌-◌, ◌*◌, ◌/◌, ◌<◌, ◌≤◌, ◌⊎◌, inl, inr, true, false, nat_lt, nat_eq, List, [], ◌∷◌, ◌++◌, length, map, arith, refl, ap, ◌∙◌, sym, subst}
 use Rattle.std.specs.Prelude.{slice_index_or, if◌then◌else◌, min, flat_map, ◌==◌}
 use Rattle.std.specs.List.{AllByRecursion}
 use Rattle.std.proofs.lemmas.Bool.{lt-ltb, cases_lt}
 use Rattle.std.proofs.lemmas.Bool.Decides.{nat_tests}
+use Rattle.std.proofs.lemmas.List.{length-map}
 use Rattle.std.proofs.Math.Nat.{div-mul-le_self, lt_of_mul-lt-mul_right}
 use Rattle.raster_core.specs.Raster.{row_above, white_row}
-use Rattle.raster_core.specs.Lines.{Mode, row_events, numbers_from, IsLegalFlag}
-use Rattle.t85_core.specs.Coding.{Coding, top_of, offset_of, previous_of, flag_of, events_of_row, events_of, learned_at, begun, HasLegalFlags, is_fresh}
+use Rattle.raster_core.specs.Lines.{numbers_from}
+use Rattle.t85_core.specs.Coding.{Coding, FlaggedRows, top_of, offset_of, previous_of, flag_of, events_of_row, learned_at, begun, HasLegalFlags, is_fresh, mode_of}
+use Rattle.t85_core.specs.Header.{Fields}
+use Rattle.t85_core.specs.Grammar.{Stripe}
 use Rattle.t85_core.specs.Denotes.{EachLies}
-use Rattle.t85_core.proofs.Theorems.Joined.{after_append, top_le, row_here}
-use Rattle.t85_core.proofs.Bytes.Elements.{all_at}
-use Rattle.t85_core.proofs.Theorems.Alike.{coding, same_events}
+use Rattle.t85_core.specs.Steps.Looked.{flag_before}
+use Rattle.t85_core.proofs.Theorems.Joined.{after_append, numbers_from_parts, top_le, row_here, above_long}
+use Rattle.t85_core.proofs.Theorems.Alike.{coding, Agree, all_same, same_events_in, same_stripe_events}
 use Rattle.std.proofs.lemmas.Grind.{flat_map-append}
 use Rattle.qm_core.specs.Place.{IsPlace, State, Event, after, fresh, start}
-use Rattle.qm_core.specs.Code.{Lies}
 use Rattle.t85_core.specs.Steps.CoderLaws.{CoderLaws}
-use Rattle.t85_core.proofs.Theorems.OneRow.{lines, one_row}
+use Rattle.t85_core.proofs.Theorems.OneRow.{Around, RowIn, one_row}
+use Rattle.qm_core.specs.Code.{Lies}
 
 pub start_IsPlace : IsPlace start
 start_IsPlace = record { large = omega arith; small = omega arith; within = omega arith }
-
-pub numbers_from_split : (a k r : ℕ) → numbers_from a (k + suc r) ≡ numbers_from a k ++ (a + k) ∷ numbers_from (a + k + 1) r
-numbers_from_split a zero r =
-    let n : zero + suc r ≡ suc r = omega arith in
-    let z : a ≡ a + 0 = omega arith in
-    ap (numbers_from a) n ∙ ap (λ u. u ∷ numbers_from (u + 1) r) z
-numbers_from_split a (suc k) r =
-    let n : suc k + suc r ≡ suc (k + suc r) = omega arith in
-    let z : (a + 1) + k ≡ a + suc k = omega arith in
-    ap (numbers_from a) n ∙ ap (λ u. a ∷ u) (numbers_from_split (a + 1) k r) ∙ ap (λ u. a ∷ (numbers_from (a + 1) k ++ u ∷ numbers_from (u + 1) r)) z
 
 -- the events of a stripe, cut at a row
 pub to_row : (c : Coding) (s : State) (first k r : ℕ) →
     after s (flat_map (events_of_row c) (numbers_from first (k + suc r)))
     ≡ after (after s (flat_map (events_of_row c) (numbers_from first k))) (events_of_row c (first + k) ++ flat_map (events_of_row c) (numbers_from (first + k + 1) r))
 to_row c s first k r =
-    ap (λ ys. after s (flat_map (events_of_row c) ys)) (numbers_from_split first k r)
+    ap (λ ys. after s (flat_map (events_of_row c) ys)) (numbers_from_parts first k (suc r))
     ∙ ap (after s) (flat_map-append (events_of_row c) (numbers_from first k) ((first + k) ∷ numbers_from (first + k + 1) r))
     ∙ after_append s (flat_map (events_of_row c) (numbers_from first k)) (events_of_row c (first + k) ++ flat_map (events_of_row c) (numbers_from (first + k + 1) r))
 
-module _ (w : ℕ) (mode : Mode) (l : ℕ) (some : 0 < l) (moves : List (Option (ℕ × ℕ))) (resets : List Bool) (rows rows' : List (List Bool)) (flags flags' : List Bool) where
+-- ---- codings with the same stripes and the same first rows
+
+module _ {h : Fields} (stripes : List Stripe) {x y : FlaggedRows} {n : ℕ} (a : Agree h x y n) where
   abbrev c : Coding
-  c = coding w mode l rows moves resets flags
+  c = coding h stripes x
 
   abbrev d : Coding
-  d = coding w mode l rows' moves resets flags'
+  d = coding h stripes y
 
-  -- the first n rows and their flags are the same
-  pub record Agree (n : ℕ) : Type 0 where
-    pub rows_are : (y : ℕ) → y < n → slice_index_or rows y (white_row w) ≡ slice_index_or rows' y (white_row w)
-    pub flags_are : (y : ℕ) → y < n → slice_index_or flags y false ≡ slice_index_or flags' y false
+  pub learned_agrees : n ≤ length x.rows → n ≤ length y.rows → (i : ℕ) → i * h.l0 ≤ n → learned_at c i ≡ learned_at d i
+  learned_agrees le le' zero part = refl
+  learned_agrees le le' (suc i) part =
+      let before = learned_agrees le le' i (omega arith) in
+      let events = same_stripe_events (all_same stripes) a le le' i part in
+      λ j. if is_fresh c (suc i) then fresh else (after (begun (before j)) (events j)).learned
 
-  pub events_agree : (n y : ℕ) → Agree n → y < n → events_of_row c y ≡ events_of_row d y
-  events_agree n y a h = same_events w mode l n rows rows' moves moves resets resets flags flags' a.rows_are a.flags_are (λ _ _. refl) (λ _ _. refl) y h
-
-  pub events_in : (n t k : ℕ) → Agree n → t + k ≤ n → flat_map (events_of_row c) (numbers_from t k) ≡ flat_map (events_of_row d) (numbers_from t k)
-  events_in n t zero a h = refl
-  events_in n t (suc k) a h =
-      let first : events_of_row c t ≡ events_of_row d t = events_agree n t a (omega (arith, h)) in
-      let others : flat_map (events_of_row c) (numbers_from (t + 1) k) ≡ flat_map (events_of_row d) (numbers_from (t + 1) k) = events_in n (t + 1) k a (omega (arith, h)) in
-      ap (λ es. es ++ flat_map (events_of_row c) (numbers_from (t + 1) k)) first ∙ ap (λ es. events_of_row d t ++ es) others
-
-  pub stripe_agrees : (n i : ℕ) → Agree n → suc i * l ≤ n → n ≤ length rows → n ≤ length rows' → events_of c i ≡ events_of d i
-  stripe_agrees n i a h le le' =
-      let here : min l (length rows - i * l) ≡ l = omega (arith, h, le) in
-      let there : min l (length rows' - i * l) ≡ l = omega (arith, h, le') in
-      ap (λ m. flat_map (events_of_row c) (numbers_from (i * l) m)) here
-      ∙ events_in n (i * l) l a (omega (arith, h))
-      ∙ ap (λ m. flat_map (events_of_row d) (numbers_from (i * l) m)) (sym there)
-
-  pub learned_agrees : (n i : ℕ) → Agree n → i * l ≤ n → n ≤ length rows → n ≤ length rows' → learned_at c i ≡ learned_at d i
-  learned_agrees n zero a h le le' = refl
-  learned_agrees n (suc i) a h le le' =
-      let before : learned_at c i ≡ learned_at d i = learned_agrees n i a (omega (arith, h)) le le' in
-      let events : events_of c i ≡ events_of d i = stripe_agrees n i a h le le' in
-      ap (λ s. if is_fresh c (suc i) then fresh else (after (begun s) (events_of c i)).learned) before
-      ∙ ap (λ es. if is_fresh c (suc i) then fresh else (after (begun (learned_at d i)) es).learned) events
-
-  pub above_agrees : (n top k : ℕ) → Agree n → 1 ≤ k → row_above c.raster top n k ≡ row_above d.raster top n k
-  above_agrees n top k a some_k = went (cases_lt n (top + k)) where
+  pub above_agrees : (top k : ℕ) → 1 ≤ k → row_above c.raster top n k ≡ row_above d.raster top n k
+  above_agrees top k some = went (cases_lt n (top + k)) where
     went : (n < top + k) ⊎ (top + k ≤ n) → row_above c.raster top n k ≡ row_above d.raster top n k
-    went (inl less) =
-        let t : nat_lt n (top + k) ≡ true = lt-ltb n (top + k) less in
-        ap (λ b. if b then white_row w else slice_index_or rows (n - k) (white_row w)) t
-        ∙ ap (λ b. if b then white_row w else slice_index_or rows' (n - k) (white_row w)) (sym t)
-    went (inr more) = ap (λ row. if nat_lt n (top + k) then white_row w else row) (a.rows_are (n - k) (omega (arith, more, some_k)))
+    went (inl less) = rw (lt-ltb n (top + k) less)
+    went (inr more) =
+        let row = a.rows_are (n - k) (omega arith) in
+        λ j. if nat_lt n (top + k) then white_row h.xd else row j
 
-  pub previous_agrees : (n : ℕ) → Agree n → previous_of c n ≡ previous_of d n
-  previous_agrees zero a =
-      let le : top_of c zero ≤ zero = top_le c zero in
-      let t : nat_eq (top_of c zero) zero ≡ true = grind (arith, nat_tests) in
-      ap (λ b. if b then false else slice_index_or flags (zero - 1) false) t
-      ∙ ap (λ b. if b then false else slice_index_or flags' (zero - 1) false) (sym t)
-  previous_agrees (suc n) a = ap (λ f. if top_of c (suc n) == suc n then false else f) (a.flags_are (suc n - 1) (omega arith))
+  pub previous_agrees : (t : ℕ) → t ≤ n → flag_before c t n ≡ flag_before d t n
+  previous_agrees t le = went (cases_lt 0 n) where
+    went : (0 < n) ⊎ (n ≤ 0) → flag_before c t n ≡ flag_before d t n
+    went (inl some) =
+        let flag = a.flags_are (n - 1) (omega arith) in
+        λ j. if t == n then false else flag j
+    went (inr none) =
+        let top : nat_eq t n ≡ true = grind (arith, nat_tests) in
+        rw top
 
-  module _ (q : CoderLaws) (codes : List (List ℕ)) (wide : AllByRecursion (λ row. length row ≡ w) rows) (wide' : AllByRecursion (λ row. length row ≡ w) rows')
-      (legal : HasLegalFlags c) (legal' : HasLegalFlags d) (lies : EachLies c codes) (lies' : EachLies d codes) where
-    next_agrees : (n : ℕ) → Agree n → n < length rows → n < length rows' → n < length codes * l →
-        (slice_index_or rows n (white_row w) ≡ slice_index_or rows' n (white_row w)) × (slice_index_or flags n false ≡ slice_index_or flags' n false)
-    next_agrees n a lt lt' in_codes =
-        let i : ℕ = n / l in
-        let k : ℕ = n - n / l * l in
-        let from : n / l * l ≤ n = div-mul-le_self n l in
-        let to : n < n / l * l + l = omega (arith, some) in
-        let at : n / l * l + (n - n / l * l) ≡ n = omega (arith, from) in
-        let r : ℕ = min l (length rows - n / l * l) - (n - n / l * l) - 1 in
-        let r' : ℕ = min l (length rows' - n / l * l) - (n - n / l * l) - 1 in
-        let all : min l (length rows - n / l * l) ≡ k + suc r = omega (arith, from, to, lt) in
-        let all' : min l (length rows' - n / l * l) ≡ k + suc r' = omega (arith, from, to, lt') in
-        let in_i : n / l * l < length codes * l = omega (arith, from, in_codes) in
-        let here : n / l < length codes = lt_of_mul-lt-mul_right l in_i in
-        let code : List ℕ = slice_index_or codes (n / l) [] in
-        let s : State = after (begun (learned_at c (n / l))) (flat_map (events_of_row c) (numbers_from (n / l * l) (n - n / l * l))) in
-        let more : List Event = flat_map (events_of_row c) (numbers_from (n + 1) r) in
-        let other : List Event = flat_map (events_of_row d) (numbers_from (n + 1) r') in
-        let p : IsPlace s.place = q.events_keep_place (flat_map (events_of_row c) (numbers_from (n / l * l) (n - n / l * l))) (begun (learned_at c (n / l))) start_IsPlace in
-        let la : Lies code (after s (events_of_row c n ++ more)).place =
-        subst (λ u. Lies code (after s (events_of_row c u ++ flat_map (events_of_row c) (numbers_from (u + 1) r))).place) at
-        (subst (λ u. Lies code u.place) (to_row c (begun (learned_at c (n / l))) (n / l * l) k r)
-        (subst (λ m. Lies code (after (begun (learned_at c (n / l))) (flat_map (events_of_row c) (numbers_from (n / l * l) m))).place) all (lies (n / l) here))) in
-        let same_state : after (begun (learned_at d (n / l))) (flat_map (events_of_row d) (numbers_from (n / l * l) (n - n / l * l))) ≡ s =
-        ap (λ e. after (begun e) (flat_map (events_of_row d) (numbers_from (n / l * l) (n - n / l * l)))) (sym (learned_agrees n (n / l) a from (omega (arith, lt)) (omega (arith, lt'))))
-        ∙ ap (after (begun (learned_at c (n / l)))) (sym (events_in n (n / l * l) (n - n / l * l) a (omega (arith, at)))) in
-        let lb : Lies code (after s (events_of_row d n ++ other)).place =
-        subst (λ z. Lies code (after z (events_of_row d n ++ other)).place) same_state
-        (subst (λ u. Lies code (after (after (begun (learned_at d (n / l))) (flat_map (events_of_row d) (numbers_from (n / l * l) (n - n / l * l)))) (events_of_row d u ++ flat_map (events_of_row d) (numbers_from (u + 1) r'))).place) at
-        (subst (λ u. Lies code u.place) (to_row d (begun (learned_at d (n / l))) (n / l * l) k r')
-        (subst (λ m. Lies code (after (begun (learned_at d (n / l))) (flat_map (events_of_row d) (numbers_from (n / l * l) m))).place) all' (lies' (n / l) here)))) in
+-- ---- rows where codes lie
+
+-- stripe i's code
+abbrev pub code_at : List Stripe → ℕ → List ℕ
+code_at stripes i = slice_index_or (map (λ s. s.code) stripes) i []
+
+-- rows with legal flags, where each stripe's code lies
+pub record Lying (h : Fields) (stripes : List Stripe) (x : FlaggedRows) : Type 0 where
+  pub wide : AllByRecursion (λ row. length row ≡ h.xd) x.rows
+  pub legal : HasLegalFlags (coding h stripes x)
+  pub lies : EachLies (coding h stripes x) (map (λ s. s.code) stripes)
+
+-- what row n is coded with
+abbrev pub around : Coding → ℕ → Around
+around c n = record { mode = c.mode; above = row_above c.raster (top_of c n) n 1; second = row_above c.raster (top_of c n) n 2; offset = offset_of c n; previous = previous_of c n }
+
+-- the first row of row n's stripe, and the rows from there to row n
+abbrev pub first_of : Coding → ℕ → ℕ
+first_of c n = n / c.stripe_rows * c.stripe_rows
+
+abbrev pub rows_to : Coding → ℕ → List ℕ
+rows_to c n = numbers_from (first_of c n) (n - first_of c n)
+
+-- the state before row n
+abbrev pub state_at : Coding → ℕ → State
+state_at c n = after (begun (learned_at c (n / c.stripe_rows))) (flat_map (events_of_row c) (rows_to c n))
+
+-- a row more
+up_to : (P : ℕ → Type 0) {n : ℕ} → ((r : ℕ) → r < n → P r) → P n → (r : ℕ) → r < suc n → P r
+up_to P {n} below here r lt = went (cases_lt r n) where
+  went : (r < n) ⊎ (n ≤ r) → P r
+  went (inl less) = below r less
+  went (inr more) = let same : n ≡ r = omega arith in subst P same here
+
+pub state_IsPlace : CoderLaws → (c : Coding) (n : ℕ) → IsPlace (state_at c n).place
+state_IsPlace q c n = q.events_keep_place (flat_map (events_of_row c) (rows_to c n)) (begun (learned_at c (n / c.stripe_rows))) start_IsPlace
+
+module _ (q : CoderLaws) {h : Fields} {stripes : List Stripe} (some : 0 < h.l0) where
+  -- row n, before some events
+  row_in : {x : FlaggedRows} → Lying h stripes x → (n : ℕ) → n < length x.rows → n < length stripes * h.l0 →
+      (more : List Event) × RowIn (around (coding h stripes x) n) h.xd (state_at (coding h stripes x) n) (code_at stripes (n / h.l0)) more
+      (row_above (record { width = h.xd; rows = x.rows }) (top_of (coding h stripes x) n) n 0) (slice_index_or x.flags n false)
+  row_in {x} lying n lt in_stripes =
+      let c : Coding = coding h stripes x in
+      let i : ℕ = n / h.l0 in
+      let first : ℕ = n / h.l0 * h.l0 in
+      let from : n / h.l0 * h.l0 ≤ n = div-mul-le_self n h.l0 in
+      let to : n < n / h.l0 * h.l0 + h.l0 = omega arith in
+      let r : ℕ = min h.l0 (length x.rows - n / h.l0 * h.l0) - (n - n / h.l0 * h.l0) - 1 in
+      let all : min h.l0 (length x.rows - n / h.l0 * h.l0) ≡ (n - n / h.l0 * h.l0) + suc (min h.l0 (length x.rows - n / h.l0 * h.l0) - (n - n / h.l0 * h.l0) - 1) = omega arith in
+      let at : n / h.l0 * h.l0 + (n - n / h.l0 * h.l0) ≡ n = omega arith in
+      let less : n / h.l0 * h.l0 < length stripes * h.l0 = omega arith in
+      let below : n / h.l0 < length stripes = lt_of_mul-lt-mul_right h.l0 less in
+      let here : n / h.l0 < length (map (λ s. s.code) stripes) = omega (arith, length-map stripes (λ s. s.code)) in
+      let learned : State = begun (learned_at c i) in
+      let path : after learned (flat_map (events_of_row c) (numbers_from first (min h.l0 (length x.rows - first))))
+      ≡ after (state_at c n) (events_of_row c n ++ flat_map (events_of_row c) (numbers_from (n + 1) r)) =
+      ap (λ m. after learned (flat_map (events_of_row c) (numbers_from first m))) all ∙ to_row c learned first (n - first) r
+      ∙ ap (λ z. after (state_at c n) (events_of_row c z ++ flat_map (events_of_row c) (numbers_from (z + 1) r))) at in (
+        flat_map (events_of_row c) (numbers_from (n + 1) r),
+        record {
+          wide = above_long c.raster lying.wide (top_of c n) n 0;
+          legal = lying.legal n lt;
+          lies = subst (λ u. Lies (code_at stripes i) u.place) path (lying.lies i here);
+        },
+      )
+
+  module _ {x y : FlaggedRows} (one : Lying h stripes x) (other : Lying h stripes y) where
+    next_agrees : {n : ℕ} → Agree h x y n → n < length x.rows → n < length y.rows → n < length stripes * h.l0 →
+        (slice_index_or x.rows n (white_row h.xd) ≡ slice_index_or y.rows n (white_row h.xd)) × (slice_index_or x.flags n false ≡ slice_index_or y.flags n false)
+    next_agrees {n} a lt lt' in_stripes =
+        let c : Coding = coding h stripes x in
+        let d : Coding = coding h stripes y in
         let top : ℕ = top_of c n in
-        let ra : List Bool = row_above c.raster top n 0 in
-        let rb : List Bool = row_above d.raster top n 0 in
-        let ha : ra ≡ slice_index_or rows n (white_row w) = row_here c.raster top n (top_le c n) in
-        let hb : rb ≡ slice_index_or rows' n (white_row w) = row_here d.raster top n (top_le c n) in
-        let wa : length ra ≡ w = ap length ha ∙ all_at (λ row. length row ≡ w) rows n (white_row w) wide lt in
-        let wb : length rb ≡ w = ap length hb ∙ all_at (λ row. length row ≡ w) rows' n (white_row w) wide' lt' in
-        let e1 : row_above d.raster top n 1 ≡ row_above c.raster top n 1 = sym (above_agrees n top 1 a (omega arith)) in
-        let e2 : row_above d.raster top n 2 ≡ row_above c.raster top n 2 = sym (above_agrees n top 2 a (omega arith)) in
-        let e3 : previous_of d n ≡ previous_of c n = sym (previous_agrees n a) in
-        let kb : IsLegalFlag mode (lines rb (row_above c.raster top n 1) (row_above c.raster top n 2)) (flag_of d n) =
-        subst (λ u. IsLegalFlag mode (lines rb (row_above c.raster top n 1) u) (flag_of d n)) e2
-        (subst (λ u. IsLegalFlag mode (lines rb u (row_above d.raster top n 2)) (flag_of d n)) e1 (legal' n lt')) in
-        let lb' : Lies code (after s (row_events mode (lines rb (row_above c.raster top n 1) (row_above c.raster top n 2)) (offset_of c n) (previous_of c n) (flag_of d n) ++ other)).place =
-        subst (λ u. Lies code (after s (row_events mode (lines rb (row_above c.raster top n 1) (row_above c.raster top n 2)) (offset_of c n) u (flag_of d n) ++ other)).place) e3
-        (subst (λ u. Lies code (after s (row_events mode (lines rb (row_above c.raster top n 1) u) (offset_of c n) (previous_of d n) (flag_of d n) ++ other)).place) e2
-        (subst (λ u. Lies code (after s (row_events mode (lines rb u (row_above d.raster top n 2)) (offset_of c n) (previous_of d n) (flag_of d n) ++ other)).place) e1 lb)) in
-        let one = one_row q mode.two_line mode.typical (row_above c.raster top n 1) (row_above c.raster top n 2) (offset_of c n) w (previous_of c n) ra rb (flag_of c n) (flag_of d n) s code more other p wa wb (legal n lt) kb la lb' in
-        (sym ha ∙ one.0 ∙ hb, one.1)
+        let u = row_in one n lt in_stripes in
+        let v = row_in other n lt' in_stripes in
+        let from : n / h.l0 * h.l0 ≤ n = div-mul-le_self n h.l0 in
+        let learned = learned_agrees stripes a (omega arith) (omega arith) (n / h.l0) from in
+        let events = same_events_in (all_same stripes) a (n / h.l0 * h.l0) (n - n / h.l0 * h.l0) (omega arith) in
+        let above = above_agrees stripes a top 1 (omega arith) in
+        let second = above_agrees stripes a top 2 (omega arith) in
+        let previous = previous_agrees stripes a top (top_le c n) in
+        let around_is : around d n ≡ around c n = sym (λ j. record { mode = mode_of h.options; above = above j; second = second j; offset = offset_of c n; previous = previous j }) in
+        let state_is : state_at d n ≡ state_at c n = sym (λ j. after (begun (learned j)) (events j)) in
+        let w = subst (λ (z : Around × State). RowIn z.0 h.xd z.1 (code_at stripes (n / h.l0)) v.0 (row_above d.raster top n 0) (flag_of d n)) (λ j. (around_is j, state_is j)) v.1 in
+        let same = one_row q (state_IsPlace q c n) u.1 w in
+        (sym (row_here c.raster top n (top_le c n)) ∙ same.0 ∙ row_here d.raster top n (top_le d n), same.1)
 
     -- The rows that both have, as far as there are codes, are the same, and so are their flags.
-    pub agree : (n : ℕ) → n ≤ length rows → n ≤ length rows' → n ≤ length codes * l → Agree n
-    agree zero h h' k = record { rows_are = λ y lt. absurd (omega (arith, lt)); flags_are = λ y lt. absurd (omega (arith, lt)) }
-    agree (suc n) h h' k =
-        let before = agree n (omega (arith, h)) (omega (arith, h')) (omega (arith, k)) in
-        let here = next_agrees n before (omega (arith, h)) (omega (arith, h')) (omega (arith, k)) in
+    pub agree : (n : ℕ) → n ≤ length x.rows → n ≤ length y.rows → n ≤ length stripes * h.l0 → Agree h x y n
+    agree zero le le' in_stripes = record { rows_are = λ r lt. absurd (omega arith); flags_are = λ r lt. absurd (omega arith) }
+    agree (suc n) le le' in_stripes =
+        let before = agree n (omega arith) (omega arith) (omega arith) in
+        let here = next_agrees before (omega arith) (omega arith) (omega arith) in
         record {
-          rows_are = λ y lt. up y (cases_lt y n) lt before.rows_are here.0;
-          flags_are = λ y lt. up_flags y (cases_lt y n) lt before.flags_are here.1;
+          rows_are = up_to (λ r. slice_index_or x.rows r (white_row h.xd) ≡ slice_index_or y.rows r (white_row h.xd)) before.rows_are here.0;
+          flags_are = up_to (λ r. slice_index_or x.flags r false ≡ slice_index_or y.flags r false) before.flags_are here.1;
         }
-      where
-        up : (y : ℕ) → (y < n) ⊎ (n ≤ y) → y < suc n → ((z : ℕ) → z < n → slice_index_or rows z (white_row w) ≡ slice_index_or rows' z (white_row w)) →
-            slice_index_or rows n (white_row w) ≡ slice_index_or rows' n (white_row w) → slice_index_or rows y (white_row w) ≡ slice_index_or rows' y (white_row w)
-        up y (inl less) lt below e = below y less
-        up y (inr more) lt below e = let same : n ≡ y = omega (arith, lt, more) in subst (λ z. slice_index_or rows z (white_row w) ≡ slice_index_or rows' z (white_row w)) same e
-
-        up_flags : (y : ℕ) → (y < n) ⊎ (n ≤ y) → y < suc n → ((z : ℕ) → z < n → slice_index_or flags z false ≡ slice_index_or flags' z false) →
-            slice_index_or flags n false ≡ slice_index_or flags' n false → slice_index_or flags y false ≡ slice_index_or flags' y false
-        up_flags y (inl less) lt below e = below y less
-        up_flags y (inr more) lt below e = let same : n ≡ y = omega (arith, lt, more) in subst (λ z. slice_index_or flags z false ≡ slice_index_or flags' z false) same e

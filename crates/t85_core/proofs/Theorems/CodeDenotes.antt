@@ -1,5 +1,5 @@
 -- The stream that is written for a raster denotes it.
-use Rattle.std.proofs.Common.{◌≡◌, ◌≢◌, ◌⊎◌, inl, inr, ℕ, zero, suc, ◌+◌, ◌*◌, ◌<◌, ◌≤◌, ◌%◌, ◌/◌, ◌^◌, Bool, true, false, not, ◌&&◌, nat_eq, nat_lt, List, [], ◌∷◌, ◌++◌, length, map, refl, sym, ◌∙◌, ap, subst, arith, Option, None, Some, append-nil, append_assoc, true≢false}
+use Rattle.std.proofs.Common.{◌≡◌, ◌⊎◌, inl, inr, ℕ, zero, suc, ◌+◌, ◌*◌, ◌<◌, ◌≤◌, ◌%◌, ◌^◌, true, false, nat_lt, List, [], ◌∷◌, ◌++◌, length, map, refl, sym, ◌∙◌, ap, subst, arith, Option, None, Some, append-nil, append_assoc}
 use Rattle.std.specs.Prelude.{slice_index_or, flat_map, IsTrue, is_some, unwrap_or, if◌then◌else◌}
 use Rattle.std.specs.List.{AllByRecursion}
 use Rattle.std.proofs.lemmas.Grind.{div_ceil_times}
@@ -12,95 +12,21 @@ use Rattle.std.proofs.lemmas.Simd.{map-map}
 use Rattle.qm_core.specs.Place.{IsPlace}
 use Rattle.qm_core.specs.Code.{Lies, code_of}
 use Rattle.raster_core.specs.Raster.{Raster, IsRaster, height}
-use Rattle.raster_core.specs.Lines.{Mode, numbers_from, may_be_typical}
+use Rattle.raster_core.specs.Lines.{Lines, numbers_from, may_be_typical}
 use Rattle.raster_core.specs.Offset.{chosen_offset}
-use Rattle.t85_core.specs.Header.{Fields, HeaderOf, IsAccepted, header_bytes}
+use Rattle.t85_core.specs.Header.{Fields, IsAccepted}
 use Rattle.t85_core.specs.Grammar.{Segment, NewLength, Stripe, IsBegun, AreStripes, GiveOnly, segment_bytes, marker_bytes, lengths, all_segments, stripe_bytes, stripe_count}
-use Rattle.t85_core.specs.Coding.{Coding, HasLegalFlags, has_bit, mode_of, move_of, rows_of, lines_of, learned_at, begun, events_of, place_of}
+use Rattle.t85_core.specs.Coding.{Coding, HasLegalFlags, move_of, rows_of, lines_of, learned_at, begun, events_of, place_of}
 use Rattle.t85_core.specs.Denotes.{Denotes, EachLies, coding_in}
 use Rattle.t85_core.specs.Height.{GivesHeight, IsHeight}
 use Rattle.t85_core.specs.Jbg.{Settings, AreSettings, IsAnnounced, written_options, header_of, ending, cut, coding_of, canonical_flags, named_for, first_choice, choice_after, current_offset, move_before, move_segments, coded_stripe, stripes_of, jbg}
 use Rattle.t85_core.specs.Steps.CoderLaws.{WritingLaws}
-use Rattle.t85_core.proofs.Walks.Segments.{row_of}
 use Rattle.t85_core.proofs.Bytes.Lengths.{lengths_append, gives_none, valid_in_use}
 use Rattle.t85_core.proofs.Grammar.Cut.{one_front, parts_or_fault}
 use Rattle.t85_core.proofs.Grammar.Heights.{never_suits, given_breaks}
 use Rattle.t85_core.proofs.Encodings.EncoderRows.{get_mapped, same_lines, flag_is_typical}
+use Rattle.t85_core.proofs.Theorems.HeaderWritten.{WrittenBits, header_begins, written_bits}
 use Rattle.t85_core.proofs.Theorems.CodeParts.{length_mapped, mapped_is, all_mapped, chosen_within, moved_within, with_first, with_first_bytes, with_first_map, with_first_all, comments, move_behind, move_alone, begun_with_comment, begun_with_move}
-
--- the bytes of a header, with whatever after them
-pub header_begins : (h : Fields) (rest : List ℕ) → IsAccepted h → HeaderOf (header_bytes h ++ rest) h
-header_begins h rest ok = record {
-  whole = omega arith;
-  dl = refl;
-  d = refl;
-  p = refl;
-  zero = refl;
-  xd = row_of h.xd [] (omega (arith, ok.width_to));
-  yd = row_of h.yd [] ok.height_to;
-  l0 = row_of h.l0 [] ok.stripe_to;
-  mx = refl;
-  order = omega arith;
-  options = refl;
-  accepted = ok;
-}
-
--- ---- the options byte
-
--- what VLENGTH adds to an options byte that hasn't it
-record AddsBit (o : ℕ) : Type 0 where
-  pub small : o + 32 < 128
-  pub low : (o + 32) % 8 ≡ o % 8
-  pub two_line : has_bit (o + 32) 6 ≡ has_bit o 6
-  pub typical : has_bit (o + 32) 3 ≡ has_bit o 3
-  pub set : has_bit (o + 32) 5 ≡ true
-
-adds_bit : (o : ℕ) → o < 128 → has_bit o 5 ≡ false → AddsBit o
-adds_bit o small clear =
-    let even : o / 32 % 2 ≢ 1 = differs (o / 32 % 2) 1 clear in
-    record {
-      small = omega (arith, small, even);
-      low = omega arith;
-      two_line = (let e : (o + 32) / 64 % 2 ≡ o / 64 % 2 = omega (arith, small, even) in ap (λ n. nat_eq n 1) e);
-      typical = (let e : (o + 32) / 8 % 2 ≡ o / 8 % 2 = omega arith in ap (λ n. nat_eq n 1) e);
-      set = (let e : (o + 32) / 32 % 2 ≡ 1 = omega (arith, even) in ap (λ n. nat_eq n 1) e);
-    }
-  where
-    differs : (a b : ℕ) → nat_eq a b ≡ false → a ≢ b
-    differs a b e p = (let t : nat_eq a b ≡ true = grind (arith, nat_tests) in true≢false (sym t ∙ e))
-
--- the options byte that is written
-pub record WrittenBits (s : Settings) : Type 0 where
-  pub small : written_options s < 128
-  pub low : written_options s % 8 ≡ s.options % 8
-  pub mode : mode_of (written_options s) ≡ mode_of s.options
-  pub variable : is_some s.announced ≡ true → has_bit (written_options s) 5 ≡ true
-
-pub written_bits : (s : Settings) → AreSettings s → WrittenBits s
-written_bits s ok = went (is_some s.announced) (has_bit s.options 5) refl refl where
-  byte : Bool → Bool → ℕ
-  byte a v = if a && not v then s.options + 32 else s.options
-
-  is_byte : (a v : Bool) → is_some s.announced ≡ a → has_bit s.options 5 ≡ v → written_options s ≡ (if a && not v then s.options + 32 else s.options)
-  is_byte a v p q = ap (λ u. if u && not (has_bit s.options 5) then s.options + 32 else s.options) p ∙ ap (λ u. if a && not u then s.options + 32 else s.options) q
-
-  made : (n : ℕ) → written_options s ≡ n → n < 128 → n % 8 ≡ s.options % 8 → mode_of n ≡ mode_of s.options → (is_some s.announced ≡ true → has_bit n 5 ≡ true) → WrittenBits s
-  made n e a b c d = record {
-    small = omega (arith, e, a);
-    low = ap (λ u. u % 8) e ∙ b;
-    mode = ap mode_of e ∙ c;
-    variable = λ t. ap (λ u. has_bit u 5) e ∙ d t;
-  }
-
-  went : (a v : Bool) → is_some s.announced ≡ a → has_bit s.options 5 ≡ v → WrittenBits s
-  went true false p q =
-      let b = adds_bit s.options ok.options_to q in
-      made (s.options + 32) (is_byte true false p q) b.small b.low (ap (λ u. mode_with u (has_bit (s.options + 32) 3)) b.two_line ∙ ap (mode_with (has_bit s.options 6)) b.typical) (λ _. b.set)
-    where
-      mode_with : Bool → Bool → Mode
-      mode_with t u = record { two_line = t; typical = u }
-  went true true p q = made s.options (is_byte true true p q) ok.options_to refl refl (λ _. q)
-  went false v p q = made s.options (is_byte false v p q) ok.options_to refl refl (λ t. absurd (true≢false (sym t ∙ p)))
 
 -- ---- segments that give no height
 
@@ -128,9 +54,9 @@ more_stripes : (a b l : ℕ) → 0 < l → a ≤ b → stripe_count a l ≤ stri
 more_stripes a b l some le =
     let t = div_ceil_times a l some in
     let u = div_ceil_times b l some in
-    let lt : stripe_count a l * l < (stripe_count b l + 1) * l = omega (arith, t.1, u.0, le) in
+    let lt : stripe_count a l * l < (stripe_count b l + 1) * l = omega arith in
     let lt' : stripe_count a l < stripe_count b l + 1 = lt_of_mul-lt-mul_right l lt in
-    omega (arith, lt')
+    omega arith
 
 module _ (q : WritingLaws) (s : Settings) (raster : Raster) (proper : AreSettings s) (is : IsRaster raster) (announced : IsAnnounced s (height raster)) where
   abbrev c : Coding
@@ -138,6 +64,10 @@ module _ (q : WritingLaws) (s : Settings) (raster : Raster) (proper : AreSetting
 
   abbrev n : ℕ
   n = stripe_count (height raster) s.stripe_rows
+
+  -- the raster as cut, before offsets are chosen
+  abbrev raw : Coding
+  raw = cut s raster
 
   abbrev h : Fields
   h = header_of s raster.width (height raster)
@@ -160,13 +90,13 @@ module _ (q : WritingLaws) (s : Settings) (raster : Raster) (proper : AreSetting
   accepted = record {
     width_from = is.width_from;
     width_to = is.width_to;
-    height_from = (let a : height raster ≤ unwrap_or s.announced (height raster) = announced in omega (arith, a, is.height_from));
+    height_from = (let a : height raster ≤ unwrap_or s.announced (height raster) = announced in omega arith);
     height_to = announced_small s.announced proper.announced_to;
     stripe_from = proper.stripe_from;
     stripe_to = proper.stripe_to;
     offset_to = proper.offset_to;
     options_to = bits.small;
-    no_table = (let e : written_options s % 8 ≡ 0 = bits.low ∙ proper.no_low_bit in omega (arith, e));
+    no_table = (let e : written_options s % 8 ≡ 0 = bits.low ∙ proper.no_low_bit in omega arith);
   }
 
   some_stripes : 0 < stripe_count (height raster) s.stripe_rows
@@ -183,12 +113,12 @@ module _ (q : WritingLaws) (s : Settings) (raster : Raster) (proper : AreSetting
 
   -- ---- what the stripes say
 
-  move_at : (i : ℕ) → i < n → slice_index_or c.moves i None ≡ move_before s (cut s raster) i
-  move_at i lt = let at : 0 + i ≡ i = omega arith in get_mapped (move_before s (cut s raster)) 0 n i None lt ∙ ap (move_before s (cut s raster)) at
+  move_at : (i : ℕ) → i < n → slice_index_or c.moves i None ≡ move_before s raw i
+  move_at i lt = let at : 0 + i ≡ i = omega arith in get_mapped (move_before s raw) 0 n i None lt ∙ ap (move_before s raw) at
 
   moves_are : map (λ x. move_of x.segments) stripes ≡ c.moves
   moves_are =
-      let many : length c.moves ≡ n = length_mapped (move_before s (cut s raster)) 0 n in
+      let many : length c.moves ≡ n = length_mapped (move_before s raw) 0 n in
       with_first_map (λ x. move_of x.segments) (comments s.comment) (λ x. move_behind s.comment x.segments) written
       ∙ map-map (λ x. move_of x.segments) (coded_stripe c) (numbers_from 0 n)
       ∙ ap (λ k. map (λ i. move_of (move_segments (slice_index_or c.moves i None))) (numbers_from 0 k)) (sym many)
@@ -208,11 +138,8 @@ module _ (q : WritingLaws) (s : Settings) (raster : Raster) (proper : AreSetting
       ∙ map-map (λ x. x.code) (coded_stripe c) (numbers_from 0 n)
 
   -- they say how the raster is coded
-  coding_is : coding_in h stripes (canonical_flags (cut s raster)) raster.rows ≡ coding_of s raster
-  coding_is = ap (λ t. made t (map (λ x. move_of x.segments) stripes) (map (λ x. x.reset) stripes)) bits.mode
-      ∙ ap (λ m. made (mode_of s.options) m (map (λ x. x.reset) stripes)) moves_are ∙ ap (λ r. made (mode_of s.options) c.moves r) resets_are where
-        made : Mode → List (Option (ℕ × ℕ)) → List Bool → Coding
-        made mode moves resets = record { raster = raster; mode = mode; stripe_rows = s.stripe_rows; moves = moves; resets = resets; flags = canonical_flags (cut s raster) }
+  coding_is : coding_in h stripes (canonical_flags raw) raster.rows ≡ coding_of s raster
+  coding_is = λ i. record { raster = raster; mode = bits.mode i; stripe_rows = s.stripe_rows; moves = moves_are i; resets = resets_are i; flags = canonical_flags raw }
 
   -- ---- codes
 
@@ -224,16 +151,17 @@ module _ (q : WritingLaws) (s : Settings) (raster : Raster) (proper : AreSetting
     bytes : (i : ℕ) → AllByRecursion (λ b. b < 256) (code_of (place_of c i))
     bytes i = (q.one_code (place_of c i) (place_is i)).is.bytes
 
-    chosen : (i : ℕ) → IsBegun h (move_segments (move_before s (cut s raster) i)) (code_of (place_of c i))
+    chosen : (i : ℕ) → IsBegun h (move_segments (move_before s raw i)) (code_of (place_of c i))
     chosen zero =
         begun_with_move h (first_choice s) (code_of (place_of c 0)) proper.stripe_from
         (moved_within (named_for s 0) s.most_offset 0 None (proper.named_to 0) tt)
         (bytes 0)
     chosen (suc i) =
-        begun_with_move h (choice_after s (cut s raster) i (current_offset s (cut s raster) i)) (code_of (place_of c (suc i))) proper.stripe_from
-        (moved_within (named_for s (suc i)) s.most_offset (current_offset s (cut s raster) i) (chosen_offset (cut s raster).mode.two_line s.most_offset raster.width (map (lines_of (cut s raster)) (rows_of (cut s raster) i)) (current_offset s (cut s raster) i)) (proper.named_to (suc i))
-        (chosen_within (cut s raster).mode.two_line s.most_offset raster.width (map (lines_of (cut s raster)) (rows_of (cut s raster) i)) (current_offset s (cut s raster) i)))
-        (bytes (suc i))
+        let current : ℕ = current_offset s raw i in
+        let lines : List Lines = map (lines_of raw) (rows_of raw i) in
+        let chosen = chosen_within raw.mode.two_line s.most_offset raster.width lines current in
+        begun_with_move h (choice_after s raw i current) (code_of (place_of c (suc i))) proper.stripe_from
+        (moved_within (named_for s (suc i)) s.most_offset current (chosen_offset raw.mode.two_line s.most_offset raster.width lines current) (proper.named_to (suc i)) chosen) (bytes (suc i))
 
   each : AreStripes h stripes
   each =
@@ -247,7 +175,7 @@ module _ (q : WritingLaws) (s : Settings) (raster : Raster) (proper : AreSetting
 
   body_is : body ≡ flat_map stripe_bytes stripes ++ ending s (height raster)
   body_is =
-      let some : 0 < length written = (let e : length written ≡ n = length_mapped (coded_stripe c) 0 n in omega (arith, e, some_stripes)) in
+      let some : 0 < length written = (let e : length written ≡ n = length_mapped (coded_stripe c) 0 n in omega (arith, some_stripes)) in
       ap (λ z. z ++ ending s (height raster))
       (ap (λ z. flat_map segment_bytes (comments s.comment) ++ z) (sym (flat_map-map stripe_bytes (coded_stripe c) (numbers_from 0 n))) ∙ sym (with_first_bytes (comments s.comment) written some))
 
@@ -260,7 +188,7 @@ module _ (q : WritingLaws) (s : Settings) (raster : Raster) (proper : AreSetting
   gives height' = gives_none height' 0 (all_segments stripes) (omega arith) no_height
 
   some_announced : (o : Option ℕ) → height raster < unwrap_or o (height raster) → is_some o ≡ true
-  some_announced None less = absurd (omega (arith, less))
+  some_announced None less = absurd (omega arith)
   some_announced (Some a) less = refl
 
   height_is : IsHeight h body (height raster)
@@ -277,13 +205,13 @@ module _ (q : WritingLaws) (s : Settings) (raster : Raster) (proper : AreSetting
           each = each;
           begun = record { legal = tt; one_move = omega arith; bytes = tt };
           first = ap lengths (append-nil (all_segments stripes)) ∙ no_height;
-          within = (let m = more_stripes (height raster) (unwrap_or s.announced (height raster)) s.stripe_rows proper.stripe_from announced in omega (arith, m, many_stripes));
+          within = (let m = more_stripes (height raster) (unwrap_or s.announced (height raster)) s.stripe_rows proper.stripe_from announced in omega (arith, many_stripes));
           behind = λ _. tt;
           valid = valid_in_use h (height raster) (length stripes) proper.stripe_from is.height_from announced (omega (arith, many_stripes));
         })
     went (inr least) =
         let t : nat_lt (height raster) (unwrap_or s.announced (height raster)) ≡ false = grind (arith, nat_tests) in
-        let same : height raster ≡ unwrap_or s.announced (height raster) = (let a : height raster ≤ unwrap_or s.announced (height raster) = announced in omega (arith, a, least)) in
+        let same : height raster ≡ unwrap_or s.announced (height raster) = (let a : height raster ≤ unwrap_or s.announced (height raster) = announced in omega arith) in
         let nothing : ending s (height raster) ≡ [] = ap (λ b. if b then segment_bytes (NewLength (height raster)) ++ marker_bytes s.reset else []) t in
         inr (same, λ other g. none_given nothing same other g)
       where
@@ -295,10 +223,11 @@ module _ (q : WritingLaws) (s : Settings) (raster : Raster) (proper : AreSetting
           by : (length g.stripes < length stripes) ⊎ (length stripes ≤ length g.stripes) → ⊥
           by (inl less) =
               parts_or_fault accepted 0 (length stripes) (never_suits h (length stripes)) stripes g.stripes (ending s (height raster))
-              each g.each (gives 0) (omega (arith, less)) less (given_breaks accepted body other g) (sym body_is ∙ g.body_is)
+              each g.each (gives 0) (omega arith) less (given_breaks accepted body other g) (sym body_is ∙ g.body_is)
           by (inr more) =
-              let count : length stripes ≡ length g.stripes = omega (arith, more, many_stripes, as_many) in
-              let front = one_front accepted stripes g.stripes (ending s (height raster)) (flat_map segment_bytes g.segments ++ (segment_bytes (NewLength other) ++ g.rest)) each g.each count (sym body_is ∙ g.body_is) in
+              let count : length stripes ≡ length g.stripes = omega (arith, many_stripes, as_many) in
+              let behind : List ℕ = flat_map segment_bytes g.segments ++ (segment_bytes (NewLength other) ++ g.rest) in
+              let front = one_front accepted stripes g.stripes (ending s (height raster)) behind each g.each count (sym body_is ∙ g.body_is) in
               not_nil (flat_map segment_bytes g.segments) (sym nothing ∙ front.1)
             where
               not_nil : (xs : List ℕ) → [] ≡ xs ++ (segment_bytes (NewLength other) ++ g.rest) → ⊥
@@ -319,7 +248,7 @@ module _ (q : WritingLaws) (s : Settings) (raster : Raster) (proper : AreSetting
   lies : EachLies (coding_of s raster) (map (λ x. x.code) stripes)
   lies i lt =
       let many : length (map (λ x. x.code) stripes) ≡ n = ap length codes_are ∙ length_mapped (λ i. code_of (place_of c i)) 0 n in
-      subst (λ b. Lies b (place_of c i)) (sym (code_at i (omega (arith, lt, many)))) (q.code_lies (place_of c i) (code_of (place_of c i)) (q.one_code (place_of c i) (place_is i)).is)
+      subst (λ b. Lies b (place_of c i)) (sym (code_at i (omega arith))) (q.code_lies (place_of c i) (code_of (place_of c i)) (q.one_code (place_of c i) (place_is i)).is)
 
   pub code_denotes_at : Denotes (jbg s raster) raster
   code_denotes_at = record {
@@ -332,7 +261,7 @@ module _ (q : WritingLaws) (s : Settings) (raster : Raster) (proper : AreSetting
       proper = is;
       width = refl;
       height = refl;
-      flags = canonical_flags (cut s raster);
+      flags = canonical_flags raw;
       legal = subst HasLegalFlags (sym coding_is) legal;
       lies = subst (λ z. EachLies z (map (λ x. x.code) stripes)) (sym coding_is) lies;
     };

@@ -24,7 +24,7 @@ mapped_is f d xs h =
     let many : length (map f (numbers_from 0 (length xs))) ≡ length xs = length_mapped f 0 (length xs) in
     same_list d (map f (numbers_from 0 (length xs))) xs many (λ i lt.
     let at : 0 + i ≡ i = omega arith in
-    let lt' : i < length xs = omega (arith, lt, many) in
+    let lt' : i < length xs = omega (arith, lt) in
     get_mapped f 0 (length xs) i d lt' ∙ ap f at ∙ h i lt')
 
 pub all_mapped : {X : Type 0} (P : X → Type 0) (f : ℕ → X) (k n : ℕ) → ((i : ℕ) → i < n → P (f (k + i))) → AllByRecursion P (map f (numbers_from k n))
@@ -42,8 +42,8 @@ all_mapped P f k (suc n) h =
 found_within : (p : ℕ → Bool) (most k n : ℕ) → ((i : ℕ) → i < n → k + i ≤ most) → IfSome (find p (numbers_from k n)) (λ t. t ≤ most)
 found_within p most k zero h = tt
 found_within p most k (suc n) h =
-    let first : k ≤ most = (let e : k + 0 ≤ most = h 0 (omega arith) in omega (arith, e)) in
-    let rest = found_within p most (k + 1) n (λ i lt. let e : k + suc i ≤ most = h (suc i) (omega (arith, lt)) in omega (arith, e)) in
+    let first : k ≤ most = (let e : k + 0 ≤ most = h 0 (omega arith) in omega arith) in
+    let rest = found_within p most (k + 1) n (λ i lt. let e : k + suc i ≤ most = h (suc i) (omega arith) in omega arith) in
     elim (p k) as (λ b. IfSome (if b then Some k else find p (numbers_from (k + 1) n)) (λ t. t ≤ most)) [ true ↦ first | false ↦ rest ]
 
 -- a chosen offset is a candidate
@@ -51,7 +51,7 @@ pub chosen_within : (two_line : Bool) (most width : ℕ) (stripe : List Lines) (
 chosen_within two_line most width stripe current =
     gains (best_offset stripe (candidates two_line most))
     (found_within (λ t. list_all (λ u. nat_le (agreement stripe u) (agreement stripe t)) (candidates two_line most)) most (if two_line then 5 else 3) (most + 1 - (if two_line then 5 else 3))
-    (λ i lt. omega (arith, lt)))
+    (λ i lt. omega arith))
   where
     gains : (best : Option ℕ) → IfSome best (λ t. t ≤ most) →
         IfSome (option_and_then (λ t. if nat_lt (width * length stripe / 8) (agreement stripe t - agreement stripe current) then Some t else None) best) (λ t. t ≤ most)
@@ -82,7 +82,7 @@ with_first more [] = []
 with_first more (x ∷ xs) = with_segments more x ∷ xs
 
 pub with_first_bytes : (more : List Segment) (xs : List Stripe) → 0 < length xs → flat_map stripe_bytes (with_first more xs) ≡ flat_map segment_bytes more ++ flat_map stripe_bytes xs
-with_first_bytes more [] some = absurd (omega (arith, some))
+with_first_bytes more [] some = absurd (omega arith)
 with_first_bytes more (x ∷ xs) some =
     let front : List ℕ = flat_map segment_bytes more in
     let own : List ℕ = flat_map segment_bytes x.segments in
@@ -116,7 +116,7 @@ pub begun_with_comment : (h : Fields) (comment : Option (List ℕ)) → length (
 begun_with_comment h None small segments code b = b
 begun_with_comment h (Some text) small segments code b = record {
   legal = (small, b.legal);
-  one_move = (let e : count_by is_move segments ≤ 1 = b.one_move in omega (arith, e));
+  one_move = (let e : count_by is_move segments ≤ 1 = b.one_move in omega arith);
   bytes = b.bytes;
 }
 

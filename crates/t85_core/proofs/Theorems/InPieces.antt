@@ -10,9 +10,23 @@ use Rattle.t85_core.specs.Pieces.{AwaitsHeight, PiecesAwait, PiecesConsumed, str
 use Rattle.t85_core.specs.Consumed.{ConsumesImage}
 use Rattle.t85_core.specs.Feeds.{HasFed, Feed, AreFeeds, FeedsTaken, decoder_fed, held_after}
 
+-- the bytes that calls consumed, and the rows that they returned
+abbrev taken_by : List Call → List ℕ
+taken_by calls = flat_map bytes_taken calls
+
+abbrev given_by : List Call → List ℕ
+given_by calls = flat_map row_given calls
+
+abbrev fed_to : List Feed → List ℕ
+fed_to feeds = flat_map (λ feed. bytes_taken feed.call) feeds
+
+abbrev given_for : List Feed → List ℕ
+given_for feeds = flat_map (λ feed. row_given feed.call) feeds
+
 -- a call more
-call_on : (Before After : List ℕ → List ℕ → Type 0) (stored : List ℕ) (d : PieceView) (call : Call) → IsCallBy Before After stored d call → StreamGoesOn call.answer → (text out : List ℕ) → Before text out → After (text ++ bytes_taken call) (out ++ row_given call)
-call_on Before After stored d call is on text out s = by_answer call.answer refl where
+call_on : {Before After : List ℕ → List ℕ → Type 0} {stored : List ℕ} {d : PieceView} {call : Call} → IsCallBy Before After stored d call → StreamGoesOn call.answer →
+    (text out : List ℕ) → Before text out → After (text ++ bytes_taken call) (out ++ row_given call)
+call_on {After} {call} is on text out s = by_answer call.answer refl where
   same : (row : List ℕ) → row_given call ≡ row → After (text ++ bytes_taken call) (out ++ row) → After (text ++ bytes_taken call) (out ++ row_given call)
   same row e k = subst (λ z. After (text ++ bytes_taken call) (out ++ z)) (sym e) k
 
@@ -23,21 +37,19 @@ call_on Before After stored d call is on text out s = by_answer call.answer refl
   by_answer (outcome.Broken fault) e = absurd (subst StreamGoesOn e on)
 
 -- and all of them
-calls_on : (d : PieceView) (calls : List Call) → AreCalls d calls → (text out : List ℕ) → HasDecoded d text out → HasDecoded (decoder_after d calls) (text ++ flat_map bytes_taken calls) (out ++ flat_map row_given calls)
-calls_on d [] are text out s = subst (λ z. HasDecoded d z (out ++ [])) (sym (append-nil text)) (subst (HasDecoded d text) (sym (append-nil out)) s)
+calls_on : (d : PieceView) (calls : List Call) → AreCalls d calls → (text out : List ℕ) → HasDecoded d text out → HasDecoded (decoder_after d calls) (text ++ taken_by calls) (out ++ given_by calls)
+calls_on d [] are text out s = rw (append-nil text, append-nil out) s
 calls_on d (call ∷ calls) are text out s =
-    subst (λ z. HasDecoded (decoder_after call.new calls) z (out ++ flat_map row_given (call ∷ calls))) (append_assoc text (bytes_taken call) (flat_map bytes_taken calls))
-    (subst (HasDecoded (decoder_after call.new calls) ((text ++ bytes_taken call) ++ flat_map bytes_taken calls)) (append_assoc out (row_given call) (flat_map row_given calls))
-    (calls_on call.new calls are.2 (text ++ bytes_taken call) (out ++ row_given call) (call_on (HasDecoded d) (HasDecoded call.new) [] d call are.0 are.1 text out s)))
+    rw (← append_assoc text (bytes_taken call) (taken_by calls), ← append_assoc out (row_given call) (given_by calls))
+    (calls_on call.new calls are.2 (text ++ bytes_taken call) (out ++ row_given call) (call_on are.0 are.1 text out s))
 
 -- where bytes are held
 feeds_on : (d : PieceView) (held : List ℕ) (feeds : List Feed) → AreFeeds d held feeds → (text out : List ℕ) → HasFed d held text out →
-    HasFed (decoder_fed d feeds) (held_after held feeds) (text ++ flat_map (λ feed. bytes_taken feed.call) feeds) (out ++ flat_map (λ feed. row_given feed.call) feeds)
-feeds_on d held [] are text out s = subst (λ z. HasFed d held z (out ++ [])) (sym (append-nil text)) (subst (HasFed d held text) (sym (append-nil out)) s)
+    HasFed (decoder_fed d feeds) (held_after held feeds) (text ++ fed_to feeds) (out ++ given_for feeds)
+feeds_on d held [] are text out s = rw (append-nil text, append-nil out) s
 feeds_on d held (feed ∷ feeds) are text out s =
-    subst (λ z. HasFed (decoder_fed feed.call.new feeds) (held_after feed.held feeds) z (out ++ flat_map (λ feed. row_given feed.call) (feed ∷ feeds))) (append_assoc text (bytes_taken feed.call) (flat_map (λ feed. bytes_taken feed.call) feeds))
-    (subst (HasFed (decoder_fed feed.call.new feeds) (held_after feed.held feeds) ((text ++ bytes_taken feed.call) ++ flat_map (λ feed. bytes_taken feed.call) feeds)) (append_assoc out (row_given feed.call) (flat_map (λ feed. row_given feed.call) feeds))
-    (feeds_on feed.call.new feed.held feeds are.2 (text ++ bytes_taken feed.call) (out ++ row_given feed.call) (call_on (HasFed d held) (HasFed feed.call.new feed.held) feed.held d feed.call are.0.fed are.1 text out s)))
+    rw (← append_assoc text (bytes_taken feed.call) (fed_to feeds), ← append_assoc out (row_given feed.call) (given_for feeds))
+    (feeds_on feed.call.new feed.held feeds are.2 (text ++ bytes_taken feed.call) (out ++ row_given feed.call) (call_on are.0.fed are.1 text out s))
 
 pub fed_at : FeedsTaken
 fed_at d feeds s are = feeds_on d [] feeds are [] [] (record { decoded = []; text_is = refl; has = s })
@@ -52,31 +64,31 @@ stream_after d (call ∷ calls) are = stream_after call.new calls are.2 ∙ are.
 
 pub wait_at : PiecesWait
 wait_at d calls last height rest s are is e late marked follows i =
-    is.waits e late marked (flat_map bytes_taken calls) (flat_map row_given calls) rest height (taken_at d calls s are) follows
-    (subst (λ z. IsHeight z ((flat_map bytes_taken calls ++ last.piece) ++ rest) height) (sym (stream_after d calls are)) i)
+    is.waits e late marked (taken_by calls) (given_by calls) rest height (taken_at d calls s are) follows
+    (subst (λ z. IsHeight z ((taken_by calls ++ last.piece) ++ rest) height) (sym (stream_after d calls are)) i)
 
 pub more_at : PiecesMore
 more_at d calls last s are is e waits =
-    subst (λ z. HandsOut z (flat_map bytes_taken calls ++ last.piece) last.new.height Truncated (flat_map row_given calls)) (stream_after d calls are)
-    ((is.more e (flat_map bytes_taken calls) (flat_map row_given calls) (taken_at d calls s are)).1 waits)
+    subst (λ z. HandsOut z (taken_by calls ++ last.piece) last.new.height Truncated (given_by calls)) (stream_after d calls are)
+    ((is.more e (taken_by calls) (given_by calls) (taken_at d calls s are)).1 waits)
 
 pub await_at : PiecesAwait
 await_at d calls last s are is e waits =
-    subst (λ z. AwaitsHeight z (flat_map bytes_taken calls ++ last.piece) (stripes_ended last.new) (flat_map row_given calls)) (stream_after d calls are)
-    ((is.more e (flat_map bytes_taken calls) (flat_map row_given calls) (taken_at d calls s are)).2 waits)
+    subst (λ z. AwaitsHeight z (taken_by calls ++ last.piece) (stripes_ended last.new) (given_by calls)) (stream_after d calls are)
+    ((is.more e (taken_by calls) (given_by calls) (taken_at d calls s are)).2 waits)
 
 pub whole_at : PiecesWhole
 whole_at d calls last height rest s are is e follows =
-    subst (λ z. HoldsImage z ((flat_map bytes_taken calls ++ last.piece) ++ rest) height (flat_map row_given calls)) (stream_after d calls are)
-    ((is.done height e).1 (flat_map bytes_taken calls) (flat_map row_given calls) rest (taken_at d calls s are) follows)
+    subst (λ z. HoldsImage z ((taken_by calls ++ last.piece) ++ rest) height (given_by calls)) (stream_after d calls are)
+    ((is.done height e).1 (taken_by calls) (given_by calls) rest (taken_at d calls s are) follows)
 
 pub consumed_at : PiecesConsumed
 consumed_at d calls last height rest s are is e follows =
-    let w = is.consumed height e (flat_map bytes_taken calls) (flat_map row_given calls) rest (taken_at d calls s are) follows in
-    subst (λ z. ConsumesImage z (waits_behind last.new) height (flat_map bytes_taken calls ++ bytes_taken last) ((flat_map bytes_taken calls ++ last.piece) ++ rest)) (stream_after d calls are)
-    (subst (λ z. ConsumesImage (stream_of (decoder_after d calls)) (waits_behind last.new) height z ((flat_map bytes_taken calls ++ last.piece) ++ rest)) (sym (w.1 ∙ append-nil w.0)) w.2)
+    let w = is.consumed height e (taken_by calls) (given_by calls) rest (taken_at d calls s are) follows in
+    subst (λ z. ConsumesImage z (waits_behind last.new) height (taken_by calls ++ bytes_taken last) ((taken_by calls ++ last.piece) ++ rest)) (stream_after d calls are)
+    (subst (λ z. ConsumesImage (stream_of (decoder_after d calls)) (waits_behind last.new) height z ((taken_by calls ++ last.piece) ++ rest)) (sym (w.1 ∙ append-nil w.0)) w.2)
 
 pub broken_at : PiecesBroken
 broken_at d calls last fault rest s are is e follows =
-    subst (λ z. HandsOut z ((flat_map bytes_taken calls ++ last.piece) ++ rest) last.new.height fault (flat_map row_given calls)) (stream_after d calls are)
-    (is.broken fault e (flat_map bytes_taken calls) (flat_map row_given calls) rest (taken_at d calls s are) follows)
+    subst (λ z. HandsOut z ((taken_by calls ++ last.piece) ++ rest) last.new.height fault (given_by calls)) (stream_after d calls are)
+    (is.broken fault e (taken_by calls) (given_by calls) rest (taken_at d calls s are) follows)

@@ -1,7 +1,8 @@
 -- The state that a coder carries from row to row is the one that the definitions determine.
-use Rattle.std.proofs.Common.{◌≡◌, ℕ, zero, suc, ◌+◌, ◌-◌, ◌*◌, ◌/◌, ◌<◌, ◌≤◌, true, false, List, [], ◌∷◌, ◌++◌, refl, sym, ◌∙◌, ap, arith, Option, None, Some, append-nil, add-zero}
+use Rattle.std.proofs.Common.{◌≡◌, ℕ, zero, suc, ◌+◌, ◌-◌, ◌*◌, ◌/◌, ◌<◌, ◌≤◌, Bool, true, false, List, [], ◌∷◌, ◌++◌, length, refl, ◌∙◌, ap, arith, Option, None, Some, append-nil}
 use Rattle.std.specs.Prelude.{slice_index_or, unwrap_or, if◌then◌else◌, nat_lt, flat_map, filter_map}
-use Rattle.std.specs.List.{cons_option}
+use Rattle.std.specs.List.{cons_option, AllByRecursion}
+use Rattle.std.proofs.lemmas.List.{length-replicate}
 use Rattle.std.proofs.lemmas.Grind.{flat_map-append}
 use Rattle.std.proofs.lemmas.List.Elements.{filter_map-append}
 use Rattle.std.proofs.Math.Nat.{div-mul-le_self, mul-le-mul_right, div-eq_of_lt-le}
@@ -17,12 +18,18 @@ pub after_append : (s : State) (xs ys : List Event) → after s (xs ++ ys) ≡ a
 after_append s [] ys = refl
 after_append s (x ∷ xs) ys = after_append (step s x.context x.pixel) xs ys
 
+pub numbers_from_parts : (a k r : ℕ) → numbers_from a (k + r) ≡ numbers_from a k ++ numbers_from (a + k) r
+numbers_from_parts a zero r =
+    let n : zero + r ≡ r = omega arith in
+    let z : a ≡ a + 0 = omega arith in
+    λ i. numbers_from (z i) (n i)
+numbers_from_parts a (suc k) r =
+    let n : suc k + r ≡ suc (k + r) = omega arith in
+    let z : (a + 1) + k ≡ a + suc k = omega arith in
+    ap (numbers_from a) n ∙ ap (λ u. a ∷ u) (numbers_from_parts (a + 1) k r) ∙ ap (λ u. a ∷ (numbers_from (a + 1) k ++ numbers_from u r)) z
+
 pub numbers_from_last : (k n : ℕ) → numbers_from k (suc n) ≡ numbers_from k n ++ (k + n) ∷ []
-numbers_from_last k zero = ap (λ m. m ∷ []) (sym (add-zero k))
-numbers_from_last k (suc n) =
-    let tail : numbers_from (k + 1) (suc n) ≡ numbers_from (k + 1) n ++ ((k + 1) + n) ∷ [] = numbers_from_last (k + 1) n in
-    let same : (k + 1) + n ≡ k + suc n = omega arith in
-    ap (λ xs. k ∷ xs) (tail ∙ ap (λ m. numbers_from (k + 1) n ++ m ∷ []) same)
+numbers_from_last k n = let e : suc n ≡ n + suc zero = omega arith in ap (numbers_from k) e ∙ numbers_from_parts k n 1
 
 -- a row more of a stripe
 pub one_row_more : (c : Coding) (s : State) (first k : ℕ) →
@@ -54,7 +61,7 @@ pub fresh_le : (c : Coding) (i : ℕ) → fresh_stripe c i ≤ i
 fresh_le c zero = omega arith
 fresh_le c (suc i) =
     let below : fresh_stripe c i ≤ i = fresh_le c i in
-    elim (is_fresh c (suc i)) as (λ b. (if b then suc i else fresh_stripe c i) ≤ suc i) [ true ↦ omega arith | false ↦ omega (arith, below) ]
+    elim (is_fresh c (suc i)) as (λ b. (if b then suc i else fresh_stripe c i) ≤ suc i) [ true ↦ omega arith | false ↦ (omega arith) ]
 
 pub top_le : (c : Coding) (y : ℕ) → top_of c y ≤ y
 top_le c y = omega (arith, mul-le-mul_right c.stripe_rows (fresh_le c (y / c.stripe_rows)), div-mul-le_self y c.stripe_rows)
@@ -63,7 +70,7 @@ top_le c y = omega (arith, mul-le-mul_right c.stripe_rows (fresh_le c (y / c.str
 pub stripe_at : (l i k : ℕ) → k < l → (i * l + k) / l ≡ i
 stripe_at l i k h =
     let from : i * l ≤ i * l + k = omega arith in
-    let to : i * l + k < (i + 1) * l = omega (arith, h) in
+    let to : i * l + k < (i + 1) * l = omega arith in
     div-eq_of_lt-le l from to
 
 -- the rows of a stripe see one top
@@ -91,3 +98,15 @@ row_here raster top n h =
     let at : n - 0 ≡ n = omega arith in
     ap (λ b. if b then white_row raster.width else slice_index_or raster.rows (n - 0) (white_row raster.width)) test
     ∙ ap (λ z. slice_index_or raster.rows z (white_row raster.width)) at
+
+-- every row above is as wide as the raster
+any_row : (w : ℕ) (rows : List (List Bool)) → AllByRecursion (λ row. length row ≡ w) rows → (i : ℕ) → length (slice_index_or rows i (white_row w)) ≡ w
+any_row w [] all i = length-replicate w false
+any_row w (row ∷ rows) all zero = all.0
+any_row w (row ∷ rows) all (suc i) = any_row w rows all.1 i
+
+pub above_long : (raster : Raster) → AllByRecursion (λ row. length row ≡ raster.width) raster.rows → (top y k : ℕ) → length (row_above raster top y k) ≡ raster.width
+above_long raster wide top y k = went (nat_lt y (top + k)) where
+  went : (test : Bool) → length (if test then white_row raster.width else slice_index_or raster.rows (y - k) (white_row raster.width)) ≡ raster.width
+  went true = length-replicate raster.width false
+  went false = any_row raster.width raster.rows wide (y - k)

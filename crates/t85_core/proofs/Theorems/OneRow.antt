@@ -1,9 +1,9 @@
 -- A code and the rows above decide a row and its flag.
-use Rattle.std.proofs.Common.{◌≡◌, ℕ, zero, suc, ◌+◌, ◌-◌, ◌<◌, ◌≤◌, ◌⊎◌, inl, inr, Bool, true, false, nat_lt, List, [], ◌∷◌, ◌++◌, length, map, arith, refl, ap, ◌∙◌, sym, subst, true≢false}
-use Rattle.std.specs.Prelude.{if◌then◌else◌, ◌&&◌, ◌==◌, IsTrue}
+use Rattle.std.proofs.Common.{◌≡◌, ℕ, zero, suc, ◌+◌, ◌-◌, ◌<◌, ◌≤◌, ◌⊎◌, inl, inr, Bool, true, false, List, [], ◌∷◌, ◌++◌, length, map, arith, refl, ap, ◌∙◌, sym, subst, true≢false}
+use Rattle.std.specs.Prelude.{◌&&◌, ◌==◌, IsTrue, if◌then◌else◌}
 use Rattle.std.proofs.lemmas.Bool.{lt-ltb, le-ltb, cases_lt}
 use Rattle.raster_core.specs.Raster.{pixel_at, pixel_left}
-use Rattle.raster_core.specs.Lines.{Mode, Lines, context_at, adaptive, two_line, pixel_events, pseudo_event, row_events, numbers_from, same_row, IsLegalFlag}
+use Rattle.raster_core.specs.Lines.{Mode, Lines, context_at, adaptive, pixel_events, pseudo_context, row_events, numbers_from, same_row, IsLegalFlag}
 use Rattle.qm_core.specs.Place.{IsPlace, State, Event, step, after, same}
 use Rattle.qm_core.specs.Code.{Lies}
 use Rattle.t85_core.specs.Steps.CoderLaws.{CoderLaws}
@@ -11,69 +11,89 @@ use Rattle.t85_core.proofs.Bytes.Elements.{same_list}
 use Rattle.std.proofs.lemmas.Bool.Decides.{nat_tests}
 
 -- the first k pixels are the same
-abbrev pub AgreeBelow : ℕ → List Bool → List Bool → Type 0
-AgreeBelow k a b = (x : ℕ) → x < k → pixel_at a x ≡ pixel_at b x
+pub record AgreeBelow (k : ℕ) (a b : List Bool) : Type 0 where
+  pub at : (x : ℕ) → x < k → pixel_at a x ≡ pixel_at b x
 
-pub left_same : (a b : List Bool) (x k : ℕ) → 1 ≤ k → AgreeBelow x a b → pixel_left a x k ≡ pixel_left b x k
-left_same a b x k some h = went (cases_lt x k) where
+left_same : {a b : List Bool} {x : ℕ} (k : ℕ) → 1 ≤ k → AgreeBelow x a b → pixel_left a x k ≡ pixel_left b x k
+left_same {a} {b} {x} k some h = went (cases_lt x k) where
   went : (x < k) ⊎ (k ≤ x) → pixel_left a x k ≡ pixel_left b x k
-  went (inl less) =
-      let t : nat_lt x k ≡ true = lt-ltb x k less in
-      ap (λ u. if u then false else pixel_at a (x - k)) t ∙ ap (λ u. if u then false else pixel_at b (x - k)) (sym t)
-  went (inr more) =
-      let t : nat_lt x k ≡ false = le-ltb x k more in
-      ap (λ u. if u then false else pixel_at a (x - k)) t ∙ h (x - k) (omega (arith, some, more)) ∙ ap (λ u. if u then false else pixel_at b (x - k)) (sym t)
+  went (inl less) = rw (lt-ltb x k less)
+  went (inr more) = rw (le-ltb x k more) (h.at (x - k) (omega arith))
 
 abbrev pub lines : List Bool → List Bool → List Bool → Lines
 lines row above second = record { row = row; above = above; second = second }
 
-adaptive_same : (a b above second : List Bool) (o x : ℕ) → AgreeBelow x a b → adaptive (lines a above second) o x ≡ adaptive (lines b above second) o x
-adaptive_same a b above second zero x h = refl
-adaptive_same a b above second (suc o) x h = ap (λ p. if suc o == 0 then pixel_at above (x + 2) else p) (left_same a b x (suc o) (omega arith) h)
+-- what a row is coded with: a mode, the rows above it, an offset, and the flag of the row before it
+pub record Around : Type 0 where
+  pub mode : Mode
+  pub above : List Bool
+  pub second : List Bool
+  pub offset : ℕ
+  pub previous : Bool
 
-pub context_same : (mode : Mode) (a b above second : List Bool) (o x : ℕ) → AgreeBelow x a b → context_at mode (lines a above second) o x ≡ context_at mode (lines b above second) o x
-context_same mode a b above second o x h =
-    let e = adaptive_same a b above second o x h in
-    let e1 = left_same a b x 1 (omega arith) h in
-    let e2 = left_same a b x 2 (omega arith) h in
-    let e3 = left_same a b x 3 (omega arith) h in
-    let e4 = left_same a b x 4 (omega arith) h in
-    ap (λ u. made u (pixel_left a x 4) (pixel_left a x 3) (pixel_left a x 2) (pixel_left a x 1)) e
-    ∙ ap (λ u. made (adaptive (lines b above second) o x) u (pixel_left a x 3) (pixel_left a x 2) (pixel_left a x 1)) e4
-    ∙ ap (λ u. made (adaptive (lines b above second) o x) (pixel_left b x 4) u (pixel_left a x 2) (pixel_left a x 1)) e3
-    ∙ ap (λ u. made (adaptive (lines b above second) o x) (pixel_left b x 4) (pixel_left b x 3) u (pixel_left a x 1)) e2
-    ∙ ap (λ u. made (adaptive (lines b above second) o x) (pixel_left b x 4) (pixel_left b x 3) (pixel_left b x 2) u) e1
+abbrev pub lines_in : Around → List Bool → Lines
+lines_in t row = lines row t.above t.second
+
+abbrev pub context_in : Around → List Bool → ℕ → ℕ
+context_in t row x = context_at t.mode (lines_in t row) t.offset x
+
+abbrev event : Around → List Bool → ℕ → Event
+event t row x = record { context = context_in t row x; pixel = pixel_at row x }
+
+-- n pixels of a row, from pixel k on
+abbrev pub pixels_from : Around → List Bool → ℕ → ℕ → List Event
+pixels_from t row k n = map (event t row) (numbers_from k n)
+
+abbrev pub coded : Around → List Bool → Bool → List Event
+coded t row flag = row_events t.mode (lines_in t row) t.offset t.previous flag
+
+-- the same with typical prediction, or without it
+abbrev pub typed : Around → Bool → Around
+typed t typical = record { mode = record { two_line = t.mode.two_line; typical = typical }; above = t.above; second = t.second; offset = t.offset; previous = t.previous }
+
+-- A row of this width with a legal flag, where the code lies after its events and more.
+pub record RowIn (t : Around) (width : ℕ) (s : State) (code : List ℕ) (more : List Event) (row : List Bool) (flag : Bool) : Type 0 where
+  pub wide : length row ≡ width
+  pub legal : IsLegalFlag t.mode (lines_in t row) flag
+  pub lies : Lies code (after s (coded t row flag ++ more)).place
+
+pub context_same : (t : Around) {a b : List Bool} {x : ℕ} → AgreeBelow x a b → context_in t a x ≡ context_in t b x
+context_same t {a} {b} {x} h =
+    let e1 = left_same 1 (omega arith) h in
+    let e2 = left_same 2 (omega arith) h in
+    let e3 = left_same 3 (omega arith) h in
+    let e4 = left_same 4 (omega arith) h in
+    let e = moved t.offset in
+    λ i. Rattle.raster_core.specs.Lines.binary (if t.mode.two_line
+    then pixel_left t.above x 3 ∷ pixel_left t.above x 2 ∷ pixel_left t.above x 1 ∷ pixel_at t.above x ∷ pixel_at t.above (x + 1) ∷ e i ∷ e4 i ∷ e3 i ∷ e2 i ∷ e1 i ∷ []
+    else pixel_left t.second x 1 ∷ pixel_at t.second x ∷ pixel_at t.second (x + 1) ∷ pixel_left t.above x 2 ∷ pixel_left t.above x 1 ∷ pixel_at t.above x ∷ pixel_at t.above (x + 1)
+    ∷ e i ∷ e2 i ∷ e1 i ∷ [])
   where
-    made : Bool → Bool → Bool → Bool → Bool → ℕ
-    made m p4 p3 p2 p1 = Rattle.raster_core.specs.Lines.binary (if mode.two_line
-        then pixel_left above x 3 ∷ pixel_left above x 2 ∷ pixel_left above x 1 ∷ pixel_at above x ∷ pixel_at above (x + 1) ∷ m ∷ p4 ∷ p3 ∷ p2 ∷ p1 ∷ []
-        else pixel_left second x 1 ∷ pixel_at second x ∷ pixel_at second (x + 1) ∷ pixel_left above x 2 ∷ pixel_left above x 1 ∷ pixel_at above x ∷ pixel_at above (x + 1) ∷ m ∷ p2 ∷ p1 ∷ [])
+    moved : (o : ℕ) → adaptive (lines a t.above t.second) o x ≡ adaptive (lines b t.above t.second) o x
+    moved zero = refl
+    moved (suc o) = ap (λ p. if suc o == 0 then pixel_at t.above (x + 2) else p) (left_same (suc o) (omega arith) h)
 
-pub agree_more : (k : ℕ) (a b : List Bool) → AgreeBelow k a b → pixel_at a k ≡ pixel_at b k → AgreeBelow (k + 1) a b
-agree_more k a b h e x lt = went (cases_lt x k) where
-  went : (x < k) ⊎ (k ≤ x) → pixel_at a x ≡ pixel_at b x
-  went (inl less) = h x less
-  went (inr more) =
-      let here : x ≡ k = omega (arith, lt, more) in
-      ap (pixel_at a) here ∙ e ∙ ap (pixel_at b) (sym here)
+agree_more : {k : ℕ} {a b : List Bool} → AgreeBelow k a b → pixel_at a k ≡ pixel_at b k → AgreeBelow (k + 1) a b
+agree_more {k} {a} {b} h e = record { at = λ x lt. went x lt (cases_lt x k) } where
+  went : (x : ℕ) → x < k + 1 → (x < k) ⊎ (k ≤ x) → pixel_at a x ≡ pixel_at b x
+  went x lt (inl less) = h.at x less
+  went x lt (inr more) = let here : k ≡ x = omega arith in subst (λ z. pixel_at a z ≡ pixel_at b z) here e
 
-module _ (mode : Mode) (above second : List Bool) (offset : ℕ) where
-  abbrev pub event : List Bool → ℕ → Event
-  event row x = record { context = context_at mode (lines row above second) offset x; pixel = pixel_at row x }
-
-  -- codes that lie where both rows lead see the same pixels in both
-  pub same_pixels : (q : CoderLaws) (a b : List Bool) (n k : ℕ) (s : State) (code : List ℕ) (more other : List Event) → IsPlace s.place → AgreeBelow k a b →
-      Lies code (after s (map (event a) (numbers_from k n) ++ more)).place → Lies code (after s (map (event b) (numbers_from k n) ++ other)).place → AgreeBelow (k + n) a b
-  same_pixels q a b zero k s code more other p h la lb = λ x lt. h x (omega (arith, lt))
-  same_pixels q a b (suc n) k s code more other p h la lb =
-      let cx = context_same mode a b above second offset k h in
-      let ia = q.events_stay_inside (map (event a) (numbers_from (k + 1) n) ++ more) (step s (event a k).context (pixel_at a k)) code (q.pixel_keeps_place s (event a k).context (pixel_at a k) p) la in
-      let lb' = subst (λ u. Lies code (after (step s u (pixel_at b k)) (map (event b) (numbers_from (k + 1) n) ++ other)).place) (sym cx) lb in
-      let ib = q.events_stay_inside (map (event b) (numbers_from (k + 1) n) ++ other) (step s (event a k).context (pixel_at b k)) code (q.pixel_keeps_place s (event a k).context (pixel_at b k) p) lb' in
-      let e : pixel_at b k ≡ pixel_at a k = q.only_pixel code s (event a k).context (pixel_at a k) (pixel_at b k) ia ib in
-      let lb'' = subst (λ u. Lies code (after (step s (event a k).context u) (map (event b) (numbers_from (k + 1) n) ++ other)).place) e lb' in
-      let all : AgreeBelow ((k + 1) + n) a b = same_pixels q a b n (k + 1) (step s (event a k).context (pixel_at a k)) code more other (q.pixel_keeps_place s (event a k).context (pixel_at a k) p) (agree_more k a b h (sym e)) la lb'' in
-      λ x lt. all x (omega (arith, lt))
+-- codes that lie where both rows lead see the same pixels in both
+module _ (q : CoderLaws) (t : Around) {a b : List Bool} (code : List ℕ) (more other : List Event) where
+  same_pixels : (n k : ℕ) (s : State) → IsPlace s.place → AgreeBelow k a b →
+      Lies code (after s (pixels_from t a k n ++ more)).place → Lies code (after s (pixels_from t b k n ++ other)).place → AgreeBelow (k + n) a b
+  same_pixels zero k s p h la lb = record { at = λ x lt. h.at x (omega arith) }
+  same_pixels (suc n) k s p h la lb =
+      let cx : ℕ = context_in t a k in
+      let next : (x : Bool) → IsPlace (step s cx x).place = λ x. q.pixel_keeps_place s cx x p in
+      let ia = q.events_stay_inside (pixels_from t a (k + 1) n ++ more) (step s cx (pixel_at a k)) code (next (pixel_at a k)) la in
+      let others : List Event = pixels_from t b (k + 1) n ++ other in
+      let lb' = subst (λ u. Lies code (after (step s u (pixel_at b k)) others).place) (sym (context_same t h)) lb in
+      let ib = q.events_stay_inside others (step s cx (pixel_at b k)) code (next (pixel_at b k)) lb' in
+      let e : pixel_at b k ≡ pixel_at a k = q.only_pixel code s cx (pixel_at a k) (pixel_at b k) ia ib in
+      let all = same_pixels n (k + 1) (step s cx (pixel_at a k)) (next (pixel_at a k)) (agree_more h (sym e)) la (subst (λ u. Lies code (after (step s cx u) others).place) e lb') in
+      record { at = λ x lt. all.at x (omega arith) }
 
 pub same_row_is : (a b : List Bool) → IsTrue (same_row a b) → a ≡ b
 same_row_is [] [] h = refl
@@ -85,42 +105,34 @@ same_back : (p x y : Bool) → same p x ≡ same p y → x ≡ y
 same_back p x y e = grind (arith, nat_tests)
 
 -- A code that lies where both rows lead decides the row, and whether it is typical.
-pub one_row : (q : CoderLaws) (two typical : Bool) (above second : List Bool) (offset w : ℕ) (previous : Bool) (a b : List Bool) (f g : Bool) (s : State) (code : List ℕ) (more other : List Event) →
-    IsPlace s.place → length a ≡ w → length b ≡ w →
-    IsLegalFlag (record { two_line = two; typical = typical }) (lines a above second) f → IsLegalFlag (record { two_line = two; typical = typical }) (lines b above second) g →
-    Lies code (after s (row_events (record { two_line = two; typical = typical }) (lines a above second) offset previous f ++ more)).place →
-    Lies code (after s (row_events (record { two_line = two; typical = typical }) (lines b above second) offset previous g ++ other)).place →
-    (a ≡ b) × (f ≡ g)
-one_row q two typical above second offset w previous a b f g s code more other p la lb legal legal' = went typical f g legal legal' where
-  pixels : (t : Bool) (z : State) → IsPlace z.place →
-      Lies code (after z (pixel_events (record { two_line = two; typical = t }) (lines a above second) offset ++ more)).place →
-      Lies code (after z (pixel_events (record { two_line = two; typical = t }) (lines b above second) offset ++ other)).place → a ≡ b
-  pixels t z at ka kb =
-      let alike : AgreeBelow (0 + length a) a b = same_pixels (record { two_line = two; typical = t }) above second offset q a b (length a) 0 z code more other at (λ x lt. absurd (omega (arith, lt))) ka
-      (subst (λ n. Lies code (after z (map (event (record { two_line = two; typical = t }) above second offset b) (numbers_from 0 n) ++ other)).place) (lb ∙ sym la) kb) in
-      same_list false a b (la ∙ sym lb) (λ i lt. alike i (omega (arith, lt)))
+pub one_row : (q : CoderLaws) {t : Around} {w : ℕ} {s : State} {code : List ℕ} {more other : List Event} {a b : List Bool} {f g : Bool} → IsPlace s.place →
+    RowIn t w s code more a f → RowIn t w s code other b g → (a ≡ b) × (f ≡ g)
+one_row q {t} {s} {code} {more} {other} {a} {b} {f} {g} p one two = went t.mode.typical f g one.legal two.legal one.lies two.lies where
+  cx : ℕ
+  cx = pseudo_context t.mode.two_line
 
-  typical_row : (row : List Bool) → IsTrue (same_row row above) → row ≡ above
-  typical_row row h = same_row_is row above h
+  next : (x : Bool) → IsPlace (step s cx x).place
+  next x = q.pixel_keeps_place s cx x p
 
-  flags_same : (z y : Bool) (es fs : List Event) →
-      Lies code (after s (pseudo_event (record { two_line = two; typical = true }) previous z ∷ es)).place → Lies code (after s (pseudo_event (record { two_line = two; typical = true }) previous y ∷ fs)).place → z ≡ y
+  pixels : (z : State) → IsPlace z.place → Lies code (after z (pixels_from t a 0 (length a) ++ more)).place → Lies code (after z (pixels_from t b 0 (length b) ++ other)).place → a ≡ b
+  pixels z at ka kb =
+      let many : length b ≡ length a = two.wide ∙ sym one.wide in
+      let alike : AgreeBelow (0 + length a) a b = same_pixels q t code more other (length a) 0 z at (record { at = λ x lt. absurd (omega arith) }) ka
+      (subst (λ n. Lies code (after z (pixels_from t b 0 n ++ other)).place) many kb) in
+      same_list false a b (sym many) (λ i lt. alike.at i (omega arith))
+
+  flags_same : (z y : Bool) (es fs : List Event) → Lies code (after (step s cx (same t.previous z)) es).place → Lies code (after (step s cx (same t.previous y)) fs).place → z ≡ y
   flags_same z y es fs ka kb =
-      let cx : ℕ = if two then 0x195 else 0x0E5 in
-      let ia = q.events_stay_inside es (step s cx (same previous z)) code (q.pixel_keeps_place s cx (same previous z) p) ka in
-      let ib = q.events_stay_inside fs (step s cx (same previous y)) code (q.pixel_keeps_place s cx (same previous y) p) kb in
-      same_back previous z y (sym (q.only_pixel code s cx (same previous z) (same previous y) ia ib))
+      let ia = q.events_stay_inside es (step s cx (same t.previous z)) code (next (same t.previous z)) ka in
+      let ib = q.events_stay_inside fs (step s cx (same t.previous y)) code (next (same t.previous y)) kb in
+      same_back t.previous z y (sym (q.only_pixel code s cx (same t.previous z) (same t.previous y) ia ib))
 
-  went : (t z y : Bool) → (IsTrue z → IsTrue (t && same_row a above)) → (IsTrue y → IsTrue (t && same_row b above)) →
-      Lies code (after s (row_events (record { two_line = two; typical = t }) (lines a above second) offset previous z ++ more)).place →
-      Lies code (after s (row_events (record { two_line = two; typical = t }) (lines b above second) offset previous y ++ other)).place →
-      (a ≡ b) × (z ≡ y)
-  went true true true h k ka kb = (typical_row a (h refl) ∙ sym (typical_row b (k refl)), refl)
-  went true true false h k ka kb = absurd (true≢false (flags_same true false more (pixel_events (record { two_line = two; typical = true }) (lines b above second) offset ++ other) ka kb))
-  went true false true h k ka kb = absurd (true≢false (sym (flags_same false true (pixel_events (record { two_line = two; typical = true }) (lines a above second) offset ++ more) other ka kb)))
-  went true false false h k ka kb =
-      let cx : ℕ = if two then 0x195 else 0x0E5 in
-      (pixels true (step s cx (same previous false)) (q.pixel_keeps_place s cx (same previous false) p) ka kb, refl)
+  went : (u z y : Bool) → (IsTrue z → IsTrue (u && same_row a t.above)) → (IsTrue y → IsTrue (u && same_row b t.above)) →
+      Lies code (after s (coded (typed t u) a z ++ more)).place → Lies code (after s (coded (typed t u) b y ++ other)).place → (a ≡ b) × (z ≡ y)
+  went true true true h k ka kb = (same_row_is a t.above (h refl) ∙ sym (same_row_is b t.above (k refl)), refl)
+  went true true false h k ka kb = absurd (true≢false (flags_same true false more (pixels_from t b 0 (length b) ++ other) ka kb))
+  went true false true h k ka kb = absurd (true≢false (sym (flags_same false true (pixels_from t a 0 (length a) ++ more) other ka kb)))
+  went true false false h k ka kb = (pixels (step s cx (same t.previous false)) (next (same t.previous false)) ka kb, refl)
   went false true y h k ka kb = absurd (true≢false (sym (h refl)))
   went false false true h k ka kb = absurd (true≢false (sym (k refl)))
-  went false false false h k ka kb = (pixels false s p ka kb, refl)
+  went false false false h k ka kb = (pixels s p ka kb, refl)

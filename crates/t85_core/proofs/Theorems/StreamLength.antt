@@ -1,14 +1,14 @@
 -- How long the stream of a raster is at most.
 use Rattle.std.proofs.Common.{ℕ, zero, suc, ◌≡◌, ◌≤◌, ◌+◌, ◌-◌, ◌*◌, ◌∙◌, Bool, true, false, nat_lt, List, [], ◌∷◌, ◌++◌, length, Option, None, Some, refl, ap, subst, arith, length-append}
 use Rattle.std.specs.Prelude.{min, flat_map, slice_index_or, unwrap_or, if◌then◌else◌}
-use Rattle.std.specs.List.{AllByRecursion}
-use Rattle.std.proofs.lemmas.List.{length-map, length-replicate}
+use Rattle.std.proofs.lemmas.List.{length-map}
 use Rattle.std.proofs.Math.Nat.{mul-le-mul_right, add-mul}
 use Rattle.qm_core.specs.Place.{Event}
 use Rattle.qm_core.specs.Code.{stuffed, code_of}
 use Rattle.qm_core.specs.Laws.{EventsDouble, CodeIsShort}
-use Rattle.raster_core.specs.Raster.{Raster, IsRaster, height, row_above, white_row}
+use Rattle.raster_core.specs.Raster.{Raster, IsRaster, height}
 use Rattle.raster_core.specs.Lines.{numbers_from, pixel_events, pseudo_event}
+use Rattle.t85_core.proofs.Theorems.Joined.{above_long}
 use Rattle.t85_core.specs.Grammar.{NewLength, segment_bytes, marker_bytes, stripe_bytes, stripe_count}
 use Rattle.t85_core.specs.Coding.{Coding, top_of, lines_of, offset_of, previous_of, flag_of, events_of_row, events_of, rows_of, begun, learned_at, place_of}
 use Rattle.t85_core.specs.Jbg.{Settings, move_segments, coded_stripe, coding_of, head_of, stripes_of, ending, jbg}
@@ -30,20 +30,9 @@ flat_short f m each (x ∷ xs) =
 
 pub row_short : (typical flag : Bool) (e : Event) (es : List Event) (n : ℕ) → length es ≡ n → length ((if typical then e ∷ [] else []) ++ (if flag then [] else es)) ≤ 1 + n
 row_short true true e es n is = omega arith
-row_short true false e es n is = omega (arith, is)
+row_short true false e es n is = omega arith
 row_short false true e es n is = omega arith
-row_short false false e es n is = omega (arith, is)
-
-any_row : (w : ℕ) (rows : List (List Bool)) → AllByRecursion (λ row. length row ≡ w) rows → (i : ℕ) → length (slice_index_or rows i (white_row w)) ≡ w
-any_row w [] all i = length-replicate w false
-any_row w (row ∷ rows) all zero = all.0
-any_row w (row ∷ rows) all (suc i) = any_row w rows all.1 i
-
-above_long : (raster : Raster) → IsRaster raster → (top y k : ℕ) → length (row_above raster top y k) ≡ raster.width
-above_long raster proper top y k = went (nat_lt y (top + k)) where
-  went : (test : Bool) → length (if test then white_row raster.width else slice_index_or raster.rows (y - k) (white_row raster.width)) ≡ raster.width
-  went true = length-replicate raster.width false
-  went false = any_row raster.width raster.rows proper.rows (y - k)
+row_short false false e es n is = omega arith
 
 pub ending_short : (announced : ℕ) (reset : Bool) (height' : ℕ) → length (ending_of announced reset height') ≤ 8
 ending_short announced reset height' = went (nat_lt height' announced) where
@@ -54,10 +43,10 @@ ending_short announced reset height' = went (nat_lt height' announced) where
 module _ (c : Coding) (proper : IsRaster c.raster) where
   row_events_short : (y : ℕ) → length (events_of_row c y) ≤ c.raster.width + 1
   row_events_short y =
-      let long : length (lines_of c y).row ≡ c.raster.width = above_long c.raster proper (top_of c y) y 0 in
+      let long : length (lines_of c y).row ≡ c.raster.width = above_long c.raster proper.rows (top_of c y) y 0 in
       let pixels : length (pixel_events c.mode (lines_of c y) (offset_of c y)) ≡ c.raster.width = simp length-map (many 0 (length (lines_of c y).row)) ∙ long in
       let short = row_short c.mode.typical (flag_of c y) (pseudo_event c.mode (previous_of c y) (flag_of c y)) (pixel_events c.mode (lines_of c y) (offset_of c y)) c.raster.width pixels in
-      omega (arith, short)
+      omega arith
 
   abbrev rows_in : ℕ → ℕ
   rows_in i = min c.stripe_rows (height c.raster - i * c.stripe_rows)
@@ -67,7 +56,7 @@ module _ (c : Coding) (proper : IsRaster c.raster) where
       let each = flat_short (events_of_row c) (c.raster.width + 1) row_events_short (rows_of c i) in
       let rows : length (rows_of c i) ≡ rows_in i = many (i * c.stripe_rows) (rows_in i) in
       let same : length (rows_of c i) * (c.raster.width + 1) ≡ rows_in i * (c.raster.width + 1) = ap (λ n. n * (c.raster.width + 1)) rows in
-      omega (arith, each, same)
+      omega arith
 
 move_short : (move : Option (ℕ × ℕ)) → length (flat_map segment_bytes (move_segments move)) ≤ 8
 move_short None = omega arith
@@ -83,14 +72,14 @@ module _ (events_double : EventsDouble) (code_is_short : CodeIsShort) where
         let code = code_is_short (place_of c i) in
         let doubled = events_double (events_of c i) (begun (learned_at c i)) in
         let events = events_short c proper i in
-        omega (arith, code, doubled, events)
+        omega arith
 
     pub stripe_short : (i : ℕ) → length (stripe_bytes (coded_stripe c i)) ≤ 14 + 4 * (rows_in c proper i * (c.raster.width + 1))
     stripe_short i =
         let s = coded_stripe c i in
         let code = code_short i in
         let move = move_short (slice_index_or c.moves i None) in
-        omega (arith, code, move, marker_long s.reset, length-append (flat_map segment_bytes s.segments) (stuffed s.code ++ marker_bytes s.reset), length-append (stuffed s.code) (marker_bytes s.reset))
+        omega (arith, marker_long s.reset, length-append {A = ℕ})
 
     -- the stripes from stripe t on
     stripes_short : (k t : ℕ) → length (flat_map (λ i. stripe_bytes (coded_stripe c i)) (numbers_from t k)) ≤ 14 * k + 4 * ((height c.raster - t * c.stripe_rows) * (c.raster.width + 1))
@@ -98,8 +87,8 @@ module _ (events_double : EventsDouble) (code_is_short : CodeIsShort) where
     stripes_short (suc k) t =
         let first = stripe_short t in
         let more = stripes_short k (t + 1) in
-        let next : (t + 1) * c.stripe_rows ≡ t * c.stripe_rows + c.stripe_rows = (let e = add-mul t 1 c.stripe_rows in omega (arith, e)) in
-        let left : rows_in c proper t + (height c.raster - (t + 1) * c.stripe_rows) ≤ height c.raster - t * c.stripe_rows = omega (arith, next) in
+        let next : (t + 1) * c.stripe_rows ≡ t * c.stripe_rows + c.stripe_rows = (let e = add-mul t 1 c.stripe_rows in omega arith) in
+        let left : rows_in c proper t + (height c.raster - (t + 1) * c.stripe_rows) ≤ height c.raster - t * c.stripe_rows = omega arith in
         let scaled = mul-le-mul_right (c.raster.width + 1) left in
         let split = add-mul (rows_in c proper t) (height c.raster - (t + 1) * c.stripe_rows) (c.raster.width + 1) in
         omega (arith, first, more, scaled, split, length-append (stripe_bytes (coded_stripe c t)) (flat_map (λ i. stripe_bytes (coded_stripe c i)) (numbers_from (t + 1) k)))
@@ -117,4 +106,4 @@ module _ (events_double : EventsDouble) (code_is_short : CodeIsShort) where
       let last = ending_short (unwrap_or s.announced (height raster)) s.reset (height raster) in
       let whole = length-append (head_of s raster.width (height raster) ++ stripes_of s raster) (ending s (height raster)) in
       let front = length-append (head_of s raster.width (height raster)) (stripes_of s raster) in
-      omega (arith, head, stripes, last, whole, front)
+      omega arith

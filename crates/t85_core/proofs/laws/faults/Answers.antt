@@ -10,7 +10,7 @@ pub returns-clause-parts_or_fault : goal.returns-clause-parts_or_fault
 returns-clause-parts_or_fault c = λ h n body all. parsed h n body all
 
 pub returns-clause-some_fixed : goal.returns-clause-some_fixed
-returns-clause-some_fixed c = λ h n body fault u b. some_fixed_at c.coder_laws.ensures h n body fault u.accepted b
+returns-clause-some_fixed c = λ h n body fault u b. some_fixed_at c.coder_laws.ensures u.accepted b
 
 pub returns-clause-one_fixed : goal.returns-clause-one_fixed
-returns-clause-one_fixed c = λ h n body f g rows others u p q. one_fixed_at c.coder_laws.ensures h n body f g rows others u p q
+returns-clause-one_fixed c = λ h n body f g rows others u p q. one_fixed_at c.coder_laws.ensures u p q

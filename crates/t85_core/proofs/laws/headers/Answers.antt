@@ -2,7 +2,7 @@ use Rattle.std.proofs.Common.{[], subst, append-nil}
 use Rattle.t85_core.specs.Header.{HeaderOf, header_bytes}
 use Rattle.t85_core.proofs.Bytes.Known.{HeaderOf-append, header_fault-append}
 use Rattle.t85_core.proofs.Grammar.Unique.{accepted, header_is}
-use Rattle.t85_core.proofs.Theorems.CodeDenotes.{header_begins}
+use Rattle.t85_core.proofs.Theorems.HeaderWritten.{header_begins}
 use Rattle.t85_core.proofs.laws.headers.Goals as goal
 
 pub returns : goal.returns
