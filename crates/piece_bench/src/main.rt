@@ -13,7 +13,7 @@ use qm_core::Learned;
 use raster_core::{Window, window_bytes};
 use std::alloc::Global;
 use std::io::{self, Read};
-use t85_core::{Header, Outcome, PieceDecoder, decode};
+use t85_core::{Header, More, Outcome, PieceDecoder, decode};
 
 /// Decodes a body in pieces of this many bytes, each preceded by the bytes that the previous call left.
 fn in_pieces(header: Header, body: &[u8], window: &mut Window<'_>, size: usize, rows: &mut Vec<u8>)
@@ -24,7 +24,7 @@ fn in_pieces(header: Header, body: &[u8], window: &mut Window<'_>, size: usize, 
     let mut from = 0usize;
     let mut to = 0usize;
     'calls: for _ in 0..u64::MAX {
-        let progress = decoder.next_row(window, &mut learned, &body[from..to]);
+        let progress = decoder.next(window, &mut learned, &body[from..to], More::Comes);
         from += progress.taken;
         match progress.outcome {
             Outcome::Row => {

@@ -88,6 +88,8 @@ fn rows_above<'a>(front: &'a [u8], back: &'a [u8], long: usize, place: u8) -> (&
 
 /// Decodes the rest of the row at a place, between the memory before it and after it, which contains the two rows above
 /// it.
+// It cannot be part of `decode_at`: after the match in `rows_above`, the prover would not know there that the borrowed
+// halves of the window are unchanged.
 #[inline(always)]
 fn decode_beside<S: CodeBytes>(
     shape: Shape,

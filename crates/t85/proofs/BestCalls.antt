@@ -15,10 +15,9 @@ use Rattle.t85_core.specs.Steps.Sent.{behind}
 use Rattle.t85_core.specs.Steps.Trial.{FindsOffset, all_rows_in, are_stripe_rows, may_come_next, packed_rows}
 use Rattle.raster_core.specs.Packed.{row_placed, rows_at}
 use Rattle.raster_core.specs.Raster.{height}
-use Rattle.raster_core.specs.Window.{current_place, held as rows_held, width_of}
+use Rattle.raster_core.specs.Window.{held as rows_held, width_of}
 use Rattle.raster_core.specs.declared.window.Window.{Window}
-use Rattle.t85_core.specs.BestOffset.{IsBestFor}
-use Rattle.t85_core.specs.RowImage.{MayCome, may_name}
+use Rattle.t85_core.specs.RowImage.{may_name}
 use Rattle.t85_core.specs.Coding.{has_bit}
 use Rattle.t85_core.specs.declared.encoding.by_row.RowEncoder.{RowEncoder}
 use Rattle.t85.specs.Decoded.{window_bytes}
@@ -27,13 +26,15 @@ use Rattle.t85.specs.Encoded.{or_else, status_if}
 use Rattle.t85.specs.EncoderSteps.{AwaitsCall, RefusesCall}
 use Rattle.t85.specs.BestOffset.{FindsBest, IsBestNext, are_too_few, best_memory, best_refusal, most_rows, stripe_rows_in, whole_rows}
 use Rattle.t85.specs.declared.encoder.T85Encoder.{T85Encoder}
-use Rattle.t85.proofs.EncoderCalls.{offers_same, other_window, ready_begun, ready_ended, stands_lent, take_twice}
-use Rattle.t85.proofs.DecoderCalls.{window_rows}
+use Rattle.t85.proofs.EncoderCalls.{ready_begun, ready_ended, window_alone}
+use Rattle.t85.proofs.EncoderSteps.{IsLent, offers_same, stands_lent}
+use Rattle.t85.proofs.Windows.{window_rows}
 
 -- ---- the stripe's rows
 
 -- what a call that is not refused has
-unrefused : (a b c : Bool) (rest : Option ℕ) → or_else (status_if a 54) (or_else (status_if (not b) 56) (or_else (status_if c 36) rest)) ≡ None → (a ≡ false) × (b ≡ true) × (c ≡ false) × (rest ≡ None)
+unrefused : (a b c : Bool) (rest : Option ℕ) → or_else (status_if a 54) (or_else (status_if (not b) 56) (or_else (status_if c 36) rest)) ≡ None →
+    (a ≡ false) × (b ≡ true) × (c ≡ false) × (rest ≡ None)
 unrefused true b c rest none = absurd (let bot : ⊥ = cc in bot)
 unrefused false false c rest none = absurd (let bot : ⊥ = cc in bot)
 unrefused false true true rest none = absurd (let bot : ⊥ = cc in bot)
@@ -51,7 +52,8 @@ scratch_within d len window scratch none =
     grind (arith, nat_tests)
 
 -- a stripe that is not refused may come
-stripe_fits : (announces : Bool) (count most : ℕ) → 1 ≤ most → ((count == 0) || (not announces && nat_lt count most)) ≡ false → (nat_le 1 (min count most) && ((min count most == most) || (announces && nat_le (min count most) most))) ≡ true
+stripe_fits : (announces : Bool) (count most : ℕ) → 1 ≤ most → ((count == 0) || (not announces && nat_lt count most)) ≡ false →
+    (nat_le 1 (min count most) && ((min count most == most) || (announces && nat_le (min count most) most))) ≡ true
 stripe_fits true count most some enough = grind (arith, nat_tests)
 stripe_fits false count most some enough = grind (arith, nat_tests)
 
@@ -75,7 +77,8 @@ both true false x y = y
 both false b x y = x
 
 -- they are the rows of a stripe that may come
-pub rows_fit : (d : T85Encoder) (e : RowEncoder) (len window scratch : ℕ) → AwaitsCall d e → best_refusal d len window scratch ≡ None → are_stripe_rows e (stripe_rows_in d len * div_ceil d.width 8) ≡ true
+pub rows_fit : (d : T85Encoder) (e : RowEncoder) (len window scratch : ℕ) → AwaitsCall d e → best_refusal d len window scratch ≡ None →
+    are_stripe_rows e (stripe_rows_in d len * div_ceil d.width 8) ≡ true
 rows_fit d e len window scratch ready none =
     let parts = unrefused (d.rows == d.height) (d.in_stripe == 0) (are_too_few d len) _ none in
     let left = parts.0 in
@@ -91,16 +94,15 @@ rows_fit d e len window scratch ready none =
     let one : 1 ≤ most_rows d = most_some d.stripe_rows d.height d.rows goes.plan_is.some (omega (arith, within, rows_are, goes.limit_is)) left in
     let ends : e.may_end ≡ not (d.announces_height == 0) = goes.plan_is.may_end_is ∙ announced_some (not (d.announces_height == 0)) d.announced_height in
     let most : min e.stripe_rows (e.size.height - e.rows) ≡ most_rows d =
-    ap (λ s. min s (e.size.height - e.rows)) goes.plan_is.stripe_rows_is ∙ ap (λ h. min d.stripe_rows (h - e.rows)) goes.limit_is ∙ ap (λ r. min d.stripe_rows (d.height - r)) rows_are in
+    rw (goes.plan_is.stripe_rows_is, goes.limit_is, rows_are) in
     let fits : (nat_le 1 k && ((k == most_rows d) || (not (d.announces_height == 0) && nat_le k (most_rows d)))) ≡ true =
-    stripe_fits (not (d.announces_height == 0)) (whole_rows d len) (most_rows d) one (subst (λ a. ((whole_rows d len == 0) || (a && nat_lt (whole_rows d len) (most_rows d))) ≡ false) (sym (not_twice (d.announces_height == 0))) enough) in
-    let comes : may_come_next e k ≡ true =
-    subst (λ m. (nat_le 1 k && ((k == m) || (e.may_end && nat_le k m))) ≡ true) (sym most) (subst (λ a. (nat_le 1 k && ((k == most_rows d) || (a && nat_le k (most_rows d)))) ≡ true) (sym ends) fits) in
-    subst (λ w. (not e.is_closed && ((e.in_stripe == 0) && ((k * long % w == 0) && may_come_next e (k * long / w)))) ≡ true) (sym wide)
+    stripe_fits (not (d.announces_height == 0)) (whole_rows d len) (most_rows d) one (rw (not_twice (d.announces_height == 0)) enough) in
+    let comes : may_come_next e k ≡ true = rw (most, ends) fits in
+    rw wide
     (both (not e.is_closed) _ (ap not goes.going)
     (both (e.in_stripe == 0) _ (ap (λ n. n.in_stripe == 0) goes.numbers_are ∙ first)
     (both (k * long % long == 0) _ (ap (λ n. n == 0) (mul-mod_left k long))
-    (subst (λ c. may_come_next e c ≡ true) (sym (mul-div_cancel k some)) comes))))
+    (rw (mul-div_cancel k some) comes))))
 
 -- ---- the bytes of these rows
 
@@ -114,7 +116,8 @@ part_same xs n a l within =
 abbrev row_at : ℕ → List ℕ → ℕ → List Bool
 row_at width bytes k = pixels_of width (slice_range bytes (k * bytes_of_row width) (k * bytes_of_row width + bytes_of_row width))
 
-rows_same : (width n : ℕ) (bytes : List ℕ) (k count : ℕ) → (k + count) * bytes_of_row width ≤ n → map (row_at width (take n bytes)) (numbers_from k count) ≡ map (row_at width bytes) (numbers_from k count)
+rows_same : (width n : ℕ) (bytes : List ℕ) (k count : ℕ) → (k + count) * bytes_of_row width ≤ n →
+    map (row_at width (take n bytes)) (numbers_from k count) ≡ map (row_at width bytes) (numbers_from k count)
 rows_same width n bytes k zero within = refl
 rows_same width n bytes k (suc count) within =
     let l = bytes_of_row width in
@@ -125,7 +128,8 @@ rows_same width n bytes k (suc count) within =
     ∙ ap (λ rest. row_at width bytes k ∷ rest) (rows_same width n bytes (k + 1) count (subst (λ m. m * l ≤ n) (sym on) within))
 
 -- they are the first rows
-pub first_rows : (width count used : ℕ) (bytes : List ℕ) → 1 ≤ width → used ≡ count * div_ceil width 8 → used ≤ length bytes → all_rows_in width (take used bytes) ≡ packed_rows width bytes count
+pub first_rows : (width count used : ℕ) (bytes : List ℕ) → 1 ≤ width → used ≡ count * div_ceil width 8 → used ≤ length bytes →
+    all_rows_in width (take used bytes) ≡ packed_rows width bytes count
 first_rows width count used bytes some is within =
     let long : length (take used bytes) ≡ used = length-take-le used bytes within in
     let many : length (take used bytes) / bytes_of_row width ≡ count = ap (λ n. n / bytes_of_row width) (long ∙ is) ∙ mul-div_cancel count (long_some width some) in
@@ -135,7 +139,8 @@ first_rows width count used bytes some is within =
 -- ---- the result
 
 -- a name that is offered is accepted where the call is
-named_too : (a b c n : Bool) (rest : Option ℕ) → or_else (status_if a 54) (or_else (status_if b 56) (or_else (status_if c 36) rest)) ≡ None → n ≡ true → or_else (status_if a 54) (or_else (status_if b 56) (status_if (not n) 22)) ≡ None
+named_too : (a b c n : Bool) (rest : Option ℕ) → or_else (status_if a 54) (or_else (status_if b 56) (or_else (status_if c 36) rest)) ≡ None → n ≡ true →
+    or_else (status_if a 54) (or_else (status_if b 56) (status_if (not n) 22)) ≡ None
 named_too true b c n rest none is = none
 named_too false true c n rest none is = none
 named_too false false c true rest none is = refl
@@ -146,8 +151,9 @@ last_true true true c is = is
 last_true true false c is = absurd (true≢false (sym is))
 last_true false b c is = absurd (true≢false (sym is))
 
-pub best_refused : (d : T85Encoder) (rows window scratch : List ℕ) (offset status : ℕ) → RefusesCall d (best_refusal d (length rows) (length window) (length scratch)) status → FindsBest d rows (best_memory window scratch offset) (best_memory window scratch offset) status
-best_refused d rows window scratch offset status r = record {
+pub best_refused : {d : T85Encoder} {rows window scratch : List ℕ} {offset status : ℕ} → RefusesCall d (best_refusal d (length rows) (length window) (length scratch)) status →
+    FindsBest d rows (best_memory window scratch offset) (best_memory window scratch offset) status
+best_refused {window = window} r = record {
   status_is = λ image come sent k. sym (ap (λ o. unwrap_or o 0) (r.first window image come sent k));
   ended = r.ended;
   not_begun = r.not_begun;
@@ -158,26 +164,29 @@ best_refused d rows window scratch offset status r = record {
   named = λ e. absurd (r.some e);
 }
 
-pub best_found : (d : T85Encoder) (e : RowEncoder) (rows window window' scratch scratch' : List ℕ) (offset best used needed : ℕ) → AwaitsCall d e → best_refusal d (length rows) (length window) (length scratch) ≡ None → needed ≡ window_bytes d.width → used ≡ stripe_rows_in d (length rows) * div_ceil d.width 8 → used ≤ length rows → window' ≡ window → length scratch' ≡ needed →
-    IsBestNext (encoder_hold d (take needed window)) (all_rows_in d.width (take used rows)) best → (takes_name e e.kept.offset ≡ true → takes_name e best ≡ true) → FindsBest d rows (best_memory window scratch offset) (best_memory window' (scratch' ++ drop needed scratch) best) 0
-best_found d e rows window window' scratch scratch' offset best used needed ready none needed_is used_is within same long finds names =
+pub best_found : {d : T85Encoder} {e : RowEncoder} {rows window window' scratch : List ℕ} {offset best used needed : ℕ} (scratch' : List ℕ) → AwaitsCall d e →
+    best_refusal d (length rows) (length window) (length scratch) ≡ None → needed ≡ window_bytes d.width → used ≡ stripe_rows_in d (length rows) * div_ceil d.width 8 → used ≤ length rows →
+    window' ≡ window →
+    length scratch' ≡ needed → IsBestNext (encoder_hold d (take needed window)) (all_rows_in d.width (take used rows)) best → (takes_name e e.kept.offset ≡ true → takes_name e best ≡ true) →
+    FindsBest d rows (best_memory window scratch offset) (best_memory window' (scratch' ++ drop needed scratch) best) 0
+best_found {d} {e} {rows} {scratch = scratch} {best = best} {used} {needed} scratch' ready none needed_is used_is within same long finds names =
     let goes = ready.goes_on in
     record {
       status_is = λ image come sent k. sym (ap (λ o. unwrap_or o 0) none);
-      ended = λ h. absurd (ready_ended d e ready h);
-      not_begun = λ h. absurd (ready_begun d e ready h);
+      ended = λ h. absurd (ready_ended ready h);
+      not_begun = λ h. absurd (ready_begun ready h);
       window = same;
       refused = λ other. absurd (other refl);
       beyond = drop-append-drop needed scratch scratch' (window_bytes d.width) (omega (arith, needed_is)) long;
       best = λ zero_is image come sent k raster.
-          subst (λ part. MayCome image (come ++ part) raster → length part ≡ min image.settings.stripe_rows (height raster - length come) → IsBestFor image.settings raster (length come / image.settings.stripe_rows) best) (first_rows d.width (stripe_rows_in d (length rows)) used rows goes.plan_is.width_from used_is within)
-          (finds image come sent (other_window image d window (take needed window) come sent (sym (take_twice (window_bytes image.width) needed window (ap window_bytes (sym k.width_is) ∙ sym needed_is))) k) raster);
+          rw (first_rows d.width (stripe_rows_in d (length rows)) used rows goes.plan_is.width_from used_is within) at (finds image come sent (window_alone needed_is k) raster);
       named = λ zero_is may.
           let first : (d.in_stripe == 0) ≡ true = (unrefused (d.rows == d.height) (d.in_stripe == 0) (are_too_few d (length rows)) _ none).1 in
           let in_none : (e.in_stripe == 0) ≡ true = ap (λ n. n.in_stripe == 0) goes.numbers_are ∙ first in
-          let in_use : may_name e.shape.two_line e.most_offset e.kept.offset ≡ true = offers_same d e e.kept.offset ready ∙ ap (may_name (has_bit d.options 6) d.most_offset) (ap (λ n. n.offset) goes.numbers_are) ∙ may in
+          let in_use : may_name e.shape.two_line e.most_offset e.kept.offset ≡ true =
+          offers_same e.kept.offset ready ∙ ap (may_name (has_bit d.options 6) d.most_offset) (ap (λ n. n.offset) goes.numbers_are) ∙ may in
           let takes = names (both (not e.is_closed) _ (ap not goes.going) (both (e.in_stripe == 0) _ in_none in_use)) in
-          named_too (d.rows == d.height) (not (d.in_stripe == 0)) (are_too_few d (length rows)) _ _ none (sym (offers_same d e best ready) ∙ last_true (not e.is_closed) (e.in_stripe == 0) _ takes);
+          named_too (d.rows == d.height) (not (d.in_stripe == 0)) (are_too_few d (length rows)) _ _ none (sym (offers_same best ready) ∙ last_true (not e.is_closed) (e.in_stripe == 0) _ takes);
     }
 
 -- ---- the engine's result
@@ -189,37 +198,26 @@ three_rows l m long =
     let next : 1 * l ≡ l = omega arith in
     let last : 2 * l ≡ l + l = omega arith in
     let short : length (drop l (drop l m)) ≤ l = omega (arith, length-drop l (drop l m), length-drop l m, long) in
-    ap (λ n. take l (drop n m) ++ (row_placed l m 1 ++ row_placed l m 2)) first
-    ∙ ap (λ n. take l m ++ (take l (drop n m) ++ row_placed l m 2)) next
-    ∙ ap (λ n. take l m ++ (take l (drop l m) ++ take l (drop n m))) last
-    ∙ ap (λ r. take l m ++ (take l (drop l m) ++ take l r)) (sym (drop-drop l l m))
-    ∙ ap (λ r. take l m ++ (take l (drop l m) ++ r)) (take_all l (drop l (drop l m)) short)
-    ∙ ap (λ r. take l m ++ r) (take-append-drop l (drop l m))
-    ∙ take-append-drop l m
+    rw (first, next, last, ← drop-drop l l m, take_all l (drop l (drop l m)) short, take-append-drop l (drop l m)) (take-append-drop l m)
 
-same_three : (l : ℕ) (m m' : List ℕ) → length m ≡ 3 * l → length m' ≡ 3 * l → row_placed l m 0 ≡ row_placed l m' 0 → row_placed l m 1 ≡ row_placed l m' 1 → row_placed l m 2 ≡ row_placed l m' 2 → m ≡ m'
-same_three l m m' long long' first next last =
-    sym (three_rows l m long)
-    ∙ ap (λ r. r ++ (row_placed l m 1 ++ row_placed l m 2)) first
-    ∙ ap (λ r. row_placed l m' 0 ++ (r ++ row_placed l m 2)) next
-    ∙ ap (λ r. row_placed l m' 0 ++ (row_placed l m' 1 ++ r)) last
-    ∙ three_rows l m' long'
+same_three : {m m' : List ℕ} (l : ℕ) → length m ≡ 3 * l → length m' ≡ 3 * l → row_placed l m 0 ≡ row_placed l m' 0 → row_placed l m 1 ≡ row_placed l m' 1 →
+    row_placed l m 2 ≡ row_placed l m' 2 → m ≡ m'
+same_three {m} {m'} l long long' first next last = sym (three_rows l m long) ∙ rw (first, next, last) (three_rows l m' long')
 
 -- so the same rows are in the same memory
-same_memory : (place width : ℕ) (m m' : List ℕ) → place < 3 → length m ≡ 3 * div_ceil width 8 → length m' ≡ 3 * div_ceil width 8 → rows_at place width m ≡ rows_at place width m' → m ≡ m'
-same_memory zero width m m' small long long' same = same_three (div_ceil width 8) m m' long long' (ap (λ w. w.current) same) (ap (λ w. w.above) same) (ap (λ w. w.second) same)
-same_memory (suc zero) width m m' small long long' same = same_three (div_ceil width 8) m m' long long' (ap (λ w. w.second) same) (ap (λ w. w.current) same) (ap (λ w. w.above) same)
-same_memory (suc (suc zero)) width m m' small long long' same = same_three (div_ceil width 8) m m' long long' (ap (λ w. w.above) same) (ap (λ w. w.second) same) (ap (λ w. w.current) same)
-same_memory (suc (suc (suc place))) width m m' small long long' same = absurd (omega (arith, small))
+same_memory : {m m' : List ℕ} (width place : ℕ) → place < 3 → length m ≡ 3 * div_ceil width 8 → length m' ≡ 3 * div_ceil width 8 → rows_at place width m ≡ rows_at place width m' → m ≡ m'
+same_memory width zero small long long' same = same_three (div_ceil width 8) long long' (ap (λ w. w.current) same) (ap (λ w. w.above) same) (ap (λ w. w.second) same)
+same_memory width (suc zero) small long long' same = same_three (div_ceil width 8) long long' (ap (λ w. w.second) same) (ap (λ w. w.current) same) (ap (λ w. w.above) same)
+same_memory width (suc (suc zero)) small long long' same = same_three (div_ceil width 8) long long' (ap (λ w. w.above) same) (ap (λ w. w.second) same) (ap (λ w. w.current) same)
+same_memory width (suc (suc (suc place))) small long long' same = absurd (omega (arith, small))
 
-pub window_kept : (place width : ℕ) (memory : List ℕ) (window : Window) → place < 3 → length memory ≡ window_bytes width → length window.rows.now ≡ 3 * div_ceil window.width 8 → current_place window ≡ place → width_of window ≡ width → rows_held window ≡ rows_at place width memory → window.rows.now ≡ memory
-window_kept place width memory window small long long' at wide is =
-    same_memory place width window.rows.now memory small (long' ∙ ap (λ w. 3 * div_ceil w 8) wide) long (sym (window_rows window place width window.rows.now at wide refl) ∙ is)
+pub window_kept : {d : T85Encoder} {e : RowEncoder} {memory : List ℕ} {window : Window} → IsLent d e memory window → width_of window ≡ d.width → window.rows.now ≡ memory
+window_kept {d} {window = window} lent wide =
+    same_memory d.width d.place lent.ready.place_to (window.long ∙ ap (λ w. 3 * div_ceil w 8) wide) lent.long
+    (sym (window_rows {window = window} (record { place_is = lent.place_is; width_is = wide; rows_are = refl })) ∙ lent.rows_are)
 
-pub best_next : (d : T85Encoder) (e : RowEncoder) (memory bytes : List ℕ) (window : Window) (result : Option ℕ) (best : ℕ) → AwaitsCall d e → length memory ≡ window_bytes d.width → rows_held window ≡ rows_at d.place d.width memory → best ≡ unwrap_or result 0 → is_some result ≡ true → FindsOffset (all_rows_in e.size.width bytes) (view_of e d.learning) (rows_held window) result →
-    IsBestNext (encoder_hold d memory) (all_rows_in d.width bytes) best
-best_next d e memory bytes window None best ready long at is some finds = absurd (true≢false (sym some))
-best_next d e memory bytes window (Some t) best ready long at is some finds = λ image rows sent k raster.
-    subst (λ w. MayCome image (rows ++ all_rows_in w bytes) raster → length (all_rows_in w bytes) ≡ min image.settings.stripe_rows (height raster - length rows) → IsBestFor image.settings raster (length rows / image.settings.stripe_rows) best) ready.goes_on.width_is
-    (subst (λ b. MayCome image (rows ++ all_rows_in e.size.width bytes) raster → length (all_rows_in e.size.width bytes) ≡ min image.settings.stripe_rows (height raster - length rows) → IsBestFor image.settings raster (length rows / image.settings.stripe_rows) b) (sym is)
-    (finds image rows (behind sent (Some [])) (Some []) raster (stands_lent d e ready memory window long at image rows sent k)))
+pub best_next : {d : T85Encoder} {e : RowEncoder} {memory : List ℕ} {window : Window} {best : ℕ} (result : Option ℕ) (bytes : List ℕ) → IsLent d e memory window → best ≡ unwrap_or result 0 →
+    is_some result ≡ true → FindsOffset (all_rows_in e.size.width bytes) (view_of e d.learning) (rows_held window) result → IsBestNext (encoder_hold d memory) (all_rows_in d.width bytes) best
+best_next None bytes lent is some finds = absurd (true≢false (sym some))
+best_next (Some t) bytes lent is some finds = λ image rows sent k raster.
+    rw (is, ← lent.ready.goes_on.width_is) (finds image rows (behind sent (Some [])) (Some []) raster (stands_lent lent k))

@@ -35,7 +35,7 @@ map_same f g (x ∷ l) h = rw (h x, map_same f g l h) refl
 packed_same : (row : List Bool) → pbm_packed row ≡ packed_row row
 packed_same row =
     ap (map (λ k. pbm_binary (map (λ x. slice_index_or row x false) (pbm_numbers (8 * k) 8)))) (numbers_same 0 (div_ceil (length row) 8))
-    ∙ map_same (λ k. pbm_binary (map (λ x. slice_index_or row x false) (pbm_numbers (8 * k) 8))) (λ k. binary (map (pixel_at row) (numbers_from (8 * k) 8))) (numbers_from 0 (div_ceil (length row) 8))
+    ∙ map_same _ (λ k. binary (map (pixel_at row) (numbers_from (8 * k) 8))) (numbers_from 0 (div_ceil (length row) 8))
     (λ k. binary_same (map (λ x. slice_index_or row x false) (pbm_numbers (8 * k) 8)) ∙ ap (λ l. binary (map (pixel_at row) l)) (numbers_same (8 * k) 8))
 
 -- ---- whole bytes
@@ -83,12 +83,13 @@ fit_pixels width bytes =
 
 -- ---- a row that was passed
 
-pub row_passed : (old new : T85Choice) (row above : List ℕ) (c : Counting) (reset : Bool) (stripe : List Lines) (second : List Bool) → MaskedIsPacked →
+pub row_passed : {old new : T85Choice} {row above : List ℕ} {c : Counting} {reset : Bool} {stripe : List Lines} (second : List Bool) → MaskedIsPacked →
     ((k : ℕ) → slice_index row k < 256) → ((k : ℕ) → slice_index above k < 256) →
     HasChoice c reset old stripe → new.version ≡ old.version → counting_of new.choice ≡ counting_of old.choice → is_reset new.choice ≡ is_reset old.choice →
-    ((stripe : List Lines) (lines : Lines) → HasCounted old.choice stripe → AreLines row above lines → HasCounted new.choice (stripe ++ fit_lines (counting_of old.choice).width lines ∷ [])) →
+    ((stripe : List Lines) (lines : Lines) → HasCounted old.choice stripe → AreLines row above lines →
+    HasCounted new.choice (stripe ++ fit_lines (counting_of old.choice).width lines ∷ [])) →
     HasChoice c reset new (stripe ++ passed_lines c.width row above second ∷ [])
-row_passed old new row above c reset stripe second law small small' k version counting resets counted =
+row_passed {old} {row = row} {above} {c} {stripe = stripe} second law small small' k version counting resets counted =
     let lines : Lines = record { row = all_pixels row; above = all_pixels above; second = second } in
     let are : AreLines row above lines = record { row_is = whole_packed row law small; above_is = whole_packed above law small' } in
     let fits : fit_lines (counting_of old.choice).width lines ≡ passed_lines c.width row above second =
@@ -110,7 +111,8 @@ typical_bit n = let e : bit_and n 8 ≡ n / 8 % 2 * 8 = and_pow n 3 in grind (ar
 
 -- how pixels are counted with these options, which are in their ranges
 pub counting_by : (o most width : ℕ) → most ≤ 127 → width ≤ 2 ^ 20 →
-    counting_with (record { two_line = not (nat_eq (bit_and o 0x40) 0); typical = not (nat_eq (bit_and o 0x08) 0) }) (min most 127) (min width (2 ^ 20)) ≡ counting_with (mode_of o) most width
+    counting_with (record { two_line = not (nat_eq (bit_and o 0x40) 0); typical = not (nat_eq (bit_and o 0x08) 0) }) (min most 127) (min width (2 ^ 20)) ≡
+    counting_with (mode_of o) most width
 counting_by o most width low narrow =
     let a : min most 127 ≡ most = omega arith in
     let b : min width (2 ^ 20) ≡ width = omega arith in

@@ -50,7 +50,8 @@ full_of text memory b rest len is all =
 
 module _ (h : Fields) (height : ℕ) (body : List ℕ) (in_new : Option (List ℕ)) (o : HasOutcome h height body) (old : List ℕ) where
   -- the contents of an output that has not failed are the outcome, and this is reported
-  pub held : (taken : List ℕ) (answer : Result (Unit {0}) Fault) → Decode h height (between (Some body) in_new 0 0) (between (Some old) (Some taken) 0 0) answer → (taken ≡ old ++ o.text) × (answer_status answer ≡ fault_status o.fault)
+  pub held : (taken : List ℕ) (answer : Result (Unit {0}) Fault) → Decode h height (between (Some body) in_new 0 0) (between (Some old) (Some taken) 0 0) answer →
+      (taken ≡ old ++ o.text) × (answer_status answer ≡ fault_status o.fault)
   held taken (Ok u) d =
       let w = d.whole in
       let same = o.only None _ (w.raster, w.denotes, refl) in
@@ -69,7 +70,8 @@ module _ (h : Fields) (height : ℕ) (body : List ℕ) (in_new : Option (List �
 
 module _ (h : Fields) (height : ℕ) (body memory : List ℕ) (len : ℕ) (old : List ℕ) (in_new : Option (List ℕ)) (answer : Result (Unit {0}) Fault) (o : HasOutcome h height body) (empty : old ≡ []) where
   pub unspilled : (spilled : Option ℕ) (before failures : ℕ) → before ≡ 0 → is_some spilled ≡ false → (0 < failures → is_some spilled ≡ true) → len ≤ length memory →
-      Decode h height (between (Some body) in_new 0 0) (between (Some old) (Some (take len memory ++ option_to_list spilled)) before failures) answer → Fits o.text (fault_status o.fault) memory len (answer_status answer)
+      Decode h height (between (Some body) in_new 0 0) (between (Some old) (Some (take len memory ++ option_to_list spilled)) before failures) answer →
+      Fits o.text (fault_status o.fault) memory len (answer_status answer)
   unspilled (Some b) before failures fresh none full within d = absurd (true≢false none)
   unspilled None before failures fresh none full within d =
       let D : ℕ → ℕ → Type 0 = λ m n. Decode h height (between (Some body) in_new 0 0) (between (Some old) (Some (take len memory ++ [])) m n) answer in

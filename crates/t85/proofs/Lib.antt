@@ -1,5 +1,10 @@
+pub mod DecoderAnswers
 pub mod DecoderCalls
+pub mod DecoderHeader
+pub mod DecoderRows
 pub mod EncoderCalls
+pub mod EncoderStart
+pub mod EncoderSteps
 pub mod Entities
 pub mod BestCalls
 pub mod Bytes
@@ -10,11 +15,13 @@ pub mod Lines
 pub mod Meaning
 pub mod Placed
 pub mod RawRows
+pub mod Rooms
 pub mod Rowed
 pub mod SameImage
 pub mod SameHeight
 pub mod Stored
 pub mod Taken
 pub mod UnusedBytes
+pub mod Windows
 pub mod PbmCalls
 pub mod ChoiceCalls

@@ -58,10 +58,11 @@ decoded_image one stream limit window old new written d = elim d [
 ]
 
 -- rows that give the same bytes are as many
-rows_same : (one : OneRasterOfStream) (stream : List ℕ) (o : Opens stream) (stride : ℕ) (old new : List ℕ) (written : ℕ) (w : DeliversRows o.header o.height (drop 20 stream) stride (lending old new written 0)) →
+rows_same : {stream old new : List ℕ} {stride written : ℕ} (one : OneRasterOfStream) (o : Opens stream) (w : DeliversRows o.header o.height (drop 20 stream) stride (lending old new written 0)) →
     written ≡ length w.rows → lined (length w.rows) (div_ceil o.header.xd 8) stride new ≡ flat_map packed_row w.rows → 0 ≡ fault_status w.outcome.fault →
-    (raster : Raster) × IsOnly stream raster × (written ≡ height raster) × (lined (height raster) (div_ceil raster.width 8) stride new ≡ flat_map packed_row raster.rows)
-rows_same one stream o stride old new written w count stood is =
+    (raster : Raster) × IsOnly stream raster × (written ≡ height raster) ×
+    (lined (height raster) (div_ceil raster.width 8) stride new ≡ flat_map packed_row raster.rows)
+rows_same {stream} {new = new} {stride} one o w count stood is =
     let found = denoted one stream o w.outcome is in
     let raster = found.0 in
     let d = found.1 in
@@ -88,7 +89,7 @@ decoded_rows one stream limit stride window old new written d = elim d [
   | inr (inr (inr (inl short))) ↦ absurd (omega (arith, short.refuses.answer_is))
   | inr (inr (inr (inr w))) ↦
       elim w.writes.delivers [
-        | inl fits ↦ rows_same one stream w.opens stride old new written w.writes fits.written_is fits.stands fits.answer_is
+        | inl fits ↦ rows_same one w.opens w.writes fits.written_is fits.stands fits.answer_is
         | inr full ↦ absurd (omega (arith, full.answer_is))
       ]
 ]

@@ -1,5 +1,5 @@
 -- The effect of calls that read a PBM from pieces.
-use Rattle.std.proofs.Common.{◌≡◌, ◌≤◌, ◌<◌, ◌+◌, ◌-◌, inl, inr, refl, sym, subst, ap, ◌∙◌, ℕ, Bool, List, [], ◌∷◌, ◌++◌, length, take, drop, take_all, length-take, append-nil, append_assoc, arith}
+use Rattle.std.proofs.Common.{◌≡◌, ◌⊎◌, ◌≤◌, ◌<◌, ◌+◌, ◌-◌, inl, inr, refl, sym, subst, ap, ◌∙◌, ℕ, Bool, List, [], ◌∷◌, ◌++◌, length, take, drop, take_all, length-take, append-nil, append_assoc, arith}
 use Rattle.std.proofs.lemmas.List.{length_push, take-append-le}
 use Rattle.pbm_core.specs.declared.fault.PbmFault.{PbmFault}
 use Rattle.pbm_core.specs.declared.fault.PbmFault.TheVariants.{Truncated}
@@ -16,7 +16,7 @@ use Rattle.pbm_core.specs.Fault.{pbm_fault_number}
 use Rattle.pbm_core.specs.HeaderPieces.{HasScanned}
 use Rattle.pbm_core.specs.Refusal.{HeaderFault}
 use Rattle.t85.specs.declared.pbm.PbmAnswer.{PbmAnswer}
-use Rattle.t85.specs.declared.pbm.PbmAnswer.TheVariants.{Header, Row, More, Done, Broken, ShortRow, NotBegun, Ended}
+use Rattle.t85.specs.declared.pbm.PbmAnswer.TheVariants.{Row, More, Done, Broken}
 use Rattle.t85.specs.Pbm.{EndsPbm, InPbmRows, ReadsPbmRow, TellsPart, TellsRow, form_of, header_reader_of, pbm_call, pbm_hold, row_reader_of}
 
 -- ---- the header
@@ -48,11 +48,9 @@ none_filled Plain reader width row some filled made = record {
   };
 }
 
-pub enters : (new : T85Pbm) (row bytes : List ℕ) (size : Size) (form : Form) → IsPbmHeader bytes form size.width size.height → new.version ≡ 1 → new.next ≡ 1 → new.width ≡ size.width →
-    new.height ≡ size.height → form_of new.is_plain ≡ form
-    → new.rows_left ≡ size.height → new.filled ≡ 0 → new.made ≡ 0 → InPbmRows new row bytes []
-enters new row bytes size form header version next width height form_is left filled made =
-    let H : ℕ → ℕ → Form → Type 0 = λ w h f. HasHeader bytes f w h [] in
+pub enters : {new : T85Pbm} {row bytes : List ℕ} {form : Form} (size : Size) → IsPbmHeader bytes form size.width size.height → new.version ≡ 1 → new.next ≡ 1 → new.width ≡ size.width →
+    new.height ≡ size.height → form_of new.is_plain ≡ form → new.rows_left ≡ size.height → new.filled ≡ 0 → new.made ≡ 0 → InPbmRows new row bytes []
+enters {new} {row} {bytes} {form} size header version next width height form_is left filled made =
     let at : HasHeader bytes form size.width size.height [] = (record {
       front = bytes;
       bytes_are = sym (append-nil bytes);
@@ -67,7 +65,7 @@ enters new row bytes size form header version next width height form_is left fil
       next_is = next;
       body = [];
       part = [];
-      header = subst (λ f. H new.width new.height f) (sym form_is) (subst (λ w. H w new.height form) (sym width) (subst (λ h. H size.width h form) (sym height) at));
+      header = rw (form_is, width, height) at;
       holds = record { front = []; bytes_are = refl; are_rows = refl };
       left_is = omega (arith, left, height);
       filled = none_filled (form_of new.is_plain) (row_reader_of new) new.width (take (bytes_of_row new.width) row) (let s = size.some_width in omega (arith, width, s)) filled made;
@@ -80,7 +78,8 @@ enters new row bytes size form header version next width height form_is left fil
 abbrev pub with_row : T85Pbm → RowReader → ℕ → T85Pbm
 with_row p reader left = record p { rows_left = left; filled = reader.filled; made = reader.made }
 
-header_more : {bytes rest : List ℕ} {form : Form} {width height : ℕ} (more : List ℕ) → HasHeader bytes form width height rest → HasHeader (bytes ++ more) form width height (rest ++ more)
+header_more : {bytes rest : List ℕ} {form : Form} {width height : ℕ} (more : List ℕ) → HasHeader bytes form width height rest →
+    HasHeader (bytes ++ more) form width height (rest ++ more)
 header_more {rest = rest} more h = record {
   front = h.front;
   bytes_are = ap (λ z. z ++ more) h.bytes_are ∙ append_assoc h.front rest more;
@@ -91,16 +90,18 @@ header_more {rest = rest} more h = record {
   not_too_tall = h.not_too_tall;
 }
 
-holds_more : {form : Form} {body part : List ℕ} {width : ℕ} {rows : List (List Bool)} (more : List ℕ) → HoldsRows form body width rows part → HoldsRows form (body ++ more) width rows (part ++ more)
+holds_more : {form : Form} {body part : List ℕ} {width : ℕ} {rows : List (List Bool)} (more : List ℕ) → HoldsRows form body width rows part →
+    HoldsRows form (body ++ more) width rows (part ++ more)
 holds_more {part = part} more h = record { front = h.front; bytes_are = ap (λ z. z ++ more) h.bytes_are ∙ append_assoc h.front part more; are_rows = h.are_rows }
 
 rows_push : (form : Form) (width : ℕ) (front given : List ℕ) (rows : List (List Bool)) (pixels : List Bool) → AreRows form width front rows → IsRow form width given pixels →
     AreRows form width (front ++ given) (rows ++ pixels ∷ [])
 rows_push form width front given [] pixels are is = (given, [], ap (λ z. z ++ given) are ∙ sym (append-nil given), is, refl)
-rows_push form width front given (row ∷ rows) pixels are is = (are.0, are.1 ++ given, ap (λ z. z ++ given) are.2 ∙ append_assoc are.0 are.1 given, are.3, rows_push form width are.1 given rows pixels are.4 is)
+rows_push form width front given (row ∷ rows) pixels are is =
+    (are.0, are.1 ++ given, ap (λ z. z ++ given) are.2 ∙ append_assoc are.0 are.1 given, are.3, rows_push form width are.1 given rows pixels are.4 is)
 
-holds_row : {form : Form} {body part : List ℕ} {width : ℕ} {rows : List (List Bool)} (more : List ℕ) (pixels : List Bool) → HoldsRows form body width rows part → IsRow form width (part ++ more) pixels →
-    HoldsRows form (body ++ more) width (rows ++ pixels ∷ []) []
+holds_row : {form : Form} {body part : List ℕ} {width : ℕ} {rows : List (List Bool)} (more : List ℕ) (pixels : List Bool) → HoldsRows form body width rows part →
+    IsRow form width (part ++ more) pixels → HoldsRows form (body ++ more) width (rows ++ pixels ∷ []) []
 holds_row {form} {part = part} {width} {rows} more pixels h is = record {
   front = h.front ++ (part ++ more);
   bytes_are = ap (λ z. z ++ more) h.bytes_are ∙ append_assoc h.front part more ∙ sym (append-nil (h.front ++ (part ++ more)));
@@ -108,23 +109,16 @@ holds_row {form} {part = part} {width} {rows} more pixels h is = record {
 }
 
 -- the same where the row has exactly its bytes
-pub filled_in : (form form' : Form) (reader : RowReader) (width width' : ℕ) (row part : List ℕ) → form' ≡ form → width ≡ width' → length row ≡ bytes_of_row width' →
+pub filled_in : {form form' : Form} {width width' : ℕ} (reader : RowReader) (row part : List ℕ) → form' ≡ form → width ≡ width' → length row ≡ bytes_of_row width' →
     HasFilled form reader width (take (bytes_of_row width) row) part → HasFilled form' reader width' row part
-filled_in form form' reader width width' row part same wide whole is =
-    let F : Form → ℕ → List ℕ → Type 0 = λ f w r. HasFilled f reader w r part in
-    let all : take (bytes_of_row width) row ≡ row = take_all (bytes_of_row width) row (let e = ap bytes_of_row wide in omega (arith, e, whole)) in
-    subst (λ f. F f width' row) (sym same) (subst (λ w. F form w row) wide (subst (λ r. F form width r) all is))
+filled_in {width' = width'} reader row part same wide whole is = rw same (rw (wide, take_all (bytes_of_row width') row (omega (arith, whole))) at is)
 
-pub filled_out : (form form' : Form) (reader : RowReader) (width width' : ℕ) (row part : List ℕ) → form' ≡ form → width ≡ width' → length row ≡ bytes_of_row width' → HasFilled form' reader width' row part →
-    HasFilled form reader width (take (bytes_of_row width) row) part
-filled_out form form' reader width width' row part same wide whole is =
-    let F : Form → ℕ → List ℕ → Type 0 = λ f w r. HasFilled f reader w r part in
-    let all : take (bytes_of_row width) row ≡ row = take_all (bytes_of_row width) row (let e = ap bytes_of_row wide in omega (arith, e, whole)) in
-    subst (λ r. F form width r) (sym all) (subst (λ w. F form w row) (sym wide) (subst (λ f. F f width' row) same is))
+pub filled_out : {form form' : Form} {width width' : ℕ} (reader : RowReader) (row part : List ℕ) → form' ≡ form → width ≡ width' → length row ≡ bytes_of_row width' →
+    HasFilled form' reader width' row part → HasFilled form reader width (take (bytes_of_row width) row) part
+filled_out {width' = width'} reader row part same wide whole is = rw (wide, take_all (bytes_of_row width') row (omega (arith, whole)), ← same) is
 
 pub row_goes_on : (p : T85Pbm) (reader : RowReader) {row before : List ℕ} {rows : List (List Bool)} (row' given : List ℕ) (is : InPbmRows p row before rows) → 1 ≤ p.rows_left →
-    HasFilled (form_of p.is_plain) reader p.width (take (bytes_of_row p.width) row') (is.part ++ given)
-    → InPbmRows (with_row p reader p.rows_left) row' (before ++ given) rows
+    HasFilled (form_of p.is_plain) reader p.width (take (bytes_of_row p.width) row') (is.part ++ given) → InPbmRows (with_row p reader p.rows_left) row' (before ++ given) rows
 row_goes_on p reader row' given is left filled = record {
   version_is = is.version_is;
   next_is = is.next_is;
@@ -138,9 +132,8 @@ row_goes_on p reader row' given is left filled = record {
 }
 
 pub row_ends : (p : T85Pbm) (reader : RowReader) {row before : List ℕ} {rows : List (List Bool)} (row' given : List ℕ) (pixels : List Bool) (is : InPbmRows p row before rows) → 1 ≤ p.rows_left →
-    IsRow (form_of p.is_plain) p.width (is.part ++ given) pixels
-    → HasFilled (form_of p.is_plain) reader p.width (take (bytes_of_row p.width) row') []
-    → InPbmRows (with_row p reader (p.rows_left - 1)) row' (before ++ given) (rows ++ pixels ∷ [])
+    IsRow (form_of p.is_plain) p.width (is.part ++ given) pixels → HasFilled (form_of p.is_plain) reader p.width (take (bytes_of_row p.width) row') [] →
+    InPbmRows (with_row p reader (p.rows_left - 1)) row' (before ++ given) (rows ++ pixels ∷ [])
 row_ends p reader {rows = rows} row' given pixels is left row_is filled = record {
   version_is = is.version_is;
   next_is = is.next_is;
@@ -170,7 +163,8 @@ row_fault p {rows = rows} given fault is left shows = record {
 }
 
 -- the same without another byte
-pub row_cut : (p : T85Pbm) {row before : List ℕ} {rows : List (List Bool)} (fault : PbmFault) (is : InPbmRows p row before rows) → 1 ≤ p.rows_left → RowFault (form_of p.is_plain) p.width is.part fault → HasImageFault before fault
+pub row_cut : (p : T85Pbm) {row before : List ℕ} {rows : List (List Bool)} (fault : PbmFault) (is : InPbmRows p row before rows) → 1 ≤ p.rows_left →
+    RowFault (form_of p.is_plain) p.width is.part fault → HasImageFault before fault
 row_cut p {rows = rows} fault is left shows = record {
   form = form_of p.is_plain;
   width = p.width;
@@ -191,97 +185,81 @@ whole_image p {row} {before} {rows} is none =
     record {
       form = form_of p.is_plain;
       body = is.body;
-      header = (let H : ℕ → Type 0 = λ h. HasHeader before (form_of p.is_plain) p.width h is.body in subst H many is.header);
-      holds = (let H : List ℕ → Type 0 = λ z. HoldsRows (form_of p.is_plain) is.body p.width rows z in subst H (is.done none) is.holds);
+      header = rw many at is.header;
+      holds = rw (is.done none) at is.holds;
     }
 
 -- ---- a row within the caller's memory
 
+-- another row with the same first bytes
+row_as : {p : T85Pbm} {row row' before : List ℕ} {rows : List (List Bool)} → take (bytes_of_row p.width) row' ≡ take (bytes_of_row p.width) row → InPbmRows p row before rows →
+    InPbmRows p row' before rows
+row_as same is = record {
+  version_is = is.version_is;
+  next_is = is.next_is;
+  body = is.body;
+  part = is.part;
+  header = is.header;
+  holds = is.holds;
+  left_is = is.left_is;
+  filled = rw same is.filled;
+  done = is.done;
+}
+
 -- the bytes of the row alone
-pub row_of_call : (p : T85Pbm) {before : List ℕ} {rows : List (List Bool)} (row : List ℕ) (n : ℕ) → n ≡ bytes_of_row p.width → InPbmRows p row before rows → InPbmRows p (take n row) before rows
-row_of_call p row n is_n is =
-    let twice : take (bytes_of_row p.width) (take n row) ≡ take (bytes_of_row p.width) row = again n row is_n in
-    record {
-      version_is = is.version_is;
-      next_is = is.next_is;
-      body = is.body;
-      part = is.part;
-      header = is.header;
-      holds = is.holds;
-      left_is = is.left_is;
-      filled = (let F : List ℕ → Type 0 = λ r. HasFilled (form_of p.is_plain) (row_reader_of p) p.width r is.part in subst F (sym twice) is.filled);
-      done = is.done;
-    } where
-      again : (m : ℕ) (xs : List ℕ) → m ≡ bytes_of_row p.width → take (bytes_of_row p.width) (take m xs) ≡ take (bytes_of_row p.width) xs
-      again m xs e = subst (λ k. take k (take m xs) ≡ take k xs) e (take_all m (take m xs) (omega (arith, length-take m xs)))
+row_of_call : {p : T85Pbm} {row before : List ℕ} {rows : List (List Bool)} {n : ℕ} → n ≡ bytes_of_row p.width → InPbmRows p row before rows → InPbmRows p (take n row) before rows
+row_of_call {row = row} {n = n} is_n is = row_as (rw (← is_n) (take_all n (take n row) (omega (arith, length-take n row)))) is
 
 -- and with the bytes behind it
-pub row_to_call : (p : T85Pbm) {before : List ℕ} {rows : List (List Bool)} (row rest : List ℕ) → length row ≡ bytes_of_row p.width → InPbmRows p row before rows → InPbmRows p (row ++ rest) before rows
-row_to_call p row rest whole is =
-    let same : take (bytes_of_row p.width) (row ++ rest) ≡ take (bytes_of_row p.width) row = take-append-le (bytes_of_row p.width) row rest (omega (arith, whole)) in
-    record {
-      version_is = is.version_is;
-      next_is = is.next_is;
-      body = is.body;
-      part = is.part;
-      header = is.header;
-      holds = is.holds;
-      left_is = is.left_is;
-      filled = (let F : List ℕ → Type 0 = λ r. HasFilled (form_of p.is_plain) (row_reader_of p) p.width r is.part in subst F (sym same) is.filled);
-      done = is.done;
-    }
+row_to_call : {p : T85Pbm} {row before : List ℕ} {rows : List (List Bool)} (rest : List ℕ) → length row ≡ bytes_of_row p.width → InPbmRows p row before rows → InPbmRows p (row ++ rest) before rows
+row_to_call {p} {row} rest whole is = row_as (take-append-le (bytes_of_row p.width) row rest (omega (arith, whole))) is
 
 -- ---- the whole calls
 
-pub row_in : (form form' : Form) (width width' : ℕ) (bytes : List ℕ) (pixels : List Bool) → form' ≡ form → width ≡ width' → IsRow form' width' bytes pixels → IsRow form width bytes pixels
-row_in form form' width width' bytes pixels same wide is =
-    let F : Form → ℕ → Type 0 = λ f w. IsRow f w bytes pixels in
-    subst (λ w. F form w) (sym wide) (subst (λ f. F f width') same is)
+pub row_in : {form form' : Form} {width width' : ℕ} (bytes : List ℕ) (pixels : List Bool) → form' ≡ form → width ≡ width' → IsRow form' width' bytes pixels → IsRow form width bytes pixels
+row_in bytes pixels same wide is = rw (wide, ← same) is
 
-pub fault_in : (form form' : Form) (width width' : ℕ) (bytes : List ℕ) (fault : PbmFault) → form' ≡ form → width ≡ width' → RowFault form' width' bytes fault → RowFault form width bytes fault
-fault_in form form' width width' bytes fault same wide is =
-    let F : Form → ℕ → Type 0 = λ f w. RowFault f w bytes fault in
-    subst (λ w. F form w) (sym wide) (subst (λ f. F f width') same is)
+pub fault_in : {form form' : Form} {width width' : ℕ} (bytes : List ℕ) (fault : PbmFault) → form' ≡ form → width ≡ width' → RowFault form' width' bytes fault → RowFault form width bytes fault
+fault_in bytes fault same wide is = rw (wide, ← same) is
 
-pub no_rows_left : (p : T85Pbm) (row piece : List ℕ) (taken : ℕ) (told : PbmAnswer) → p.version ≡ 1 → p.next ≡ 1 → p.rows_left ≡ 0 → told ≡ Done → taken ≡ 0 →
-    ReadsPbmRow (pbm_hold p row) (pbm_hold p row) (pbm_call piece taken) told
-no_rows_left p row piece taken told version next none is zero = record {
-  within = omega (arith, zero);
-  tells = (λ before rows has. subst (λ a. TellsRow before rows (pbm_hold p row) (pbm_hold p row) (pbm_call piece taken) a) (sym is) (whole_image p has none, (refl, zero)));
-  ended = (λ status has. let n = has.next_is in absurd (omega (arith, n, next)));
-  not_begun = (λ other. elim other [ inl a ↦ elim a [ inl v ↦ absurd (v version) | inr n ↦ absurd (n.1 next) ] | inr n ↦ absurd (omega (arith, n, next)) ]);
-}
-
-tells_within : (p new : T85Pbm) (row row' piece : List ℕ) (n taken : ℕ) (told : PbmAnswer) → length row' ≡ bytes_of_row new.width →
-    (before : List ℕ) (rows : List (List Bool)) → TellsPart before rows (pbm_hold new row') (pbm_call piece taken) told
-    → TellsRow before rows (pbm_hold p row) (pbm_hold new (row' ++ drop n row)) (pbm_call piece taken) told
-tells_within p new row row' piece n taken Row whole before rows t = record {
-  pixels = t.pixels;
-  reads = row_to_call new row' (drop n row) whole t.reads;
-  packed = take-append-le (bytes_of_row new.width) row' (drop n row) (omega (arith, whole)) ∙ t.packed;
-}
-tells_within p new row row' piece n taken More whole before rows t = (t.0, row_to_call new row' (drop n row) whole t.1, t.2)
-tells_within p new row row' piece n taken (Broken fault) whole before rows t = t
-tells_within p new row row' piece n taken Header whole before rows t = absurd t
-tells_within p new row row' piece n taken Done whole before rows t = absurd t
-tells_within p new row row' piece n taken ShortRow whole before rows t = absurd t
-tells_within p new row row' piece n taken NotBegun whole before rows t = absurd t
-tells_within p new row row' piece n taken (Ended status) whole before rows t = absurd t
-
-pub row_reads : (p new : T85Pbm) (row row' piece : List ℕ) (n taken : ℕ) (told : PbmAnswer) → p.version ≡ 1 → p.next ≡ 1 → n ≡ bytes_of_row p.width → length row' ≡ n → new.width ≡ p.width →
-    taken ≤ length piece
-    → ((before : List ℕ) (rows : List (List Bool)) → InPbmRows p (take n row) before rows → TellsPart before rows (pbm_hold new row') (pbm_call piece taken) told)
-    → ReadsPbmRow (pbm_hold p row) (pbm_hold new (row' ++ drop n row)) (pbm_call piece taken) told
-row_reads p new row row' piece n taken told version next is_n long same within tells = record {
+-- among the rows, a call has not ended and was begun
+reads_rows : {p new : T85Pbm} {row row' piece : List ℕ} {taken : ℕ} {told : PbmAnswer} → p.version ≡ 1 → p.next ≡ 1 → taken ≤ length piece →
+    ((before : List ℕ) (rows : List (List Bool)) → InPbmRows p row before rows → TellsRow before rows (pbm_hold p row) (pbm_hold new row') (pbm_call piece taken) told) →
+    ReadsPbmRow (pbm_hold p row) (pbm_hold new row') (pbm_call piece taken) told
+reads_rows version next within tells = record {
   within = within;
-  tells = (λ before rows has. tells_within p new row row' piece n taken told (long ∙ is_n ∙ ap bytes_of_row (sym same)) before rows (tells before rows (row_of_call p row n is_n has)));
+  tells = tells;
   ended = (λ status has. let n = has.next_is in absurd (omega (arith, n, next)));
   not_begun = (λ other. elim other [ inl a ↦ elim a [ inl v ↦ absurd (v version) | inr n ↦ absurd (n.1 next) ] | inr n ↦ absurd (omega (arith, n, next)) ]);
 }
+
+pub no_rows_left : {p : T85Pbm} {row piece : List ℕ} {taken : ℕ} {told : PbmAnswer} → p.version ≡ 1 → p.next ≡ 1 → p.rows_left ≡ 0 → told ≡ Done → taken ≡ 0 →
+    ReadsPbmRow (pbm_hold p row) (pbm_hold p row) (pbm_call piece taken) told
+no_rows_left {p} version next none is zero = reads_rows version next (omega (arith, zero)) (λ before rows has. rw is (whole_image p has none, (refl, zero)))
+
+module _ (p new : T85Pbm) (row row' piece : List ℕ) (n taken : ℕ) where
+  tells_within : (told : PbmAnswer) → length row' ≡ bytes_of_row new.width → (before : List ℕ) (rows : List (List Bool)) → TellsPart before rows (pbm_hold new row') (pbm_call piece taken) told →
+      TellsRow before rows (pbm_hold p row) (pbm_hold new (row' ++ drop n row)) (pbm_call piece taken) told
+  tells_within Row whole before rows t = record {
+    pixels = t.pixels;
+    reads = row_to_call (drop n row) whole t.reads;
+    packed = take-append-le (bytes_of_row new.width) row' (drop n row) (omega (arith, whole)) ∙ t.packed;
+  }
+  tells_within More whole before rows t = (t.0, row_to_call (drop n row) whole t.1, t.2)
+  tells_within (Broken fault) whole before rows t = t
+  tells_within told whole before rows t = absurd t
+
+pub row_reads : {p new : T85Pbm} {row piece : List ℕ} {n taken : ℕ} {told : PbmAnswer} (row' : List ℕ) → p.version ≡ 1 → p.next ≡ 1 → n ≡ bytes_of_row p.width → length row' ≡ n →
+    new.width ≡ p.width → taken ≤ length piece →
+    ((before : List ℕ) (rows : List (List Bool)) → InPbmRows p (take n row) before rows → TellsPart before rows (pbm_hold new row') (pbm_call piece taken) told) →
+    ReadsPbmRow (pbm_hold p row) (pbm_hold new (row' ++ drop n row)) (pbm_call piece taken) told
+row_reads {p} {new} {row} {piece} {n} {taken} {told} row' version next is_n long same within tells = reads_rows version next within
+    (λ before rows has. tells_within p new row row' piece n taken told (long ∙ is_n ∙ ap bytes_of_row (sym same)) before rows (tells before rows (row_of_call is_n has)))
 
 -- ---- the end
 
-pub ends_in_header : (p : T85Pbm) (fault : PbmFault) → p.version ≡ 1 → p.next ≡ 0 → fault ≡ Truncated → ((before : List ℕ) → HasScanned (header_reader_of p) before → HeaderFault before fault) →
+pub ends_in_header : (p : T85Pbm) (fault : PbmFault) → p.version ≡ 1 → p.next ≡ 0 → fault ≡ Truncated →
+    ((before : List ℕ) → HasScanned (header_reader_of p) before → HeaderFault before fault) →
     EndsPbm p (30 + pbm_fault_number fault)
 ends_in_header p fault version next is ends = rw is (record {
   in_header = (λ before has. (refl, subst (λ f. HeaderFault before f) is (ends before has.scanned)));
@@ -290,20 +268,25 @@ ends_in_header p fault version next is ends = rw is (record {
   not_begun = (λ other. elim other [ inl v ↦ absurd (v version) | inr n ↦ absurd (n.0 next) ]);
 })
 
-pub ends_whole : (p : T85Pbm) → p.version ≡ 1 → p.next ≡ 1 → p.rows_left ≡ 0 → EndsPbm p 0
-ends_whole p version next none = record {
+-- among the rows, the end says whether they are all
+ends_rows : {p : T85Pbm} {status : ℕ} → p.version ≡ 1 → p.next ≡ 1 →
+    ((row before : List ℕ) (rows : List (List Bool)) → InPbmRows p row before rows → ((status ≡ 0) × IsPbm before p.width rows []) ⊎ ((status ≡ 36) × HasImageFault before Truncated)) →
+    EndsPbm p status
+ends_rows version next tells = record {
   in_header = (λ before has. let n = has.next_is in absurd (omega (arith, n, next)));
-  in_rows = (λ row before rows has. inl (refl, whole_image p has none));
+  in_rows = tells;
   ended = (λ last has. let n = has.next_is in absurd (omega (arith, n, next)));
   not_begun = (λ other. elim other [ inl v ↦ absurd (v version) | inr n ↦ absurd (n.1 next) ]);
 }
 
-pub ends_in_rows : (p : T85Pbm) (fault : PbmFault) → p.version ≡ 1 → p.next ≡ 1 → 1 ≤ p.rows_left → fault ≡ Truncated
-    → ((form : Form) (width : ℕ) (before row : List ℕ) → HasFilled form (row_reader_of p) width row before → RowFault form width before fault) →
+pub ends_whole : (p : T85Pbm) → p.version ≡ 1 → p.next ≡ 1 → p.rows_left ≡ 0 → EndsPbm p 0
+ends_whole p version next none = ends_rows version next (λ row before rows has. inl (refl, whole_image p has none))
+
+pub ends_in_rows : (p : T85Pbm) (fault : PbmFault) → p.version ≡ 1 → p.next ≡ 1 → 1 ≤ p.rows_left → fault ≡ Truncated →
+    ((form : Form) (width : ℕ) (before row : List ℕ) → HasFilled form (row_reader_of p) width row before → RowFault form width before fault) →
     EndsPbm p (30 + pbm_fault_number fault)
-ends_in_rows p fault version next left is ends = rw is (record {
-  in_header = (λ before has. let n = has.next_is in absurd (omega (arith, n, next)));
-  in_rows = (λ row before rows has. inr (refl, row_cut p Truncated has left (subst (λ f. RowFault (form_of p.is_plain) p.width has.part f) is (ends (form_of p.is_plain) p.width has.part (take (bytes_of_row p.width) row) has.filled))));
-  ended = (λ last has. let n = has.next_is in absurd (omega (arith, n, next)));
-  not_begun = (λ other. elim other [ inl v ↦ absurd (v version) | inr n ↦ absurd (n.1 next) ]);
-})
+ends_in_rows p fault version next left is ends = rw is (ends_rows version next (λ row before rows has. inr (
+  refl,
+  row_cut p Truncated has left
+      (subst (λ f. RowFault (form_of p.is_plain) p.width has.part f) is (ends (form_of p.is_plain) p.width has.part (take (bytes_of_row p.width) row) has.filled)),
+)))

@@ -36,7 +36,8 @@ module _ (bytes : List ℕ) (at : ℕ) (chunk : List ℕ) (within : at + length 
 
   -- up to its end
   take_through : take (at + length chunk) (place bytes at chunk) ≡ take at bytes ++ chunk
-  take_through = ap (take (at + length chunk)) placed_is ∙ ap (λ n. take n ((take at bytes ++ chunk) ++ drop (at + length chunk) bytes)) (sym front_length) ∙ take-append_seam (take at bytes ++ chunk) (drop (at + length chunk) bytes)
+  take_through = ap (take (at + length chunk)) placed_is ∙ ap (λ n. take n ((take at bytes ++ chunk) ++ drop (at + length chunk) bytes)) (sym front_length)
+      ∙ take-append_seam (take at bytes ++ chunk) (drop (at + length chunk) bytes)
 
 -- seen from a later place on
 place_later : (bytes : List ℕ) (m at : ℕ) (chunk : List ℕ) → m + at + length chunk ≤ length bytes → drop m (place bytes (m + at) chunk) ≡ place (drop m bytes) at chunk
@@ -57,7 +58,8 @@ module _ (row stride : ℕ) (apart : row ≤ stride) where
       let k = stride - row in
       let sum : row + k ≡ stride = omega arith in
       let gap : drop row (take stride (place bytes x chunk)) ≡ drop row (take stride bytes) =
-      ap (λ m. drop row (take m (place bytes x chunk))) (sym sum) ∙ drop-take row k (place bytes x chunk) ∙ ap (take k) (far row inside) ∙ sym (drop-take row k bytes) ∙ ap (λ m. drop row (take m bytes)) sum in
+      ap (λ m. drop row (take m (place bytes x chunk))) (sym sum) ∙ drop-take row k (place bytes x chunk) ∙ ap (take k) (far row inside) ∙ sym (drop-take row k bytes)
+      ∙ ap (λ m. drop row (take m bytes)) sum in
       ap (λ l. l ++ outside n row stride (drop stride (place bytes x chunk))) gap ∙ ap (λ l. drop row (take stride bytes) ++ outside n row stride l) (far stride (omega arith))
 
   first_lined : (n x : ℕ) (bytes chunk : List ℕ) → x + length chunk ≤ row → x + length chunk ≤ length bytes →
@@ -90,10 +92,10 @@ module _ (row stride : ℕ) (apart : row ≤ stride) where
       ∙ ap (λ l. drop row (take stride bytes) ++ outside n row stride l) later
       ∙ ap (λ l. drop row (take stride bytes) ++ l) rec
 
-  pub placed_lined : (n y x start done : ℕ) (bytes chunk : List ℕ) → start ≡ y * stride → done ≡ y * row → y < n → x + length chunk ≤ row → start + x + length chunk ≤ length bytes →
+  pub placed_lined : (n y x : ℕ) {start done : ℕ} (bytes chunk : List ℕ) → start ≡ y * stride → done ≡ y * row → y < n → x + length chunk ≤ row → start + x + length chunk ≤ length bytes →
       take (done + x + length chunk) (lined n row stride (place bytes (start + x) chunk)) ≡ take (done + x) (lined n row stride bytes) ++ chunk
-  placed_lined zero y x start done bytes chunk is was few inside within = absurd (omega arith)
-  placed_lined (suc n) zero x start done bytes chunk is was few inside within =
+  placed_lined zero y x bytes chunk is was few inside within = absurd (omega arith)
+  placed_lined (suc n) zero x {start} {done} bytes chunk is was few inside within =
       let none : start + x ≡ x = omega arith in
       let nothing : done + x + length chunk ≡ x + length chunk = omega arith in
       let nothing' : x ≡ done + x = omega arith in
@@ -101,7 +103,7 @@ module _ (row stride : ℕ) (apart : row ≤ stride) where
       ∙ ap (λ m. take m (lined (suc n) row stride (place bytes x chunk))) nothing
       ∙ first_lined n x bytes chunk inside (omega arith)
       ∙ ap (λ m. take m (lined (suc n) row stride bytes) ++ chunk) nothing'
-  placed_lined (suc n) (suc y) x start done bytes chunk is was few inside within =
+  placed_lined (suc n) (suc y) x {start} {done} bytes chunk is was few inside within =
       let s : ℕ = y * stride in
       let d : ℕ = y * row in
       let next : start ≡ stride + s = omega arith in
@@ -112,7 +114,7 @@ module _ (row stride : ℕ) (apart : row ≤ stride) where
       let before = take_placed bytes (stride + (s + x)) chunk fits row (omega arith) in
       let later = place_later bytes stride (s + x) chunk fits in
       let whole : length (take row bytes) ≡ row = length-take-le row bytes (omega arith) in
-      let rec = placed_lined n y x s d (drop stride bytes) chunk refl refl (omega arith) inside (omega (arith, length-drop stride bytes)) in
+      let rec = placed_lined n y x (drop stride bytes) chunk refl refl (omega arith) inside (omega (arith, length-drop stride bytes)) in
       let far : done + x + length chunk ≡ length (take row bytes) + (d + x + length chunk) = omega arith in
       let near : length (take row bytes) + (d + x) ≡ done + x = omega arith in
       ap (λ at. take (done + x + length chunk) (lined (suc n) row stride (place bytes at chunk))) sum
@@ -122,7 +124,8 @@ module _ (row stride : ℕ) (apart : row ≤ stride) where
       ∙ take-append-add (take row bytes) (lined n row stride (place (drop stride bytes) (s + x) chunk)) (d + x + length chunk)
       ∙ ap (λ l. take row bytes ++ l) rec
       ∙ sym (append_assoc (take row bytes) (take (d + x) (lined n row stride (drop stride bytes))) chunk)
-      ∙ ap (λ l. l ++ chunk) (sym (take-append-add (take row bytes) (lined n row stride (drop stride bytes)) (d + x)) ∙ ap (λ m. take m (take row bytes ++ lined n row stride (drop stride bytes))) near)
+      ∙ ap (λ l. l ++ chunk) (sym (take-append-add (take row bytes) (lined n row stride (drop stride bytes)) (d + x))
+      ∙ ap (λ m. take m (take row bytes ++ lined n row stride (drop stride bytes))) near)
 
   -- what stands outside of rows is as long, whatever the bytes
   pub length_outside : (n : ℕ) (a b : List ℕ) → length a ≡ length b → length (outside n row stride a) ≡ length (outside n row stride b)
@@ -130,17 +133,21 @@ module _ (row stride : ℕ) (apart : row ≤ stride) where
   length_outside (suc n) a b same =
       let first : length (drop row (take stride a)) ≡ length (drop row (take stride b)) = grind (arith, common_steps) in
       let rest = length_outside n (drop stride a) (drop stride b) (omega (arith, length-drop stride a, length-drop stride b)) in
-      length-append (drop row (take stride a)) (outside n row stride (drop stride a)) ∙ omega (arith, first, rest) ∙ sym (length-append (drop row (take stride b)) (outside n row stride (drop stride b)))
+      length-append (drop row (take stride a)) (outside n row stride (drop stride a)) ∙ omega (arith, first, rest)
+      ∙ sym (length-append (drop row (take stride b)) (outside n row stride (drop stride b)))
 
   -- the first rows, where all of them are whole
-  pub first_of : (k n : ℕ) (bytes : List ℕ) → k ≤ n → ((y : ℕ) → y < k → y * stride + row ≤ length bytes) → (take (k * row) (lined n row stride bytes) ≡ lined k row stride bytes) × (length (lined k row stride bytes) ≡ k * row)
+  pub first_of : (k n : ℕ) (bytes : List ℕ) → k ≤ n → ((y : ℕ) → y < k → y * stride + row ≤ length bytes) →
+      (take (k * row) (lined n row stride bytes) ≡ lined k row stride bytes) × (length (lined k row stride bytes) ≡ k * row)
   first_of zero n bytes few each = (let none : 0 * row ≡ 0 = omega arith in ap (λ m. take m (lined n row stride bytes)) none, (let e : 0 ≡ 0 * row = omega arith in e))
   first_of (suc k) zero bytes few each = absurd (omega arith)
   first_of (suc k) (suc n) bytes few each =
       let first : 0 * stride + row ≤ length bytes = each 0 (omega arith) in
       let whole : length (take row bytes) ≡ row = length-take-le row bytes (omega arith) in
-      let rec = first_of k n (drop stride bytes) (omega arith) (λ y less. (let far : suc y * stride + row ≤ length bytes = each (suc y) (omega arith) in omega (arith, far, length-drop stride bytes))) in
+      let rec = first_of k n (drop stride bytes) (omega arith)
+      (λ y less. (let far : suc y * stride + row ≤ length bytes = each (suc y) (omega arith) in omega (arith, far, length-drop stride bytes))) in
       let sum : suc k * row ≡ length (take row bytes) + k * row = omega arith in (
-        ap (λ m. take m (take row bytes ++ lined n row stride (drop stride bytes))) sum ∙ take-append-add (take row bytes) (lined n row stride (drop stride bytes)) (k * row) ∙ ap (λ l. take row bytes ++ l) rec.0,
+        ap (λ m. take m (take row bytes ++ lined n row stride (drop stride bytes))) sum ∙ take-append-add (take row bytes) (lined n row stride (drop stride bytes)) (k * row)
+            ∙ ap (λ l. take row bytes ++ l) rec.0,
         length-append (take row bytes) (lined k row stride (drop stride bytes)) ∙ omega (arith, whole, rec.1, sum),
       )

@@ -169,31 +169,35 @@ settled some one h n body used bytes is =
 -- ---- the bytes
 
 header_with : HeaderLaws → (bytes : List ℕ) (h : Fields) (n : ℕ) → IsAccepted (with_height h n) → 20 ≤ length bytes → HeaderOf bytes h → HeaderOf (with_yd bytes n) (with_height h n)
-header_with laws bytes h n accepted long = of_twenty (λ s. HeaderOf s h → HeaderOf (with_yd s n) (with_height h n)) (λ b0 b1 b2 b3 b4 b5 b6 b7 b8 b9 b10 b11 b12 b13 b14 b15 b16 b17 b18 b19 rest old. record {
-  whole = old.whole;
-  dl = old.dl;
-  d = old.d;
-  p = old.p;
-  zero = old.zero;
-  xd = old.xd;
-  yd = (laws.written (with_height h n) accepted).yd;
-  l0 = old.l0;
-  mx = old.mx;
-  order = old.order;
-  options = old.options;
-  accepted = accepted;
-}) bytes long
+header_with laws bytes h n accepted long = of_twenty (λ s. HeaderOf s h → HeaderOf (with_yd s n) (with_height h n))
+    (λ b0 b1 b2 b3 b4 b5 b6 b7 b8 b9 b10 b11 b12 b13 b14 b15 b16 b17 b18 b19 rest old. record {
+      whole = old.whole;
+      dl = old.dl;
+      d = old.d;
+      p = old.p;
+      zero = old.zero;
+      xd = old.xd;
+      yd = (laws.written (with_height h n) accepted).yd;
+      l0 = old.l0;
+      mx = old.mx;
+      order = old.order;
+      options = old.options;
+      accepted = accepted;
+    }) bytes long
 
 behind_yd : (bytes : List ℕ) (n : ℕ) → 20 ≤ length bytes → drop 20 (with_yd bytes n) ≡ drop 20 bytes
 behind_yd bytes n = of_twenty (λ s. drop 20 (with_yd s n) ≡ drop 20 s) (λ b0 b1 b2 b3 b4 b5 b6 b7 b8 b9 b10 b11 b12 b13 b14 b15 b16 b17 b18 b19 rest. refl) bytes
 
 written_yd : (bytes buffer : List ℕ) (n : ℕ) → 20 ≤ length bytes → buffer ≡ big_bytes 4 n ++ drop 4 (take 4 (drop 8 bytes)) → put_mid 8 4 bytes buffer ≡ with_yd bytes n
 written_yd bytes buffer n long is =
-    of_twenty (λ s. buffer ≡ big_bytes 4 n ++ drop 4 (take 4 (drop 8 s)) → put_mid 8 4 s buffer ≡ with_yd s n) (λ b0 b1 b2 b3 b4 b5 b6 b7 b8 b9 b10 b11 b12 b13 b14 b15 b16 b17 b18 b19 rest e. ap (λ b. put_mid 8 4 (b0 ∷ b1 ∷ b2 ∷ b3 ∷ b4 ∷ b5 ∷ b6 ∷ b7 ∷ b8 ∷ b9 ∷ b10 ∷ b11 ∷ b12 ∷ b13 ∷ b14 ∷ b15 ∷ b16 ∷ b17 ∷ b18 ∷ b19 ∷ rest) b) e) bytes long is
+    of_twenty (λ s. buffer ≡ big_bytes 4 n ++ drop 4 (take 4 (drop 8 s)) → put_mid 8 4 s buffer ≡ with_yd s n)
+    (λ b0 b1 b2 b3 b4 b5 b6 b7 b8 b9 b10 b11 b12 b13 b14 b15 b16 b17 b18 b19 rest e. ap (λ b. put_mid 8 4
+    (b0 ∷ b1 ∷ b2 ∷ b3 ∷ b4 ∷ b5 ∷ b6 ∷ b7 ∷ b8 ∷ b9 ∷ b10 ∷ b11 ∷ b12 ∷ b13 ∷ b14 ∷ b15 ∷ b16 ∷ b17 ∷ b18 ∷ b19 ∷ rest) b) e) bytes long is
 
 -- ---- the result
 
-at_one : OneHeight → (stream : List ℕ) (h : Fields) (n : ℕ) (raster : Raster) → IsAccepted h → IsHeight h (drop 20 stream) n → (d : Denotes stream raster) → d.header ≡ h → DenotesAt h n (drop 20 stream) raster
+at_one : OneHeight → (stream : List ℕ) (h : Fields) (n : ℕ) (raster : Raster) → IsAccepted h → IsHeight h (drop 20 stream) n → (d : Denotes stream raster) → d.header ≡ h →
+    DenotesAt h n (drop 20 stream) raster
 at_one one stream h n raster accepted height d is =
     let same : d.height ≡ n = one h (drop 20 stream) n d.height accepted height (subst (λ f. IsHeight f (drop 20 stream) d.height) is d.height_is) in
     subst (λ m. DenotesAt h m (drop 20 stream) raster) same (subst (λ f. DenotesAt f d.height (drop 20 stream) raster) is d.denotes)
@@ -240,7 +244,8 @@ set_done bytes buffer h n o is fit =
           header_of = o.header;
           height = n;
           height_is = o.height;
-          denotes = denotes_up h n o.to (drop 20 bytes) raster (rw behind at (at_one o.one new (with_height h n) n raster accepted height d (o.headers.one new d.header (with_height h n) d.header_of header)));
+          denotes = denotes_up h n o.to (drop 20 bytes) raster
+              (rw behind at (at_one o.one new (with_height h n) n raster accepted height d (o.headers.one new d.header (with_height h n) d.header_of header)));
         },
       );
     }

@@ -72,8 +72,10 @@ parts_with h o a height body p = record {
 denotes_with : (h : Fields) (o : ℕ) → AreAlike h.options o → (height : ℕ) (body : List ℕ) (raster : Raster) → DenotesAt h height body raster → DenotesAt (with_options h o) height body raster
 unfolding parts_with
 denotes_with h o a height body raster d =
-    let mode : mode_of h.options ≡ mode_of o = ap (λ (b : Bool). record { two_line = b; typical = has_bit h.options 3 }) a.two_line ∙ ap (λ (b : Bool). record { two_line = has_bit o 6; typical = b }) a.typical in
-    let coding : coding_in h d.parts.stripes d.flags raster.rows ≡ coding_in (with_options h o) d.parts.stripes d.flags raster.rows = ap (λ m. record (coding_in h d.parts.stripes d.flags raster.rows) { mode = m }) mode in
+    let mode : mode_of h.options ≡ mode_of o = ap (λ (b : Bool). record { two_line = b; typical = has_bit h.options 3 }) a.two_line
+    ∙ ap (λ (b : Bool). record { two_line = has_bit o 6; typical = b }) a.typical in
+    let coding : coding_in h d.parts.stripes d.flags raster.rows ≡ coding_in
+    (with_options h o) d.parts.stripes d.flags raster.rows = ap (λ m. record (coding_in h d.parts.stripes d.flags raster.rows) { mode = m }) mode in
     record {
       parts = parts_with h o a height body d.parts;
       proper = d.proper;
@@ -92,5 +94,6 @@ options_denote old new o h raster of_new a same d is = record {
   header_of = of_new;
   height = d.height;
   height_is = subst (λ body. IsHeight (with_options h o) body d.height) (sym same) (height_with h o a (drop 20 old) d.height (subst (λ f. IsHeight f (drop 20 old) d.height) is d.height_is));
-  denotes = subst (λ body. DenotesAt (with_options h o) d.height body raster) (sym same) (denotes_with h o a d.height (drop 20 old) raster (subst (λ f. DenotesAt f d.height (drop 20 old) raster) is d.denotes));
+  denotes = subst (λ body. DenotesAt (with_options h o) d.height body raster) (sym same)
+      (denotes_with h o a d.height (drop 20 old) raster (subst (λ f. DenotesAt f d.height (drop 20 old) raster) is d.denotes));
 }

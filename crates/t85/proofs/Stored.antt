@@ -1,5 +1,5 @@
 -- From the encoder's effect on a buffer to the contents of the caller's memory.
-use Rattle.std.proofs.Common.{◌≡◌, ◌≤◌, ◌<◌, ◌^◌, ◌==◌, ◌⊎◌, inl, inr, ℕ, true, false, nat_lt, Bor, List, [], ◌∷◌, ◌++◌, length, take, Option, Some, None, Result, Ok, Err, refl, sym, ap, ◌∙◌, subst, arith, append-nil, append_assoc, true≢false}
+use Rattle.std.proofs.Common.{◌≡◌, ◌≤◌, ◌<◌, ◌^◌, ◌==◌, ◌⊎◌, inl, inr, ℕ, true, false, nat_lt, Bor, List, [], ◌∷◌, ◌++◌, length, take, Option, Some, None, Result, Ok, Err, refl, sym, ap, ◌∙◌, subst, arith, append_assoc, true≢false}
 use Rattle.std.specs.Prelude.{is_some, option_to_list, option_map, unwrap_or, IfSome, slice_index_or, zero, suc}
 use Rattle.std.specs.Option.{option_map_or}
 use Rattle.std.specs.Io.KnownBytes.{Consumes}
@@ -21,6 +21,11 @@ use Rattle.t85_core.specs.Options.{settings_of}
 use Rattle.t85.specs.Delivered.{answer_status, IsFull}
 use Rattle.t85.specs.Encoded.{DeliversCode, asked}
 use Rattle.t85.proofs.Delivery.{none_failed, fits_in, full_of}
+use Rattle.t85.specs.Delivered.{IsEmptyRoom}
+use Rattle.t85.specs.declared.devices.Room.{Room}
+use Rattle.pbm_core.specs.declared.size.Size.{Size}
+use Rattle.t85.proofs.Rooms.{all_within, nothing_in, text_of}
+use Rattle.t85.proofs.Taken.{not_spilled, spilled_by}
 use Rattle.t85.proofs.RawRows.{RowsOf, rows_of, ends_within, first_rows}
 
 comment_fits : (o : Option (Bor (List ℕ))) → option_map_or (λ c. length c.now) o 0 < 2 ^ 32 → length (unwrap_or (option_map (λ c. c.now) o) []) < 2 ^ 32
@@ -57,7 +62,8 @@ not_low a b e = grind (arith, nat_tests)
 
 module _ (s : Settings) (width height' : ℕ) (body memory : List ℕ) (len : ℕ) (low : is_low s height' ≡ false) where
   by_fault : (in_new : Option (List ℕ)) (f : Fault) → len ≤ length memory →
-      Encode s (layout_of Raw width height') (between (Some body) in_new 0 0) (between (Some []) (Some (take len memory ++ [])) 0 0) (Err f) → DeliversCode (asked s width height') body memory len (answer_status (Err f))
+      Encode s (layout_of Raw width height') (between (Some body) in_new 0 0) (between (Some []) (Some (take len memory)) 0 0) (Err f) →
+      DeliversCode (asked s width height') body memory len (answer_status (Err f))
   by_fault in_new (Pbm Truncated) within d =
       let w = d.short Truncated (λ e. absurd (let bot : ⊥ = cc in bot)) refl in
       inr (record {
@@ -66,7 +72,7 @@ module _ (s : Settings) (width height' : ℕ) (body memory : List ℕ) (len : �
         holds = w.holds;
         few = w.few;
         part = w.part;
-        writes = inl (record { text = w.text; begun = w.begun; fits = fits_in w.text 36 memory len 36 (sym (append-nil (take len memory)) ∙ w.appends) within refl });
+        writes = inl (record { text = w.text; begun = w.begun; fits = fits_in w.text 36 memory len 36 w.appends within refl });
       })
   by_fault in_new (Pbm PbmRead) within d = absurd (omega (arith, d.reads))
   by_fault in_new (Pbm BadDigit) within d =
@@ -78,7 +84,8 @@ module _ (s : Settings) (width height' : ℕ) (body memory : List ℕ) (len : �
   by_fault in_new f within d = absurd (d.among (λ e. absurd (let bot : ⊥ = cc in bot)))
 
   by_answer : (in_new : Option (List ℕ)) (answer : Result (Unit {0}) Fault) → len ≤ length memory →
-      Encode s (layout_of Raw width height') (between (Some body) in_new 0 0) (between (Some []) (Some (take len memory ++ [])) 0 0) answer → DeliversCode (asked s width height') body memory len (answer_status answer)
+      Encode s (layout_of Raw width height') (between (Some body) in_new 0 0) (between (Some []) (Some (take len memory)) 0 0) answer →
+      DeliversCode (asked s width height') body memory len (answer_status answer)
   by_answer in_new (Ok u) within d =
       let w = d.whole in
       inl (record {
@@ -87,22 +94,12 @@ module _ (s : Settings) (width height' : ℕ) (body memory : List ℕ) (len : �
         holds = w.holds;
         many = w.many;
         denotes = w.denotes;
-        delivers = inl (fits_in (jbg s (raster_of width w.rows)) 0 memory len 0 (sym (append-nil (take len memory)) ∙ w.appends) within refl);
+        delivers = inl (fits_in (jbg s (raster_of width w.rows)) 0 memory len 0 w.appends within refl);
       })
   by_answer in_new (Err f) within d = by_fault in_new f within d
 
-  pub stored : (old : List ℕ) (in_new : Option (List ℕ)) (answer : Result (Unit {0}) Fault) (spilled : Option ℕ) (before failures : ℕ) → old ≡ [] → before ≡ 0 → is_some spilled ≡ false →
-      (0 < failures → is_some spilled ≡ true) → len ≤ length memory →
-      Encode s (layout_of Raw width height') (between (Some body) in_new 0 0) (between (Some old) (Some (take len memory ++ option_to_list spilled)) before failures) answer →
-      DeliversCode (asked s width height') body memory len (answer_status answer)
-  stored old in_new answer (Some b) before failures empty fresh none full within d = absurd (true≢false none)
-  stored old in_new answer None before failures empty fresh none full within d =
-      let D : List ℕ → ℕ → ℕ → Type 0 = λ start m n. Encode s (layout_of Raw width height') (between (Some body) in_new 0 0) (between (Some start) (Some (take len memory ++ [])) m n) answer in
-      let e : D [] before failures = subst (λ l. D l before failures) empty d in
-      let f : D [] 0 failures = subst (λ m. D [] m failures) fresh e in
-      by_answer in_new answer within (subst (λ n. D [] 0 n) (none_failed failures false none full) f)
-
-  module _ (law : CodeDenotes) (proper : AreSettings s) (width_from : 1 ≤ width) (width_to : width ≤ 2 ^ 20) (height_from : 1 ≤ height') (height_to : height' < 2 ^ 32) (all : len ≡ length memory) (b : ℕ) where
+  module _ (law : CodeDenotes) (proper : AreSettings s) (width_from : 1 ≤ width) (width_to : width ≤ 2 ^ 20) (height_from : 1 ≤ height') (height_to : height' < 2 ^ 32)
+      (all : len ≡ length memory) (b : ℕ) where
     -- the memory is full of the code of each raster that begins with the rows that are there
     each : (given left : List ℕ) → body ≡ given ++ left → WritesCodeFront s (layout_of Raw width height') given (Some []) (Some (take len memory ++ b ∷ [])) → (held : RowsOf width height' body) →
         (raster : Raster) → BeginsWith width height' held.rows raster → IsFull (jbg s raster) memory len 18
@@ -159,10 +156,21 @@ module _ (s : Settings) (width height' : ℕ) (body memory : List ℕ) (len : �
     begun None given taken w = absurd taken
     begun (Some left) given taken w = filled given left taken w (rows_of width height' body)
 
-  pub overfull : (law : CodeDenotes) (proper : AreSettings s) → 1 ≤ width → width ≤ 2 ^ 20 → 1 ≤ height' → height' < 2 ^ 32 → (old : List ℕ) (in_new : Option (List ℕ)) (answer : Result (Unit {0}) Fault) (spilled : Option ℕ) (before failures : ℕ) →
-      old ≡ [] → is_some spilled ≡ true → (is_some spilled ≡ true → len ≡ length memory) →
-      Encode s (layout_of Raw width height') (between (Some body) in_new 0 0) (between (Some old) (Some (take len memory ++ option_to_list spilled)) before failures) answer → DeliversCode (asked s width height') body memory len 18
-  overfull law proper wf wt hf ht old in_new answer None before failures empty some last d = absurd (true≢false (sym some))
-  overfull law proper wf wt hf ht old in_new answer (Some b) before failures empty some last d =
-      begun law proper wf wt hf ht (last some) b in_new d.front.0 d.front.1
-      (subst (λ l. WritesCodeFront s (layout_of Raw width height') d.front.0 (Some l) (Some (take len memory ++ b ∷ []))) empty d.front.2)
+pub stored : {s : Settings} {width height' : ℕ} {body : List ℕ} {in_new : Option (List ℕ)} {answer : Result (Unit {0}) Fault} (room out : Room) → is_low s height' ≡ false → IsEmptyRoom room →
+    is_some out.spilled ≡ false → Encode s (layout_of Raw width height') (between (Some body) in_new 0 0) (between (Some (text_of room)) (Some (text_of out)) room.failures out.failures) answer →
+    DeliversCode (asked s width height') body out.bytes.now out.len (answer_status answer)
+stored {s} {width} {height'} {body} {in_new} {answer} room out low empty none d =
+    let within = all_within out (not_spilled out.spilled (λ e. true≢false (sym e ∙ none))) in
+    by_answer s width height' body out.bytes.now out.len low in_new answer out.within
+    (rw (empty.0, none_failed out.failures (is_some out.spilled) none out.full, nothing_in room empty, within) at d)
+
+pub overfull : {body : List ℕ} {in_new : Option (List ℕ)} {answer : Result (Unit {0}) Fault} (o : Options) (size : Size) (room out : Room) → CodeDenotes → size.height < 2 ^ 32 →
+    is_low (settings_of o) size.height ≡ false → IsEmptyRoom room → is_some out.spilled ≡ true →
+    Encode (settings_of o) (layout_of Raw size.width size.height) (between (Some body) in_new 0 0) (between (Some (text_of room)) (Some (text_of out)) room.failures out.failures) answer →
+    DeliversCode (asked (settings_of o) size.width size.height) body out.bytes.now out.len 18
+overfull {body} {in_new} o size room out law tall low empty some d =
+    let spill = spilled_by out.spilled some in
+    let text_is : text_of out ≡ take out.len out.bytes.now ++ spill.0 ∷ [] = ap (λ z. take out.len out.bytes.now ++ option_to_list z) spill.1 in
+    begun (settings_of o) size.width size.height body out.bytes.now out.len low law (are_settings o) size.some_width size.not_too_wide size.some_height tall
+    (out.spilled_last some) spill.0 in_new d.front.0 d.front.1
+    (rw (nothing_in room empty, text_is) at d.front.2)

@@ -1,6 +1,6 @@
 -- How what an output of rows has taken grows.
-use Rattle.std.proofs.Common.{◌≡◌, ◌≤◌, ◌<◌, ◌+◌, ◌*◌, ℕ, true, List, [], ◌∷◌, ◌++◌, length, take, drop, Option, Some, None, refl, sym, ap, ◌∙◌, arith, append_assoc, append-nil}
-use Rattle.std.specs.Prelude.{is_some, option_to_list}
+use Rattle.std.proofs.Common.{◌≡◌, ◌≤◌, ◌<◌, ◌+◌, ◌*◌, ℕ, true, List, ◌∷◌, ◌++◌, length, take, drop, Option, Some, None, refl, sym, ap, ◌∙◌, arith, append_assoc, append-nil}
+use Rattle.std.specs.Prelude.{is_some}
 use Rattle.std.proofs.lemmas.List.{drop-drop}
 use Rattle.std.proofs.lemmas.Slice.{take-put_mid}
 use borrow.Rule.Slice.PartMut.{put_mid}
@@ -12,52 +12,45 @@ pub not_spilled : (spilled : Option ℕ) → (is_some spilled ≡ true → ⊥) 
 not_spilled None none = refl
 not_spilled (Some b) none = absurd (none refl)
 
+pub spilled_by : (spilled : Option ℕ) → is_some spilled ≡ true → (b : ℕ) × (spilled ≡ Some b)
+spilled_by None some = cc
+spilled_by (Some b) some = (b, refl)
+
 put_place : (a k : ℕ) (xs ys : List ℕ) → k ≡ length ys → put_mid a k xs ys ≡ place xs a ys
 put_place a k xs ys long = ap (λ l. take a xs ++ (ys ++ l)) (drop-drop k a xs ∙ ap (λ n. drop (a + n) xs) long)
 
--- a list that ends in nothing is made longer in front of it
-before_nothing : (out front chunk last : List ℕ) → last ≡ [] → out ++ ((front ++ chunk) ++ last) ≡ (out ++ (front ++ last)) ++ chunk
-before_nothing out front chunk last none =
-    ap (λ l. out ++ ((front ++ chunk) ++ l)) none ∙ ap (λ l. out ++ l) (append-nil (front ++ chunk)) ∙ sym (append_assoc out front chunk)
-    ∙ ap (λ l. (out ++ l) ++ chunk) (sym (append-nil front)) ∙ ap (λ l. (out ++ (front ++ l)) ++ chunk) (sym none)
+-- bytes were put behind those of the head
+pub head_taken : {count : ℕ} (s : LinedState) (k : ℕ) (chunk : List ℕ) → s.y ≡ 0 → s.x ≡ 0 → s.spilled ≡ None → length chunk ≡ count → s.at ≤ length s.head →
+    taken (record s { head = put_mid s.at k s.head chunk; at = s.at + count }) ≡ taken s ++ chunk
+head_taken {count} s k chunk top left none long within =
+    let zero_rows : s.y * s.row + s.x ≡ 0 = ap (λ n. n * s.row + s.x) top ∙ omega (arith, left) in
+    rw (take-put_mid s.at k s.head chunk (s.at + count) (ap (λ n. s.at + n) (sym long)) within, none, zero_rows)
+    (simp append-nil (ap (λ l. length s.bytes ∷ s.row ∷ s.stride ∷ s.fit ∷ s.skip ∷ l) (sym (append_assoc (outside s.fit s.row s.stride s.bytes) (take s.at s.head) chunk))))
 
--- an output of these parts
-abbrev pub state_with : ℕ → ℕ → ℕ → ℕ → List ℕ → List ℕ → ℕ → ℕ → ℕ → Option ℕ → LinedState
-state_with row stride fit skip bytes head at y x spilled = record { row = row; stride = stride; fit = fit; skip = skip; bytes = bytes; head = head; at = at; y = y; x = x; spilled = spilled }
+-- the next row has room for these bytes
+pub record HasRoom (s : LinedState) (chunk : List ℕ) : Type 0 where
+  pub apart : s.row ≤ s.stride
+  pub none : s.spilled ≡ None
+  pub few : s.y < s.fit
+  pub inside : s.x + length chunk ≤ s.row
+  pub within : s.y * s.stride + s.x + length chunk ≤ length s.bytes
 
-pub head_taken : (row stride fit skip : ℕ) (bytes head : List ℕ) (at y x : ℕ) (spilled : Option ℕ) (count k : ℕ) (chunk : List ℕ) → y ≡ 0 → x ≡ 0 → spilled ≡ None → length chunk ≡ count → at ≤ length head →
-    taken (state_with row stride fit skip bytes (put_mid at k head chunk) (at + count) y x spilled) ≡ taken (state_with row stride fit skip bytes head at y x spilled) ++ chunk
-head_taken row stride fit skip bytes head at y x spilled count k chunk top left none long within =
-    let out = outside fit row stride bytes in
-    let rows = lined fit row stride bytes in
-    let last = take (y * row + x) rows ++ option_to_list spilled in
-    let zero_rows : y * row + x ≡ 0 = ap (λ n. n * row + x) top ∙ omega (arith, left) in
-    let nothing : last ≡ [] = ap (λ s. take (y * row + x) rows ++ option_to_list s) none ∙ append-nil (take (y * row + x) rows) ∙ ap (λ n. take n rows) zero_rows in
-    ap (λ l. length bytes ∷ row ∷ stride ∷ fit ∷ skip ∷ l)
-    (ap (λ l. out ++ (l ++ last)) (take-put_mid at k head chunk (at + count) (ap (λ n. at + n) (sym long)) within)
-    ∙ before_nothing out (take at head) chunk last nothing)
-
-pub row_taken : (row stride fit skip : ℕ) (bytes head : List ℕ) (at y x y' x' : ℕ) (spilled : Option ℕ) (k : ℕ) (chunk : List ℕ) → row ≤ stride → spilled ≡ None → k ≡ length chunk → y < fit → x + length chunk ≤ row →
-    y * stride + x + length chunk ≤ length bytes → y' * row + x' ≡ y * row + x + length chunk →
-    taken (state_with row stride fit skip (put_mid (y * stride + x) k bytes chunk) head at y' x' spilled) ≡ taken (state_with row stride fit skip bytes head at y x spilled) ++ chunk
-row_taken row stride fit skip bytes head at y x y' x' spilled k chunk apart none long few inside within more =
-    let out = outside fit row stride bytes in
-    let front = take at head in
-    let rows = lined fit row stride bytes in
-    let s = y * stride in
-    let d = y * row in
-    let placed = place bytes (s + x) chunk in
-    let T : List ℕ → ℕ → Option ℕ → List ℕ = λ held n z. length held ∷ row ∷ stride ∷ fit ∷ skip ∷ (outside fit row stride held ++ (front ++ (take n (lined fit row stride held) ++ option_to_list z))) in
-    let same : outside fit row stride placed ++ (front ++ (take (d + x + length chunk) (lined fit row stride placed) ++ [])) ≡ (out ++ (front ++ (take (d + x) rows ++ []))) ++ chunk =
-    ap (λ l. l ++ (front ++ (take (d + x + length chunk) (lined fit row stride placed) ++ []))) (placed_outside row stride apart fit y x s bytes chunk refl few inside within)
-    ∙ ap (λ l. out ++ (front ++ (l ++ []))) (placed_lined row stride apart fit y x s d bytes chunk refl refl few inside within)
-    ∙ ap (λ l. out ++ (front ++ l)) (append-nil (take (d + x) rows ++ chunk))
-    ∙ ap (λ l. out ++ l) (sym (append_assoc front (take (d + x) rows) chunk))
-    ∙ sym (append_assoc out (front ++ take (d + x) rows) chunk)
-    ∙ ap (λ l. (out ++ (front ++ l)) ++ chunk) (sym (append-nil (take (d + x) rows))) in
-    ap (λ held. T held (y' * row + x') spilled) (put_place (s + x) k bytes chunk long)
-    ∙ ap (λ n. T placed n spilled) more
-    ∙ ap (λ z. T placed (d + x + length chunk) z) none
-    ∙ ap (λ n. n ∷ row ∷ stride ∷ fit ∷ skip ∷ (outside fit row stride placed ++ (front ++ (take (d + x + length chunk) (lined fit row stride placed) ++ [])))) (length_placed bytes (s + x) chunk within)
-    ∙ ap (λ l. length bytes ∷ row ∷ stride ∷ fit ∷ skip ∷ l) same
-    ∙ ap (λ z. T bytes (d + x) z ++ chunk) (sym none)
+-- bytes were put behind those of the rows
+pub row_taken : {k : ℕ} {s : LinedState} {chunk : List ℕ} (y' x' : ℕ) → HasRoom s chunk → k ≡ length chunk → y' * s.row + x' ≡ s.y * s.row + s.x + length chunk →
+    taken (record s { bytes = put_mid (s.y * s.stride + s.x) k s.bytes chunk; y = y'; x = x' }) ≡ taken s ++ chunk
+row_taken {k} {s} {chunk} y' x' has long more =
+    let p = s.y * s.stride in
+    let d = s.y * s.row in
+    let out = outside s.fit s.row s.stride s.bytes in
+    let front = take s.at s.head in
+    let rows = lined s.fit s.row s.stride s.bytes in
+    rw (
+      put_place (p + s.x) k s.bytes chunk long,
+      more,
+      has.none,
+      length_placed s.bytes (p + s.x) chunk has.within,
+      placed_outside s.row s.stride has.apart s.fit s.y s.x p s.bytes chunk refl has.few has.inside has.within,
+      placed_lined s.row s.stride has.apart s.fit s.y s.x s.bytes chunk refl refl has.few has.inside has.within,
+    )
+    (simp append-nil (ap (λ l. length s.bytes ∷ s.row ∷ s.stride ∷ s.fit ∷ s.skip ∷ l)
+    (ap (λ l. out ++ l) (sym (append_assoc front (take (d + s.x) rows) chunk)) ∙ sym (append_assoc out (front ++ take (d + s.x) rows) chunk))))

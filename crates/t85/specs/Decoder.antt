@@ -6,8 +6,9 @@ use Rattle.t85_core.specs.declared.fault.Fault.TheVariants.{Truncated}
 use Rattle.t85_core.specs.Fault.{fault_number}
 use Rattle.t85_core.specs.Header.{Fields, HeaderOf, header_fault, is_variable}
 use Rattle.t85_core.specs.Options.{fields_of}
-use Rattle.t85_core.specs.Pieces.{AwaitsHeight, HandsOut, HoldsImage, IsLeastHeight, MayFollow}
+use Rattle.t85_core.specs.Pieces.{AwaitsHeight, HandsOut, HoldsImage, IsLeastHeight, MayFollow, is_last_piece}
 use Rattle.t85_core.specs.Consumed.{ConsumesImage}
+use Rattle.t85_core.specs.declared.pieces.More.{More}
 use Rattle.t85.specs.Decoded.{window_bytes}
 use Rattle.t85.specs.declared.decoder.T85Decoder.{T85Decoder}
 use Rattle.t85.specs.declared.decoder.Answer.{Answer}
@@ -24,6 +25,10 @@ pub record BytesCall : Type 0 where
 
 abbrev pub bytes_call : List ℕ → Bool → ℕ → ℕ → BytesCall
 bytes_call bytes is_all taken row = record { bytes = bytes; is_all = is_all; taken = taken; row = row }
+
+-- the same, if more bytes may come or not
+abbrev pub more_call : List ℕ → More → ℕ → ℕ → BytesCall
+more_call bytes more taken row = bytes_call bytes (is_last_piece more) taken row
 
 abbrev pub bytes_of_call : BytesCall → List ℕ
 bytes_of_call call = take call.taken call.bytes

@@ -1,14 +1,13 @@
 //! A PBM that is read from pieces, in a struct that a C caller owns.
 
-ghost use Rattle.std.specs.Prelude.{◌≡◌, ◌≢◌, ◌≤◌, ◌+◌, ℕ, List, Bool, length, take, [], IfSome, IsNone};
+ghost use Rattle.std.specs.Prelude.{◌≡◌, ◌≤◌, ◌+◌, ℕ, List, Bool, length};
 ghost use Rattle.pbm_core.specs.Pbm.{bytes_of_row};
-ghost use Rattle.pbm_core.specs.HeaderPieces.{TakesHeaderPiece};
-ghost use Rattle.t85.specs.Pbm.{BeginsPbm, EndsPbm, InPbmHeader, InPbmRows, IsPbmStatus, PbmHasEnded, ReadsPbmHeader, ReadsPbmRow, TellsPbmHeader, TellsPart, form_of, header_reader_of, pbm_call, pbm_hold, pbm_status, header_place, row_reader_of};
+ghost use Rattle.t85.specs.Pbm.{BeginsPbm, EndsPbm, InPbmHeader, InPbmRows, IsPbmStatus, ReadsPbmHeader, ReadsPbmRow, TellsPbmHeader, TellsPart, pbm_call, pbm_hold, pbm_status};
+
+mod stored;
 
 use crate::status::{NOT_BEGUN, OTHER_VERSION};
-use pbm_core::{
-    Form, HeaderOutcome, HeaderReader, PbmFault, Place, RowOutcome, RowReader, Size, row_bytes,
-};
+use pbm_core::{HeaderOutcome, PbmFault, RowOutcome, Size, row_bytes};
 
 /// The version of `T85Pbm`, and its size in bytes.
 const VERSION: u32 = 1;
@@ -179,27 +178,6 @@ impl PbmAnswer {
 }
 
 impl T85Pbm {
-    /// The state before the first byte.
-    fn first() -> T85Pbm
-        ensures { InPbmHeader result [] }
-    {
-        T85Pbm {
-            version: VERSION,
-            next: HEADER,
-            width: 0,
-            height: 0,
-            is_plain: 0,
-            rows_left: 0,
-            filled: 0,
-            made: 0,
-            place: 0,
-            status: 0,
-            spare: 0,
-            value: 0,
-            reserved: [0; 3],
-        }
-    }
-
     /// Consumes bytes of the header.
     fn read_header(&mut self, bytes: &[u8]) -> PbmReport
         ensures { ReadsPbmHeader self.old self.new (pbm_call bytes.now result.taken) result.answer }
@@ -308,131 +286,6 @@ impl T85Pbm {
             answer,
             taken: progress.taken,
         }
-    }
-
-    /// The size in the struct, if an image may have it.
-    fn size(&self) -> Option<Size>
-        ensures some { IfSome result
-            (λ size. (size.width ≡ self.now.width) × (size.height ≡ self.now.height)) }
-        ensures none { IsNone result → 1 ≤ self.now.width → self.now.width ≤ 1048576 →
-            ¬ (1 ≤ self.now.height) }
-    {
-        let (width, height) = (self.width, self.height);
-        if width == 0 || width > MOST_WIDTH || height == 0 {
-            return None;
-        }
-        Some(Size { width, height })
-    }
-
-    fn form(&self) -> Form
-        ensures { result ≡ form_of self.now.is_plain }
-    {
-        if self.is_plain == 0 {
-            Form::Raw
-        } else {
-            Form::Plain
-        }
-    }
-
-    /// The reader of the header.
-    fn header_reader(&self) -> HeaderReader
-        ensures { result ≡ header_reader_of self.now }
-    {
-        HeaderReader {
-            place: place_of(self.place),
-            form: self.form(),
-            width: self.width,
-            value: self.value,
-        }
-    }
-
-    /// The reader of the row.
-    fn row_reader(&self) -> RowReader
-        ensures { result ≡ row_reader_of self.now }
-    {
-        RowReader {
-            filled: self.filled,
-            made: self.made,
-        }
-    }
-
-    /// Stores the reader of the header.
-    fn keep(&mut self, reader: HeaderReader)
-        ensures reader { header_reader_of self.new ≡ reader }
-        ensures version { self.new.version ≡ self.old.version }
-        ensures next { self.new.next ≡ self.old.next }
-    {
-        self.place = number_of_place(reader.place);
-        self.is_plain = number_of_form(reader.form);
-        self.width = reader.width;
-        self.value = reader.value;
-    }
-
-    /// Stores the header, before the first row.
-    fn enter_rows(&mut self, size: Size, form: Form)
-        ensures version { self.new.version ≡ self.old.version }
-        ensures next { self.new.next ≡ 1 }
-        ensures width { self.new.width ≡ size.width }
-        ensures height { self.new.height ≡ size.height }
-        ensures form { form_of self.new.is_plain ≡ form }
-        ensures left { self.new.rows_left ≡ size.height }
-        ensures filled { self.new.filled ≡ 0 }
-        ensures made { self.new.made ≡ 0 }
-    {
-        self.next = ROWS;
-        self.width = size.width;
-        self.height = size.height;
-        self.is_plain = number_of_form(form);
-        self.rows_left = size.height;
-        self.filled = 0;
-        self.made = 0;
-    }
-
-    /// Stores how the PBM has ended.
-    fn end(&mut self, status: u8)
-        ensures ended { self.old.version ≡ 1 → PbmHasEnded self.new status }
-        ensures same_width { self.new.width ≡ self.old.width }
-    {
-        self.next = ENDED;
-        self.status = status;
-    }
-}
-
-/// The place with this number.
-fn place_of(number: u8) -> Place
-    ensures { result ≡ header_place number }
-{
-    match number {
-        0 => Place::Start,
-        1 => Place::Letter,
-        2 => Place::Letters,
-        3 => Place::Gap,
-        4 => Place::Comment,
-        5 => Place::Digits,
-        _ => Place::LastComment,
-    }
-}
-
-fn number_of_place(place: Place) -> u8
-    ensures { header_place result ≡ place }
-{
-    match place {
-        Place::Start => 0,
-        Place::Letter => 1,
-        Place::Letters => 2,
-        Place::Gap => 3,
-        Place::Comment => 4,
-        Place::Digits => 5,
-        Place::LastComment => 6,
-    }
-}
-
-fn number_of_form(form: Form) -> u32
-    ensures { form_of result ≡ form }
-{
-    match form {
-        Form::Raw => 0,
-        Form::Plain => 1,
     }
 }
 

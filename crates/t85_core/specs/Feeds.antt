@@ -16,7 +16,7 @@ pub record HasFed (d : PieceView) (held text out : List ℕ) : Type 0 where
   pub text_is : text ≡ decoded ++ held
   pub has : HasDecoded d decoded out
 
--- the effect of a call of `feed` or `feed_last`: that of a call with a piece, for all bytes so far
+-- the effect of a call of `feed`: that of a call with a piece, for all bytes so far
 pub record IsFeed (old : PieceView) (held held' : List ℕ) (call : Call) : Type 0 where
   pub fed : IsCallBy (HasFed old held) (HasFed call.new held') held' old call
   -- if more bytes are needed, all are consumed and stored

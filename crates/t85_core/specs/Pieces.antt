@@ -5,6 +5,8 @@ use Rattle.t85_core.specs.declared.fault.Fault.{Fault}
 use Rattle.t85_core.specs.declared.fault.Fault.TheVariants.{Truncated}
 use Rattle.t85_core.specs.Lent.{PieceView, waits_behind}
 use Rattle.t85_core.specs.declared.pieces.End.{End}
+use Rattle.t85_core.specs.declared.pieces.More.{More}
+use Rattle.t85_core.specs.declared.pieces.More.TheVariants as more
 use Rattle.t85_core.specs.declared.pieces.Outcome.{Outcome}
 use Rattle.t85_core.specs.declared.pieces.Progress.{Progress}
 use Rattle.t85_core.specs.declared.pieces.Outcome.TheVariants as outcome
@@ -100,6 +102,11 @@ pub record Call : Type 0 where
   pub answer : Outcome
   pub new : PieceView
 
+-- whether a piece is the last
+abbrev pub is_last_piece : More → Bool
+is_last_piece more.Comes = false
+is_last_piece more.None = true
+
 abbrev pub call_of : List ℕ → Bool → Progress → PieceView → Call
 call_of piece is_all progress new = record { piece = piece; is_all = is_all; taken = progress.taken; answer = progress.outcome; new = new }
 
@@ -166,7 +173,7 @@ pub record IsCallBy (Before After : List ℕ → List ℕ → Type 0) (stored : 
   pub consumed : ConsumesWhole Before stored old call
   pub broken : IsBroken Before old call
 
--- the effect of a call of `next_row` or `next_of_last`
+-- the effect of a call of `next`
 abbrev pub IsCall : PieceView → Call → Type 0
 IsCall old call = IsCallBy (HasDecoded old) (HasDecoded call.new) [] old call
 

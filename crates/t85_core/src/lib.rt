@@ -30,5 +30,5 @@ pub use parts::{Found, Part, PartKind, PartWalk};
 pub use pieces::held::HeldBytes;
 pub use pieces::numbers::{MoveNumbers, PieceNumbers};
 pub use pieces::steps::marker_at;
-pub use pieces::{Outcome, PieceDecoder, Progress};
+pub use pieces::{More, Outcome, PieceDecoder, Progress};
 pub use summary::{Summary, info, summarize};

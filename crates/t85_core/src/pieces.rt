@@ -25,13 +25,22 @@ use crate::pieces::walk::Walk;
 use qm_core::Learned;
 use raster_core::Window;
 
+/// Whether bytes of the stream follow a piece.
+#[derive(Clone, Copy, Debug, PartialEq, Eq)]
+pub enum More {
+    /// More bytes may follow.
+    Comes,
+    /// The piece is the last.
+    None,
+}
+
 /// The result of a call with a piece.
 #[derive(Clone, Copy, Debug, PartialEq, Eq)]
 pub enum Outcome {
     /// A row was decoded. Read it from the window, and call again with the rest of the piece.
     Row,
     /// No further row can be decoded. Call again with the unconsumed bytes, at most seven, followed by more; or, if
-    /// there are no more, signal the end of the stream.
+    /// there are no more, with `More::None`.
     More,
     /// The image is complete, with this height: it is the first rows of those returned, as many as the height.
     Done(u32),
@@ -81,7 +90,7 @@ pub struct PieceDecoder {
 
 impl PieceDecoder {
     ghost use Rattle.t85_core.specs.Lent.{KeepsWindow, KeepsLent, decoder_lent, decoder_over, decoder_view};
-    ghost use Rattle.t85_core.specs.Pieces.{HasDecoded, IsCall, AreCertain, call_of};
+    ghost use Rattle.t85_core.specs.Pieces.{HasDecoded, IsCall, AreCertain, call_of, is_last_piece};
 
     /// A decoder before the first byte after the header. Makes the window white, and resets the contexts.
     pub fn start(header: Header, window: &mut Window<'_>, learned: &mut Learned) -> PieceDecoder
@@ -108,34 +117,23 @@ impl PieceDecoder {
     }
 
     /// Decodes these bytes, up to the end of the next row or as far as possible. The row is the window's current row.
-    pub fn next_row(
+    /// Call it again with the unconsumed bytes as long as it returns rows.
+    pub fn next(
         &mut self,
         window: &mut Window<'_>,
         learned: &mut Learned,
         piece: &[u8],
+        more: More,
     ) -> Progress
-        ensures call { IsCall (decoder_over self.old window.old learned.old)
-            (call_of piece.now false result (decoder_over self.new window.new learned.new)) }
+        ensures call { IsCall (decoder_over self.old window.old learned.old) (call_of piece.now
+            (is_last_piece more) result (decoder_over self.new window.new learned.new)) }
         ensures window { KeepsWindow window.old window.new }
     {
         let mut lent = Lent { window, learned };
-        self.take(&mut lent, piece, false)
-    }
-
-    /// Decodes these bytes, which are the last ones, up to the end of the next row or to the end of the stream. Call it
-    /// again with the unconsumed bytes as long as it returns rows.
-    pub fn next_of_last(
-        &mut self,
-        window: &mut Window<'_>,
-        learned: &mut Learned,
-        piece: &[u8],
-    ) -> Progress
-        ensures call { IsCall (decoder_over self.old window.old learned.old)
-            (call_of piece.now true result (decoder_over self.new window.new learned.new)) }
-        ensures window { KeepsWindow window.old window.new }
-    {
-        let mut lent = Lent { window, learned };
-        self.take(&mut lent, piece, true)
+        match more {
+            More::Comes => self.take(&mut lent, piece, false),
+            More::None => self.take(&mut lent, piece, true),
+        }
     }
 
     /// Decodes these bytes; `is_all` says whether they are the last.

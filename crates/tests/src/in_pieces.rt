@@ -13,7 +13,8 @@ use std::alloc::Global;
 use std::process::Abort;
 use std::test::Fail;
 use t85_core::{
-    Fault, Header, HeldBytes, Outcome, PieceDecoder, PieceNumbers, Progress, decode, find_height,
+    Fault, Header, HeldBytes, More, Outcome, PieceDecoder, PieceNumbers, Progress, decode,
+    find_height,
 };
 
 /// How a stream is cut into pieces.
@@ -127,7 +128,7 @@ fn decoded(alloc: Global, header: &Header, height: u32, body: &[u8]) -> Result<G
 }
 
 /// Continues with a piece, which is the last if the end is signalled: by `feed` if bytes may be stored, and otherwise
-/// by `next_row`.
+/// by `next`.
 fn go_on(
     decoder: &mut PieceDecoder,
     window: &mut Window<'_>,
@@ -136,21 +137,10 @@ fn go_on(
     piece: &[u8],
     told: bool,
 ) -> Progress {
+    let more = if told { More::None } else { More::Comes };
     match held {
-        Some(held) => {
-            if told {
-                decoder.feed_last(window, learned, held, piece)
-            } else {
-                decoder.feed(window, learned, held, piece)
-            }
-        }
-        None => {
-            if told {
-                decoder.next_of_last(window, learned, piece)
-            } else {
-                decoder.next_row(window, learned, piece)
-            }
-        }
+        Some(held) => decoder.feed(window, learned, held, piece, more),
+        None => decoder.next(window, learned, piece, more),
     }
 }
 

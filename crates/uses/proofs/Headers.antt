@@ -1,5 +1,5 @@
 -- The header of a stream, and the body after it.
-use Rattle.std.proofs.Common.{◌≡◌, ℕ, List, drop, Option, Some, None, sym, ap, ◌∙◌, subst}
+use Rattle.std.proofs.Common.{◌≡◌, ℕ, List, drop, Option, Some, None, sym, ap, ◌∙◌}
 use Rattle.std.proofs.lemmas.List.{drop_at}
 use Rattle.t85_core.specs.Header.{Fields, HeaderOf}
 use Rattle.t85_core.specs.Laws.{HeaderLaws}

@@ -1,5 +1,5 @@
 -- A call of a decoder of which nothing but numbers is kept.
-use Rattle.std.proofs.Common.{◌≡◌, ℕ, Bool, List, [], ◌++◌, take, refl, sym, ap, subst, ◌∙◌, append-nil}
+use Rattle.std.proofs.Common.{◌≡◌, ℕ, Bool, List, [], ◌++◌, take, refl, sym, ap, ◌∙◌, append-nil}
 use Rattle.qm_core.specs.Place.{Estimate}
 use Rattle.raster_core.specs.Packed.{Held, rows_at}
 use Rattle.raster_core.specs.Window.{current_place, held, width_of}
@@ -12,7 +12,7 @@ use Rattle.t85_core.specs.Lent.{decoder_over, decoder_view}
 use Rattle.t85_core.specs.Numbers.{piece_numbers}
 use Rattle.t85_core.specs.Options.{fields_of}
 use Rattle.t85_core.specs.Feeds.{HasFed, IsFeed, held_bytes}
-use Rattle.t85_core.specs.Pieces.{HasDecoded, HandsOut, HoldsImage, StreamGoesOn, call_of, given_with}
+use Rattle.t85_core.specs.Pieces.{HasDecoded, StreamGoesOn, call_of, given_with}
 use Rattle.uses.specs.Kept.{Between, IsKept, KeptOn, row_kept}
 
 -- the rows that the memory has

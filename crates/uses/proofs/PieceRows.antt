@@ -10,7 +10,7 @@ use Rattle.t85_core.specs.Lent.{PieceView}
 use Rattle.t85_core.specs.declared.pieces.Outcome.{Outcome}
 use Rattle.t85_core.specs.declared.pieces.Outcome.TheVariants as outcome
 use Rattle.t85_core.specs.Header.{Fields}
-use Rattle.t85_core.specs.Pieces.{stream_of, row_held, HasDecoded, HandsOut, HoldsImage, StreamGoesOn, Call, IsCall, bytes_taken, given_with, row_given, decoder_after}
+use Rattle.t85_core.specs.Pieces.{stream_of, row_held, HasDecoded, StreamGoesOn, Call, IsCall, bytes_taken, given_with, row_given, decoder_after}
 use Rattle.uses.specs.Pieces.{rows_told, rows_counted, WereMade, SaysOfRows, PieceRead, TextRead, SomeRead, Gathered, gathered}
 
 pub on_err : {T E : Type 0} (r : Result T E) {P : Type 0} → P → OnErr r P

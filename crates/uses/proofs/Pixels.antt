@@ -10,7 +10,7 @@ use Rattle.qm_core.specs.declared.encoder.Encoder.{Encoder}
 use Rattle.qm_core.specs.declared.sink.CodeSink.{Ghosts}
 use Rattle.qm_core.specs.declared.source.Pulled.{Pulled}
 use Rattle.qm_core.specs.declared.source.Pulled.TheVariants.{Byte, End, Fault}
-use Rattle.qm_core.specs.Source.{bytes_of, IsClosed, Agrees, Pulls, Gives, source_at}
+use Rattle.qm_core.specs.Source.{IsClosed, Agrees, Pulls, Gives, source_at}
 use Rattle.qm_core.specs.Code.{IsBytes, IsCode, Lies, code_of, stuffed}
 use Rattle.qm_core.specs.Encoder.{EncoderIsAt, Put, Finish, encoder_state}
 use Rattle.qm_core.specs.Laws.{EventsKeepPlace, OneCode, CodeLiesInAll, OnlyPixel}

@@ -2,15 +2,12 @@
 
 ghost use Rattle.std.specs.Prelude.{◌≡◌, ◌<◌, ◌*◌, [], length};
 ghost use Rattle.std.specs.Int.{div_ceil};
-ghost use Rattle.raster_core.specs.Window.{memory_of, width_of};
-ghost use Rattle.t85_core.specs.Lent.{decoder_over};
-ghost use Rattle.t85_core.specs.Feeds.{IsFeed, held_bytes};
-ghost use Rattle.t85_core.specs.Pieces.{call_of};
+ghost use Rattle.t85_core.specs.Pieces.{is_last_piece};
 ghost use Rattle.uses.specs.Kept.{IsKept, KeptOn, between_calls};
 
 use qm_core::Learned;
 use raster_core::Window;
-use t85_core::{Header, HeldBytes, PieceDecoder, PieceNumbers, Progress};
+use t85_core::{Header, HeldBytes, More, PieceDecoder, PieceNumbers, Progress};
 
 /// The state of a decoder between calls, without its header, the memory of its window and the contexts.
 #[derive(Clone, Copy)]
@@ -37,52 +34,30 @@ pub fn first_kept(header: Header, memory: &mut [u8], learned: &mut Learned) -> K
     }
 }
 
-/// Continues with a piece, which may be the last, up to the next row, or as far as it goes. The memory then has the
-/// row.
+/// Continues with a piece, up to the next row, or as far as it goes. The memory then has the row.
 pub fn next_of_kept(
     header: Header,
     kept: &mut KeptDecoder,
     memory: &mut [u8],
     learned: &mut Learned,
     piece: &[u8],
-    is_all: bool,
+    more: More,
 ) -> Progress
     requires long { length memory.old ≡ 3 * div_ceil header.xd 8 }
     requires place { kept.old.place < 3 }
     ensures place { kept.new.place < 3 }
     ensures on { KeptOn (between_calls header kept.old memory.old learned.old)
-        (between_calls header kept.new memory.new learned.new) piece.now is_all result }
+        (between_calls header kept.new memory.new learned.new) piece.now (is_last_piece more)
+        result }
 {
     let mut window = Window::resume(memory, header.xd, kept.place);
     let mut decoder = PieceDecoder::resume(header, &kept.numbers);
     let mut held = kept.held;
-    let progress = feed(&mut decoder, &mut window, learned, &mut held, piece, is_all);
+    let progress = decoder.feed(&mut window, learned, &mut held, piece, more);
     *kept = KeptDecoder {
         numbers: decoder.numbers(),
         held,
         place: window.place(),
     };
     progress
-}
-
-/// Continues with a piece, which may be the last.
-fn feed(
-    decoder: &mut PieceDecoder,
-    window: &mut Window<'_>,
-    learned: &mut Learned,
-    held: &mut HeldBytes,
-    piece: &[u8],
-    is_all: bool,
-) -> Progress
-    ensures feed { IsFeed (decoder_over decoder.old window.old learned.old) (held_bytes held.old)
-        (held_bytes held.new)
-        (call_of piece.now is_all result (decoder_over decoder.new window.new learned.new)) }
-    ensures same_memory { memory_of window.new ≡ memory_of window.old }
-    ensures same_width { width_of window.new ≡ width_of window.old }
-{
-    if is_all {
-        decoder.feed_last(window, learned, held, piece)
-    } else {
-        decoder.feed(window, learned, held, piece)
-    }
 }

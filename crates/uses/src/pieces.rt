@@ -1,16 +1,16 @@
 //! Decodes a stream that arrives in pieces.
 
 ghost use Rattle.std.specs.Prelude.{◌≡◌, ◌++◌, IfOk, OnErr};
-ghost use Rattle.raster_core.specs.Window.{memory_of, width_of};
+ghost use Rattle.raster_core.specs.Window.{width_of};
 ghost use Rattle.t85_core.specs.Options.{fields_of};
 ghost use Rattle.t85_core.specs.Lent.{decoder_over};
-ghost use Rattle.t85_core.specs.Pieces.{IsCall, call_of, stream_of};
+ghost use Rattle.t85_core.specs.Pieces.{call_of, is_last_piece, stream_of};
 ghost use Rattle.uses.specs.Pieces.{BodyRead, PieceRead, TextRead, SomeRead, gathered};
 
 use qm_core::Learned;
 use raster_core::Window;
 use std::alloc::{AllocError, Global};
-use t85_core::{Header, Outcome, PieceDecoder, Progress};
+use t85_core::{Header, More, Outcome, PieceDecoder, Progress};
 
 /// Appends the packed rows of a body that arrives in two pieces.
 pub fn rows_of_body(
@@ -59,7 +59,7 @@ pub fn rows_of_two(
     ensures short { OnErr result (SomeRead (decoder_over decoder.old window.old learned.old)
         (gathered rows.old.items rows.new.items)) }
 {
-    let begun = rows_of_piece(decoder, window, learned, first, false, limit, rows)?;
+    let begun = rows_of_piece(decoder, window, learned, first, More::Comes, limit, rows)?;
     match begun.outcome {
         Outcome::More => {
             let mut rest = Vec::from_slice(alloc, &first[begun.taken..])?;
@@ -69,7 +69,7 @@ pub fn rows_of_two(
                 window,
                 learned,
                 rest.as_slice(),
-                true,
+                More::None,
                 limit,
                 rows,
             )?;
@@ -79,29 +79,29 @@ pub fn rows_of_two(
     }
 }
 
-/// Appends the packed rows of a piece, which may be the last: it requests one after the other, up to the first result
+/// Appends the packed rows of a piece: it requests one after the other, up to the first result
 /// that is not a row, or until there are `limit`. The caller passes the unconsumed bytes again, followed by more.
 pub fn rows_of_piece(
     decoder: &mut PieceDecoder,
     window: &mut Window<'_>,
     learned: &mut Learned,
     piece: &[u8],
-    is_all: bool,
+    more: More,
     limit: usize,
     rows: &mut Vec<u8>,
 ) -> Result<Progress, AllocError>
     ensures same { stream_of (decoder_over decoder.new window.new learned.new) ≡
         stream_of (decoder_over decoder.old window.old learned.old) }
     ensures read { IfOk result (λ progress. PieceRead
-        (decoder_over decoder.old window.old learned.old) (call_of piece.now is_all progress
-        (decoder_over decoder.new window.new learned.new)) limit
+        (decoder_over decoder.old window.old learned.old) (call_of piece.now (is_last_piece more)
+        progress (decoder_over decoder.new window.new learned.new)) limit
         (gathered rows.old.items rows.new.items)) }
     ensures short { OnErr result (SomeRead (decoder_over decoder.old window.old learned.old)
         (gathered rows.old.items rows.new.items)) }
 {
     let mut taken = 0;
     'calls: for _ in 0..limit {
-        let step = next_row(decoder, window, learned, &piece[taken..], is_all);
+        let step = decoder.next(window, learned, &piece[taken..], more);
         taken += step.taken;
         match step.outcome {
             Outcome::Row => rows.extend_from_slice(window.row(0))?,
@@ -112,24 +112,4 @@ pub fn rows_of_piece(
         outcome: Outcome::Row,
         taken,
     })
-}
-
-/// Continues with a piece, which may be the last.
-pub fn next_row(
-    decoder: &mut PieceDecoder,
-    window: &mut Window<'_>,
-    learned: &mut Learned,
-    piece: &[u8],
-    is_all: bool,
-) -> Progress
-    ensures call { IsCall (decoder_over decoder.old window.old learned.old)
-        (call_of piece.now is_all result (decoder_over decoder.new window.new learned.new)) }
-    ensures same_memory { memory_of window.new ≡ memory_of window.old }
-    ensures same_width { width_of window.new ≡ width_of window.old }
-{
-    if is_all {
-        decoder.next_of_last(window, learned, piece)
-    } else {
-        decoder.next_row(window, learned, piece)
-    }
 }

@@ -10,7 +10,7 @@ use Rattle.t85_core.specs.Steps.State.{RowStart, offset_at, after_row}
 use Rattle.t85_core.specs.Jbg.{Settings, cut, coding_of}
 use Rattle.t85_core.specs.Steps.Written.{next_flag, after_rows, lines_down}
 use Rattle.t85_core.proofs.Bytes.Elements.{Continues, continues_first, continues_rest}
-use Rattle.t85_core.proofs.Theorems.StateLookedUp.{CarriedAt, row_lines, row_carried}
+use Rattle.t85_core.proofs.Theorems.StateLookedUp.{CarriedAt, RowAt, row_lines, row_carried}
 
 pub get_mapped : {X : Type 0} (f : ℕ → X) (k n i : ℕ) (d : X) → i < n → slice_index_or (map f (numbers_from k n)) i d ≡ f (k + i)
 get_mapped f k zero i d h = absurd (omega arith)
@@ -93,14 +93,14 @@ module _ (s : Settings) (raster : Raster) where
         lines = refl;
       }
   rows_down {i} {y} {move} {b} move_is (row ∷ rows) r few within y_is h rows_at =
-      let lt : r < s.stripe_rows = omega arith in
-      let row_is = continues_first (white_row raster.width) raster.rows y row rows rows_at in
-      let here = row_lines c i r y lt y_is b h row (slice_index_or c.flags y false) row_is refl move move_is ∙ same_lines y in
+      let a : RowAt c i r y move b row =
+      record { in_stripe = omega arith; y_is = y_is; move_is = move_is; carried = h; row_is = continues_first (white_row raster.width) raster.rows y row rows rows_at } in
+      let here = row_lines a ∙ same_lines y in
       let flag_is = flag_is_typical y (omega arith) ∙ ap (may_be_typical c.mode) (sym here) in
       let y_next : y + 1 ≡ i * s.stripe_rows + (r + 1) = omega arith in
       let rest =
       rows_down {y = y + 1} move_is rows (r + 1) (omega arith) (omega arith) y_next
-      (row_carried c i r y lt y_is b h row (next_flag c.mode b row) row_is flag_is move move_is)
+      (row_carried a flag_is)
       (continues_rest (white_row raster.width) raster.rows y row rows rows_at) in
       let rs : (r + 1) + length rows ≡ r + suc (length rows) = omega arith in
       let ys : (y + 1) + length rows ≡ y + suc (length rows) = omega arith in

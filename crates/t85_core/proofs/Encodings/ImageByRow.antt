@@ -22,7 +22,7 @@ use Rattle.t85_core.proofs.Bytes.Sendings.{here_sent}
 use Rattle.t85_core.proofs.Theorems.Joined.{stripe_at}
 use Rattle.t85_core.proofs.Encodings.RowShort.{pushed_begins}
 use Rattle.t85_core.proofs.Encodings.RowStream.{stands_here, come_first, come_long, part_begins, front_begins, less_or_not}
-use Rattle.t85_core.specs.Steps.Passage.{passage}
+use Rattle.t85_core.specs.Steps.Passage.{Passage, passage}
 
 -- so many whole stripes are stripes of the image
 few_stripes : (n l i : ℕ) → 1 ≤ l → i * l ≤ n → i ≤ stripe_count n l
@@ -137,9 +137,9 @@ module _ {form : Form} {width : ℕ} {rows : List (List Bool)} {known mid : Opti
         ap (λ w. raster_of w raster.rows) b.width_is ∙ ap (raster_of width) rows_are
 
 -- the rows that were read, and the encoder's position
-abbrev pub ComeTo : Form → Settings → ℕ → ℕ → ℕ → Option (List ℕ) → Option (List ℕ) → RowView → Held → Option (List ℕ) → Option (List ℕ) → Type 0
-ComeTo form s width height' count known known' v window text text' =
-    (rows : List (List Bool)) × (length rows ≡ count) × ReadsRows form width known known' rows × Stands (image_of s width height') rows v window (here text) text'
+abbrev pub ComeTo : Form → Image → ℕ → Passage → RowView → Held → Type 0
+ComeTo form image count p v window =
+    (rows : List (List Bool)) × (length rows ≡ count) × ReadsRows form image.width p.input p.input_after rows × Stands image rows v window (here p.output) p.output_after
 
 -- the window has lines after a row was read
 pub taken_lined : {form : Form} {width : ℕ} {known known' : Option (List ℕ)} {old new : Held} → RowTaken form width known known' old new → IsLined old → IsLined new

@@ -12,9 +12,11 @@ use Rattle.raster_core.specs.declared.place.RowPlace.{RowPlace}
 use Rattle.raster_core.specs.declared.shape.Shape.{Shape}
 use Rattle.t85_core.specs.declared.fault.Fault.{Fault}
 use Rattle.t85_core.specs.declared.fault.Fault.TheVariants.{Truncated}
-use Rattle.t85_core.specs.declared.pieces.piece.Piece.{Piece}
+use Rattle.raster_core.specs.declared.shape.Kept.{Kept}
+use Rattle.t85_core.specs.declared.lent.Lent.{Lent}
+use Rattle.t85_core.specs.declared.pieces.piece.PieceCode.{PieceCode}
 use Rattle.t85_core.specs.declared.segments.Code.{Code}
-use Rattle.t85_core.specs.Lent.{Carried}
+use Rattle.t85_core.specs.Lent.{Carried, carried_by}
 use Rattle.t85_core.specs.Header.{Fields}
 use Rattle.t85_core.specs.Grammar.{Segment, marker_bytes}
 use Rattle.t85_core.specs.Coding.{move_of}
@@ -83,8 +85,9 @@ pub record RowState : Type 0 where
 abbrev pub row_state_at : Carried → Decoder → RowPlace → Option Code → Option Bool → List ℕ → RowState
 row_state_at carried decoder place first marker piece = record { carried = carried; decoder = decoder; place = place; first = first; marker = marker; piece = piece }
 
-abbrev pub row_state : Carried → Decoder → RowPlace → Option Code → Option Bool → Piece → RowState
-row_state carried decoder place first marker piece = row_state_at carried decoder place first marker piece.rest.now
+-- the parts of one that borrows these two, and reads this code
+abbrev pub row_state : {F : ℕ} → Lent → Kept → Decoder → RowPlace → PieceCode F → RowState
+row_state {F} lent kept decoder place code = row_state_at (carried_by lent.window.now kept lent.learned.now) decoder place code.first code.marker code.piece.rest.now
 
 -- The bytes of a stripe: those handed out before it, those handed out up to here, and those that were taken for its code.
 pub record Handed : Type 0 where

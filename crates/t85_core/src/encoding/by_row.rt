@@ -1,7 +1,9 @@
 //! Encodes an image row by row.
 
 mod best_offset;
+mod ending;
 pub mod numbers;
+mod offset;
 mod stripes;
 mod trial;
 
@@ -178,41 +180,6 @@ impl RowEncoder {
         start_held(size, options, window, learning, &mut buffer)
     }
 
-    /// Names the offset of the adaptive pixel for the stripe that begins with the next row, in place of the offset that
-    /// the rows before it choose. It may be the nominal one, 0, or one from 5 (two-line template) or 3 (three-line
-    /// template) to the greatest offset of the options. The last name counts. With another offset, within a stripe, and
-    /// after the end or a failed write, nothing changes.
-    pub fn name_offset(&mut self, offset: u8) -> Result<(), Fault>
-        ensures named { OnOk result ((learning : Learning) → NamesOffset offset
-            (view_of self.old learning) (view_of self.new learning)) }
-        ensures taken { is_ok result ≡ takes_name self.old offset }
-        ensures refused { IfErr result (λ f. (f ≡ MoveRefused) × (self.new ≡ self.old)) }
-        ensures keeps { CodesNothing self.old self.new }
-        ensures ready { MayGoOn self.old → MayGoOn self.new }
-    {
-        if self.takes_name(offset) {
-            self.named = Some(offset);
-            Ok(())
-        } else {
-            Err(Fault::MoveRefused)
-        }
-    }
-
-    /// Whether an offset may be named now.
-    fn takes_name(&self, offset: u8) -> bool
-        ensures { result ≡ takes_name self.now offset }
-    {
-        !self.is_closed && self.in_stripe == 0 && self.offers(offset)
-    }
-
-    /// Whether the options allow this offset to be named.
-    pub fn offers(&self, offset: u8) -> bool
-        ensures { result ≡ may_name self.now.shape.two_line self.now.most_offset offset }
-    {
-        let least = if self.shape.two_line { 5 } else { 3 };
-        offset == 0 || (least <= offset && offset <= self.most_offset)
-    }
-
     /// Encodes the next row: its pixels, packed, in a whole number of bytes; bits after the last pixel are ignored.
     /// After a failed write, and after the end, it does nothing. The borrowed memory may contain anything; the contract
     /// says what is written only if it is as the last call left it.
@@ -312,28 +279,5 @@ impl RowEncoder {
         clear_padding(self.size, window);
         let mut buffer = OutputBuffer::new(output);
         self.end_held(window, learning, &mut buffer)
-    }
-
-    /// Ends the stream, and writes the buffer.
-    fn end_held<W: Output>(
-        &mut self,
-        window: &mut Window<'_>,
-        learning: &mut Learning,
-        buffer: &mut OutputBuffer<'_, W, ROW_HELD>,
-    ) -> Result<(), Fault>
-        requires lined { HasRows self.old.size.width window.old }
-        requires open_ { IsGoing self.old }
-        requires ready { MayEnd self.old × MayGoOn self.old }
-        ensures ok { OnOk result (EndsImage (view_of self.old learning.old) (held window.old)
-            (text_taken buffer.old) (W.view buffer.new.output.now).contents) }
-        ensures cut { OnErr result (CutsImage (view_of self.old learning.old) (held window.old)
-            (text_taken buffer.old) (text_taken buffer.new)) }
-        ensures few { AppendsEnd self.old (text_taken buffer.old) (text_taken buffer.new) }
-        ensures ended { LeavesClosed self.old self.new result }
-        ensures window { StaysWindow window.old window.new }
-        ensures writes { WritesBehind buffer.old buffer.new result }
-    {
-        self.end(window, learning, buffer)?;
-        buffer.write_held()
     }
 }

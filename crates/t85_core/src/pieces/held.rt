@@ -4,7 +4,7 @@ ghost use Rattle.std.specs.Prelude.{◌≡◌, ◌≤◌, ◌+◌, ◌++◌, [],
 ghost use Rattle.t85_core.specs.declared.pieces.Outcome.TheVariants as outcome;
 
 use crate::lent::Lent;
-use crate::pieces::{Outcome, PieceDecoder, Progress};
+use crate::pieces::{More, Outcome, PieceDecoder, Progress};
 use qm_core::Learned;
 use raster_core::Window;
 
@@ -106,42 +106,29 @@ impl HeldBytes {
 
 impl PieceDecoder {
     ghost use Rattle.t85_core.specs.Lent.{KeepsWindow, KeepsLent, decoder_lent, decoder_over};
-    ghost use Rattle.t85_core.specs.Pieces.{call_of};
+    ghost use Rattle.t85_core.specs.Pieces.{call_of, is_last_piece};
     ghost use Rattle.t85_core.specs.Feeds.{held_bytes, IsFeed};
 
-    /// Decodes the stored bytes followed by these bytes, as `next_row` does. If it needs more input, it has consumed
-    /// all bytes.
+    /// Decodes the stored bytes followed by these bytes, as `next` does. If it needs more input, it has consumed all
+    /// bytes.
     pub fn feed(
         &mut self,
         window: &mut Window<'_>,
         learned: &mut Learned,
         held: &mut HeldBytes,
         piece: &[u8],
+        more: More,
     ) -> Progress
         ensures feed { IsFeed (decoder_over self.old window.old learned.old) (held_bytes held.old)
-            (held_bytes held.new)
-            (call_of piece.now false result (decoder_over self.new window.new learned.new)) }
+            (held_bytes held.new) (call_of piece.now (is_last_piece more) result
+            (decoder_over self.new window.new learned.new)) }
         ensures window { KeepsWindow window.old window.new }
     {
         let mut lent = Lent { window, learned };
-        self.feed_some(&mut lent, held, piece, false)
-    }
-
-    /// The same with the last bytes, as `next_of_last` does.
-    pub fn feed_last(
-        &mut self,
-        window: &mut Window<'_>,
-        learned: &mut Learned,
-        held: &mut HeldBytes,
-        piece: &[u8],
-    ) -> Progress
-        ensures feed { IsFeed (decoder_over self.old window.old learned.old) (held_bytes held.old)
-            (held_bytes held.new)
-            (call_of piece.now true result (decoder_over self.new window.new learned.new)) }
-        ensures window { KeepsWindow window.old window.new }
-    {
-        let mut lent = Lent { window, learned };
-        self.feed_some(&mut lent, held, piece, true)
+        match more {
+            More::Comes => self.feed_some(&mut lent, held, piece, false),
+            More::None => self.feed_some(&mut lent, held, piece, true),
+        }
     }
 
     /// Decodes the stored bytes followed by these bytes; `is_all` says whether they are the last.

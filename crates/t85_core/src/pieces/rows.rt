@@ -2,7 +2,7 @@
 
 ghost use Rattle.std.specs.Prelude.{◌≡◌, ◌≤◌, ◌<◌, ◌∷◌, ◌++◌, [], ℕ, List, None, length, OnOk, IfErr, IfSome, IsErrOf};
 ghost use Rattle.raster_core.specs.Machine.Places.{MayGoOnRow};
-ghost use Rattle.t85_core.specs.Lent.{KeepsWindow, carried_by};
+ghost use Rattle.t85_core.specs.Lent.{KeepsLent};
 ghost use Rattle.raster_core.specs.Row.{IsRowStart};
 ghost use Rattle.t85_core.specs.declared.fault.Fault.TheVariants.{Truncated};
 ghost use Rattle.t85_core.specs.Steps.Segments.{IsByteOrMarker};
@@ -11,64 +11,51 @@ ghost use Rattle.t85_core.specs.Steps.PieceCode.{row_state, EndsRow, BreaksRow, 
 use crate::fault::Fault;
 use crate::input_buffer::ESCAPE;
 use crate::laws::coder_laws;
-use crate::pieces::piece::{Piece, PieceCode};
-use crate::segments::Code;
-use qm_core::{Decoder, Learned, Stop};
-use raster_core::{Kept, RowPlace, Shape, Window, go_on_row};
+use crate::lent::Lent;
+use crate::pieces::piece::PieceCode;
+use qm_core::{Decoder, Stop};
+use raster_core::{Kept, RowPlace, Shape, go_on_row};
 
 /// Continues decoding a row of a stripe, as far as its code has arrived. If the piece ends in the FF of an escape code,
 /// everything but this FF is consumed.
 #[inline(always)]
 pub fn go_on_in_row<const PART: usize>(
     shape: Shape,
-    window: &mut Window<'_>,
+    lent: &mut Lent<'_, '_>,
     kept: &mut Kept,
-    learned: &mut Learned,
     decoder: &mut Decoder,
     place: &mut RowPlace,
-    first: &mut Option<Code>,
-    marker: &mut Option<bool>,
-    piece: &mut Piece<'_>,
+    code: &mut PieceCode<'_, PART>,
 ) -> Result<(), Fault>
-    requires row { MayGoOnRow shape kept.old place.old window.old decoder.old }
-    requires code { IfSome first.old IsByteOrMarker }
-    requires behind { IfSome marker.old (λ _. first.old ≡ None) }
-    ensures ok { OnOk result (EndsRow shape (row_state (carried_by window.old kept.old learned.old)
-        decoder.old place.old first.old marker.old piece.old) (row_state (carried_by window.new
-        kept.new learned.new) decoder.new place.new first.new marker.new piece.new)) }
-    ensures err { IfErr result (BreaksRow shape (row_state (carried_by window.old kept.old
-        learned.old) decoder.old place.old first.old marker.old piece.old)) }
-    ensures more { IsErrOf result Truncated → WaitsInRow shape (row_state (carried_by window.old
-        kept.old learned.old) decoder.old place.old first.old marker.old piece.old) (row_state
-        (carried_by window.new kept.new learned.new) decoder.new place.new first.new marker.new
-        piece.new) }
-    ensures window { KeepsWindow window.old window.new }
+    requires row { MayGoOnRow shape kept.old place.old lent.old.window.now decoder.old }
+    requires ahead { IfSome code.old.first IsByteOrMarker }
+    requires unbroken { code.old.fault ≡ None }
+    ensures ok { OnOk result (EndsRow shape
+        (row_state lent.old kept.old decoder.old place.old code.old)
+        (row_state lent.new kept.new decoder.new place.new code.new)) }
+    ensures err { IfErr result
+        (BreaksRow shape (row_state lent.old kept.old decoder.old place.old code.old)) }
+    ensures more { IsErrOf result Truncated → WaitsInRow shape
+        (row_state lent.old kept.old decoder.old place.old code.old)
+        (row_state lent.new kept.new decoder.new place.new code.new) }
+    ensures lent { KeepsLent lent.old lent.new }
     ensures offset { kept.new.offset ≤ 127 }
     ensures within { place.new.done < shape.width }
     ensures start { OnOk result (IsRowStart place.new) }
-    ensures drained { IfErr result (λ _. LeavesEscape piece.old.rest.now piece.new.rest.now ×
-        (first.new ≡ None) × (marker.new ≡ marker.old)) }
+    ensures drained { IfErr result (λ _. LeavesEscape code.old.piece.rest.now
+        code.new.piece.rest.now × (code.new.first ≡ None) × (code.new.marker ≡ code.old.marker)) }
 {
     // The proof uses these laws of the coder.
     coder_laws();
-    let mut code: PieceCode<'_, PART> = PieceCode {
-        piece: Piece { rest: piece.rest },
-        first: *first,
-        marker: *marker,
-        fault: None,
-        failures: 0,
-    };
-    match go_on_row(shape, place, kept, window, learned, decoder, &mut code) {
-        Ok(()) => {
-            *first = code.first;
-            *marker = code.marker;
-            piece.rest = code.piece.rest;
-            Ok(())
-        }
+    let bytes = code.piece.rest;
+    let marker = code.marker;
+    match go_on_row(shape, place, kept, lent.window, lent.learned, decoder, code) {
+        Ok(()) => Ok(()),
         Err(Stop) => {
-            *first = None;
-            let escape = begun_escape(piece.rest);
-            piece.rest = escape;
+            code.first = None;
+            code.marker = marker;
+            let escape = begun_escape(bytes);
+            code.piece.rest = escape;
             Err(code.fault())
         }
     }

@@ -4,7 +4,7 @@ use pbm_core::{row_bytes, FromRead};
 use qm_core::Learned;
 use raster_core::{window_bytes, Window};
 use std::io::{self, Read};
-use t85_core::{Fault, Header, HeldBytes, Outcome, PieceDecoder, Progress};
+use t85_core::{Fault, Header, HeldBytes, More, Outcome, PieceDecoder, Progress};
 
 const HEADER_BYTES: usize = 20;
 const PIECE: usize = 4096;
@@ -209,13 +209,14 @@ impl<R: Read> Decoder<R> {
     fn go_on(&mut self) -> Progress {
         let mut window = Window::resume(&mut self.memory, self.header.xd, self.place);
         let bytes = &self.piece[self.begin..self.end];
-        let progress = if self.state == State::AtEnd {
-            self.decoder
-                .feed_last(&mut window, &mut self.learned, &mut self.held, bytes)
+        let more = if self.state == State::AtEnd {
+            More::None
         } else {
-            self.decoder
-                .feed(&mut window, &mut self.learned, &mut self.held, bytes)
+            More::Comes
         };
+        let progress =
+            self.decoder
+                .feed(&mut window, &mut self.learned, &mut self.held, bytes, more);
         self.place = window.place();
         progress
     }

@@ -9,7 +9,8 @@ returns c =
     record {
       what = c.go_on-told.result.answer;
       status_is = c.status.ensures;
-      answers = subst (λ n. Answers (HasRead (hold_of c.args.decoder.now c.args.window.now)) (hold_of c.args.decoder.now c.args.window.now) (hold_of c.go_on-told.new.self c.go_on-told.new.window) (bytes_call [] true n c.go_on-told.result.row) c.go_on-told.result.answer) none c.go_on-told.ensures.answers;
+      answers = subst (λ n. Answers (HasRead (hold_of c.args.decoder.now c.args.window.now)) (hold_of c.args.decoder.now c.args.window.now)
+          (hold_of c.go_on-told.new.self c.go_on-told.new.window) (bytes_call [] true n c.go_on-told.result.row) c.go_on-told.result.answer) none c.go_on-told.ensures.answers;
       not_begun = c.go_on-told.ensures.not_begun;
       ended = c.go_on-told.ensures.ended;
       limit = c.go_on-told.ensures.limit;

@@ -7,7 +7,8 @@ use Rattle.t85.proofs.decoding.write_image.Goals as goal
 pub returns-clause-writes : goal.returns-clause-writes
 returns-clause-writes c =
     let h = c.args.header.now in
-    let o = c.outcomes.ensures.one_outcome (fields_of h) c.args.height c.args.body.now (in_use h c.args.height c.requires.from c.requires.to) (bytes_each c.args.body.now (λ i. omega (arith, c.type_inv.body i))) in
+    let o = c.outcomes.ensures.one_outcome (fields_of h) c.args.height c.args.body.now (in_use h c.args.height c.requires.from c.requires.to)
+    (bytes_each c.args.body.now (λ i. omega (arith, c.type_inv.body i))) in
     let out = c.decode_in_memory-answer.new.output in
     let empty = emptied c.args.room.now.len c.args.room.now.bytes.now c.args.room.now.spilled c.requires.empty c.requires.unspilled in
     let fits = unspilled (fields_of h) c.args.height c.args.body.now out.bytes.now out.len _ (Some c.decode_in_memory-answer.new.input.rest.now) c.decode_in_memory-answer.result o empty
@@ -20,7 +21,8 @@ returns-clause-writes c =
 pub returns-then-is_some-clause-writes : goal.returns-then-is_some-clause-writes
 returns-then-is_some-clause-writes c =
     let h = c.args.header.now in
-    let o = c.outcomes.ensures.one_outcome (fields_of h) c.args.height c.args.body.now (in_use h c.args.height c.requires.from c.requires.to) (bytes_each c.args.body.now (λ i. omega (arith, c.type_inv.body i))) in
+    let o = c.outcomes.ensures.one_outcome (fields_of h) c.args.height c.args.body.now (in_use h c.args.height c.requires.from c.requires.to)
+    (bytes_each c.args.body.now (λ i. omega (arith, c.type_inv.body i))) in
     let out = c.decode_in_memory-answer.new.output in
     let empty = emptied c.args.room.now.len c.args.room.now.bytes.now c.args.room.now.spilled c.requires.empty c.requires.unspilled in
     record {

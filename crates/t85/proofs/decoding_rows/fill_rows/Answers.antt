@@ -12,6 +12,7 @@ returns c =
     let made = c.new-output in
     let status = c.write_rows-status in
     let same = status.ensures.same_reference in
-    let a = subst (λ stride. DeliversRows h height body stride (lending made.result.bytes.now status.new.output.bytes.now status.new.output.y status.result)) made.ensures.stride status.ensures.writes in
+    let a = subst (λ stride. DeliversRows h height body stride
+    (lending made.result.bytes.now status.new.output.bytes.now status.new.output.y status.result)) made.ensures.stride status.ensures.writes in
     let b = subst (λ memory. DeliversRows h height body c.args.stride (lending memory status.new.output.bytes.now status.new.output.y status.result)) (ap (λ m. m.now) made.ensures.room) a in
     subst (λ memory. DeliversRows h height body c.args.stride (lending c.args.rows.now memory status.new.output.y status.result)) (search (rules, same)) b

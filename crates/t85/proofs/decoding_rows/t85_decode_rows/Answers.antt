@@ -42,5 +42,6 @@ returns c =
       within = c.if-opened-max_rows.false;
       apart = omega (arith, c.row_bytes-row.ensures, c.if-stride-row.false);
       enough = omega (arith, c.window_bytes-bytes.ensures, c.if-window-bytes.false);
-      writes = subst (λ body. DeliversRows (fields_of o.header) o.height body c.args.stride (lending c.args.rows.now c.fill_rows.new.rows c.fill_rows.new.rows_written c.fill_rows.result)) c.in-Ok.ensures.body c.fill_rows.ensures;
+      writes = subst (λ body. DeliversRows (fields_of o.header) o.height body c.args.stride
+          (lending c.args.rows.now c.fill_rows.new.rows c.fill_rows.new.rows_written c.fill_rows.result)) c.in-Ok.ensures.body c.fill_rows.ensures;
     }))))

@@ -3,7 +3,7 @@ use Rattle.t85.proofs.EncoderCalls.{row_put, row_refused}
 use Rattle.t85.proofs.encoder.t85_encode_row.Goals as goal
 
 pub returns-in-Err : goal.returns-in-Err
-returns-in-Err c = row_refused c.args.encoder.now c.args.window.now c.args.stream.now c.args.row.now _ c.in-Err.ensures.ready
+returns-in-Err c = row_refused c.in-Err.ensures.ready
 
 pub returns : goal.returns
-returns c = row_put c.args.encoder.now c.put.new.self _ c.args.window.now _ _ c.args.row.now c.args.stream.now _ _ c.window_bytes-needed.result c.row_bytes-long.result c.in-Ok.ensures.ready c.in-Ok.ensures.enough c.window_bytes-needed.ensures (search rules) c.row_bytes-long.ensures (search rules) c.put.ensures.taken
+returns c = row_put _ c.in-Ok.ensures.ready c.in-Ok.ensures.enough c.window_bytes-needed.ensures (search rules) c.row_bytes-long.ensures (search rules) c.put.ensures.taken

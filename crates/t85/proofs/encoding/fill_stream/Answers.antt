@@ -9,5 +9,6 @@ pub returns : goal.returns
 returns c =
     let same = c.write_stream-status.ensures.same_reference in
     let size = c.args.size in
-    subst (λ memory. DeliversCode (asked (settings_of c.args.options.now) size.width size.height) (lined size.height (div_ceil size.width 8) c.args.stride c.args.rows.now) memory c.write_stream-status.new.room.len c.write_stream-status.result)
+    subst (λ memory. DeliversCode (asked (settings_of c.args.options.now) size.width size.height)
+    (lined size.height (div_ceil size.width 8) c.args.stride c.args.rows.now) memory c.write_stream-status.new.room.len c.write_stream-status.result)
     (search (rules, same)) c.write_stream-status.ensures.writes

@@ -1,14 +1,17 @@
 use Rattle.std.proofs.Common.{◌≡◌, ◌≤◌, false}
 use Rattle.raster_core.specs.Window.{held, width_of}
 use Rattle.t85_core.specs.Options.{settings_of}
+use Rattle.t85_core.specs.RowImage.{image_of}
+use Rattle.t85_core.specs.Steps.Passage.{passage}
 use Rattle.t85_core.specs.Steps.ByRow.{MayGoOn, IsLined, view_of}
 use Rattle.t85_core.proofs.Encodings.ImageByRow.{ComeTo}
 use Rattle.t85_core.proofs.encoding.encode_image.Given as goal
 
 abbrev pub invariant-rows : goal.invariant-rows
 invariant-rows g l = record {
-  come : ComeTo l.form (settings_of l.options) l.size.width l.size.height l.counter (g.R.Input.view l.fn.source).remaining (g.R.Input.view l.source).remaining (view_of l.encoder l.learning)
-      (held l.window) (g.P.ByteTarget.view l.fn.target).text (g.P.ByteTarget.view l.target).text;
+  come : ComeTo l.form (image_of (settings_of l.options) l.size.width l.size.height) l.counter
+      (passage (g.R.Input.view l.fn.source).remaining (g.R.Input.view l.source).remaining (g.P.ByteTarget.view l.fn.target).text (g.P.ByteTarget.view l.target).text)
+      (view_of l.encoder l.learning) (held l.window);
   going : l.encoder.is_closed ≡ false;
   ready : MayGoOn l.encoder;
   many : l.encoder.rows ≡ l.counter;

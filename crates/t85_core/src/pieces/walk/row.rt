@@ -16,7 +16,7 @@ use crate::fault::Fault;
 use crate::header::{Header, SizedImage};
 use crate::laws::coder_laws;
 use crate::lent::Lent;
-use crate::pieces::piece::Piece;
+use crate::pieces::piece::{Piece, PieceCode};
 use crate::pieces::rows::go_on_in_row;
 use crate::pieces::walk::{Stage, Walk};
 use crate::segments::Code;
@@ -125,19 +125,26 @@ impl Walk {
         let mut place = self.place;
         let mut decoder = replace(&mut self.decoder, Decoder::start());
         decoder.resume();
-        let went = go_on_in_row::<PART>(
+        let mut code: PieceCode<'_, PART> = PieceCode {
+            piece: Piece { rest: piece.rest },
+            first: self.first,
+            marker: self.marker,
+            fault: None,
+            failures: 0,
+        };
+        let went = go_on_in_row(
             image.header.shape(),
-            lent.window,
+            lent,
             &mut self.kept,
-            lent.learned,
             &mut decoder,
             &mut place,
-            &mut self.first,
-            &mut self.marker,
-            piece,
+            &mut code,
         );
         self.place = place;
         self.decoder = decoder;
+        self.first = code.first;
+        self.marker = code.marker;
+        piece.rest = code.piece.rest;
         went?;
         self.row = self.row.saturating_add(1);
         self.stage = Stage::Code;

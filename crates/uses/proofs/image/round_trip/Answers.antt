@@ -1,10 +1,9 @@
-use Rattle.std.proofs.Common.{rules, ◌≡◌, ◌≤◌, ◌+◌, ◌^◌, true, arith, ◌⊎◌, inr, ℕ, List, [], ◌++◌, length, append-nil, Option, Some, None, Result, Ok, Err, refl, sym, ap, ◌∙◌, subst}
+use Rattle.std.proofs.Common.{rules, ◌≡◌, ◌≤◌, ◌+◌, ◌^◌, true, arith, ◌⊎◌, inr, ℕ, List, [], ◌++◌, length, append-nil, Option, Some, None, Result, Ok, Err, refl, sym, ap, ◌∙◌}
 use Rattle.std.specs.Prelude.{OnOk, IfErr, IfSome}
 use Rattle.std.specs.Io.KnownBytes.{Appends}
 use Rattle.t85_core.specs.Change.{between}
-use Rattle.pbm_core.specs.Image.{IsPbm, OneImage, WrittenImageIsRead, pbm}
+use Rattle.pbm_core.specs.Image.{OneImage, WrittenImageIsRead, pbm}
 use Rattle.t85_core.specs.declared.fault.Fault.{Fault}
-use Rattle.t85_core.specs.Denotes.{Denotes}
 use Rattle.t85_core.specs.Laws.{HeaderLaws}
 use Rattle.t85_core.specs.ToJbg.{WritesStream}
 use Rattle.t85_core.specs.Outcome.{pbm_text}

@@ -1,7 +1,7 @@
 use Rattle.std.proofs.Common.{◌≡◌, ◌-◌, length, take, drop, arith}
 use Rattle.std.proofs.lemmas.List.{take_rest}
 use Rattle.t85_core.specs.Lent.{decoder_over}
-use Rattle.t85_core.specs.Pieces.{call_of}
+use Rattle.t85_core.specs.Pieces.{call_of, is_last_piece}
 use Rattle.uses.proofs.PieceRows.{none_so_far, all_came, some_came, row_more, last_came, on_err}
 use Rattle.uses.proofs.pieces.rows_of_piece.Goals as goal
 
@@ -12,9 +12,9 @@ pub calls-preserved : goal.calls-preserved
 calls-preserved c =
     rw (c.in_ok-extend_from_slice-in-Row.ensures.items, c.row.ensures)
     (row_more c.calls.invariant
-    (call_of (take (length c.args.piece.now - c.calls.taken) (drop c.calls.taken c.args.piece.now)) c.args.is_all c.next_row-step.result
-    (decoder_over c.next_row-step.new.decoder c.next_row-step.new.window c.next_row-step.new.learned))
-    c.next_row-step.ensures.call (take_rest c.args.piece.now c.calls.taken) c.next_row-step.ensures.call.bound c.in-Row.is)
+    (call_of (take (length c.args.piece.now - c.calls.taken) (drop c.calls.taken c.args.piece.now)) (is_last_piece c.args.more) c.next-step.result
+    (decoder_over c.next-step.new.self c.next-step.new.window c.next-step.new.learned))
+    c.next-step.ensures.call (take_rest c.args.piece.now c.calls.taken) c.next-step.ensures.call.bound c.in-Row.is)
 
 pub returns-in_err-extend_from_slice-in-Row-clause-short : goal.returns-in_err-extend_from_slice-in-Row-clause-short
 returns-in_err-extend_from_slice-in-Row-clause-short c = on_err c.from_residual.result (rw c.in_err-extend_from_slice-in-Row.ensures.items (some_came c.calls.invariant))
@@ -22,11 +22,11 @@ returns-in_err-extend_from_slice-in-Row-clause-short c = on_err c.from_residual.
 pub returns-in_default-clause-read : goal.returns-in_default-clause-read
 returns-in_default-clause-read c =
     last_came c.calls.invariant
-    (call_of (take (length c.args.piece.now - c.calls.taken) (drop c.calls.taken c.args.piece.now)) c.args.is_all c.next_row-step.result
-    (decoder_over c.next_row-step.new.decoder c.next_row-step.new.window c.next_row-step.new.learned))
-    c.next_row-step.ensures.call (take_rest c.args.piece.now c.calls.taken) c.next_row-step.ensures.call.bound c.args.limit c.in_default.not-Row c.next_row-step.ensures.call.ends
+    (call_of (take (length c.args.piece.now - c.calls.taken) (drop c.calls.taken c.args.piece.now)) (is_last_piece c.args.more) c.next-step.result
+    (decoder_over c.next-step.new.self c.next-step.new.window c.next-step.new.learned))
+    c.next-step.ensures.call (take_rest c.args.piece.now c.calls.taken) c.next-step.ensures.call.bound c.args.limit c.in_default.not-Row c.next-step.ensures.call.ends
 
 pub returns-clause-read : goal.returns-clause-read
 returns-clause-read c =
     let full : c.calls.counter ≡ c.args.limit = omega arith in
-    rw full at (all_came c.calls.invariant c.args.is_all)
+    rw full at (all_came c.calls.invariant (is_last_piece c.args.more))

@@ -4,5 +4,5 @@ use Rattle.t85.proofs.choice.T85Choice.count.Goals as goal
 
 pub returns : goal.returns
 returns c counting reset stripe k second =
-    row_passed c.args.self.now _ c.args.row.now c.args.above.now counting reset stripe second c.masks.ensures.masked_is_packed
+    row_passed second c.masks.ensures.masked_is_packed
     (λ i. omega (arith, c.type_inv.row i)) (λ i. omega (arith, c.type_inv.above i)) k refl c.count_row.ensures.counting c.count_row.ensures.reset c.count_row.ensures.counted

@@ -1,6 +1,6 @@
 use Rattle.std.proofs.Common.{◌∙◌, sym}
 use Rattle.t85_core.specs.Options.{fields_of}
-use Rattle.t85.proofs.DecoderCalls.{not_some}
+use Rattle.t85.proofs.DecoderHeader.{not_some}
 use Rattle.t85.proofs.decoder.T85Decoder.certain.Goals as goal
 
 pub returns-in-Err : goal.returns-in-Err

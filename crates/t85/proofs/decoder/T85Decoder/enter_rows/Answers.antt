@@ -1,8 +1,20 @@
 use Rattle.std.proofs.Common.{◌∙◌, rules}
-use Rattle.t85.proofs.DecoderCalls.{rows_entered}
+use Rattle.t85.proofs.DecoderRows.{rows_entered}
 use Rattle.t85.proofs.decoder.T85Decoder.enter_rows.Goals as goal
 
 pub returns-clause-has : goal.returns-clause-has
 returns-clause-has c = λ stream out.
-    rows_entered c.args.self.now _ c.args.memory.now _ c.args.header.now c.start-decoder.result c.start-decoder.new.window c.start-decoder.new.learned stream out c.requires.next c.requires.may.header_of (search rules) c.start-decoder.ensures.stream c.start-decoder.ensures.none (search rules) (search rules) (search rules) (search rules) (search rules)
-    (c.start-decoder.ensures.window.0 ∙ c.over-window.ensures.width) (search rules) (search rules) (search rules) (search rules) (search rules)
+    let started = c.start-decoder.ensures in
+    rows_entered {e = c.start-decoder.result} {window = c.start-decoder.new.window} c.requires.next
+    (record {
+      version_is = search rules;
+      next_is = search rules;
+      place_to = search rules;
+      header_is = started.stream;
+      header_of = rw (c.hold.ensures.same.header, c.keep.ensures.same.header) c.requires.may.header_of;
+      long = search rules;
+      over = record { place_is = search rules; width_is = started.window.0 ∙ c.over-window.ensures.width; rows_are = search rules };
+      learned_is = search rules;
+      numbers_are = search rules;
+    })
+    (search rules) started.none (search rules) (search rules)

@@ -1,4 +1,4 @@
-use Rattle.t85.proofs.DecoderCalls.{flag}
+use Rattle.t85.proofs.DecoderHeader.{flag}
 use Rattle.t85.proofs.decoder.T85Decoder.keep.Goals as goal
 
 pub returns-clause-numbers : goal.returns-clause-numbers

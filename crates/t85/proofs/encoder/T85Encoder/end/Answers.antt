@@ -1,8 +1,10 @@
 use Rattle.std.proofs.Common.{rules}
-use Rattle.t85.proofs.EncoderCalls.{stream_ended}
+use Rattle.t85.proofs.EncoderSteps.{stream_ended}
 use Rattle.t85.proofs.encoder.T85Encoder.end.Goals as goal
 
 pub returns-clause-ends : goal.returns-clause-ends
 returns-clause-ends c =
     let same = c.end_in.ensures.same_reference in
-    stream_ended c.code_denotes.ensures c.args.self.now c.args.engine c.args.memory.now c.end_in.new.room.bytes.now _ _ c.resume-window.result c.requires.ready c.requires.long c.resume-window.ensures.held c.requires.may_end.0 (search (rules, same)) (search rules) c.end_in.ensures.ended
+    let resumed = c.resume-window.ensures in
+    stream_ended {window = c.resume-window.result} _ c.code_denotes.ensures (record { ready = c.requires.ready; long = c.requires.long; place_is = resumed.place; rows_are = resumed.held })
+    c.requires.may_end.0 (search (rules, same)) (search rules) c.end_in.ensures.ended

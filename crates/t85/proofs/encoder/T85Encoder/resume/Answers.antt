@@ -1,6 +1,5 @@
 use Rattle.std.proofs.Common.{inl, inr, refl, rules}
 use Rattle.t85.proofs.EncoderCalls.{none_refused, none_sized, resumed}
-use Rattle.t85_core.specs.Options.{settings_of}
 use Rattle.t85.proofs.encoder.T85Encoder.resume.Goals as goal
 use Rattle.t85.proofs.encoder.T85Encoder.resume.Goals.{then-self-eq0-via-then-self-eq0, then-self-eq0-via-else-self-eq0+then-self-gt-MOST_WIDTH, then-self-eq0-via-else-self-eq0+else-self-gt-MOST_WIDTH+then-self-eq0-2}
 
@@ -13,7 +12,19 @@ returns-then-self-eq0 c = elim c.then-self-eq0.branch [
 
 pub returns-in-Ok : goal.returns-in-Ok
 returns-in-Ok c =
-    resumed c.args.self.now (settings_of c.in-Ok.options) _ c.in-Ok.ensures.judged c.numbers.result c.numbers.ensures c.resume.result c.resume.ensures.resumes refl refl c.resume.ensures.ready c.resume.ensures.plan c.resume.ensures.numbers c.resume.ensures.size c.resume.ensures.going
+    let engine = c.resume.ensures in
+    resumed {result = c.resume.result} (record {
+      sized = engine.size;
+      has_numbers = engine.numbers;
+      settings_are = c.in-Ok.ensures.judged;
+      numbers_are = c.numbers.ensures;
+      width_is = refl;
+      height_is = refl;
+      ready = engine.ready;
+      going = engine.going;
+      plan = engine.plan;
+      resumes = engine.resumes;
+    })
 
 pub returns-in-Err : goal.returns-in-Err
-returns-in-Err c = none_refused c.args.self.now _ c.in-Err.ensures.judged
+returns-in-Err c = none_refused c.args.self.now c.in-Err.ensures.judged

@@ -12,5 +12,6 @@ returns-clause-taken c =
     let few = c.min-count.ensures in
     let long = length-take-le count c.args.buf.now (omega arith) in
     let after = c.copy_from_slice.ensures.after in
-    head_taken s.row s.stride s.fit s.skip s.bytes.now s.head s.at s.y s.x s.spilled count _ c.copy_from_slice.new.self (s.head_first_rows c.requires.head) (s.head_first_bytes c.requires.head) none (ap length after ∙ long) (omega (arith, s.head_long, s.head_within, s.head_fits))
+    head_taken (lined_state s) _ c.copy_from_slice.new.self (s.head_first_rows c.requires.head) (s.head_first_bytes c.requires.head) none (ap length after ∙ long)
+    (omega (arith, s.head_long, s.head_within, s.head_fits))
     ∙ ap (λ l. taken (lined_state s) ++ l) after

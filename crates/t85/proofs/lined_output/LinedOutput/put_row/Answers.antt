@@ -14,7 +14,8 @@ returns-then-self-clause-taken c =
     let long : length c.copy_from_slice.new.self ≡ count = ap length after ∙ length-take-le count c.args.buf.now (omega arith) in
     let whole : s.x + count ≡ s.row = c.if-self.true in
     let room = s.rows_within s.y c.requires.room in
-    row_taken s.row s.stride s.fit s.skip s.bytes.now s.head s.at s.y s.x (s.y + 1) 0 s.spilled _ c.copy_from_slice.new.self s.apart none (omega (arith, long)) c.requires.room (omega (arith, long, whole)) (omega (arith, long, whole, room)) (omega (arith, long, whole))
+    row_taken {s = lined_state s} (s.y + 1) 0
+    (record { apart = s.apart; none = none; few = c.requires.room; inside = omega (arith, long, whole); within = omega (arith, long, whole, room) }) (omega (arith, long)) (omega (arith, long, whole))
     ∙ ap (λ l. taken (lined_state s) ++ l) after
 
 pub returns-else-self-clause-taken : goal.returns-else-self-clause-taken
@@ -27,5 +28,6 @@ returns-else-self-clause-taken c =
     let long : length c.copy_from_slice.new.self ≡ count = ap length after ∙ length-take-le count c.args.buf.now (omega arith) in
     let inside : s.x + count ≤ s.row = omega (arith, s.within_row) in
     let room = s.rows_within s.y c.requires.room in
-    row_taken s.row s.stride s.fit s.skip s.bytes.now s.head s.at s.y s.x s.y (s.x + count) s.spilled _ c.copy_from_slice.new.self s.apart none (omega (arith, long)) c.requires.room (omega (arith, long, inside)) (omega (arith, long, inside, room)) (omega (arith, long))
+    row_taken {s = lined_state s} s.y (s.x + count)
+    (record { apart = s.apart; none = none; few = c.requires.room; inside = omega (arith, long, inside); within = omega (arith, long, inside, room) }) (omega (arith, long)) (omega (arith, long))
     ∙ ap (λ l. taken (lined_state s) ++ l) after

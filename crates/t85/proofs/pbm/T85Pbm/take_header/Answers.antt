@@ -9,4 +9,4 @@ returns-in-Header-clause-tells c before is row =
     let takes = c.read-progress.ensures.takes before scanned in
     let header = subst (λ o. DecidesHeader (before ++ take c.read-progress.result.taken c.args.bytes.now) c.read-progress.new.self o) c.in-Header.is takes.decides in
     let e = c.enter_rows.ensures in
-    enters c.enter_rows.new.self row (before ++ take c.read-progress.result.taken c.args.bytes.now) c.in-Header.size c.in-Header.form header (e.version ∙ c.requires.version) e.next e.width e.height e.form e.left e.filled e.made
+    enters c.in-Header.size header (e.version ∙ c.requires.version) e.next e.width e.height e.form e.left e.filled e.made

@@ -4,7 +4,7 @@ use Rattle.raster_core.specs.Offset.{candidates}
 use Rattle.t85_core.specs.Coding.{mode_of}
 use Rattle.t85_core.specs.Options.{settings_of}
 use Rattle.t85_core.proofs.Encodings.Encoded.{are_settings}
-use Rattle.t85_core.proofs.Theorems.CodeDenotes.{written_bits}
+use Rattle.t85_core.proofs.Theorems.HeaderWritten.{written_bits}
 use Rattle.t85_core.proofs.Encodings.RowSteps.{none_stand}
 use Rattle.t85_core.proofs.encoding.by_row.RowEncoder.new.Goals as goal
 
