@@ -8,8 +8,9 @@
 # make static        builds both programs again in bin/static/, statically linked with the C library, and tests them
 # make library       builds bin/libt85.a and bin/libt85.so.1.0.0
 # make test          the gate: checks the documents; runs `rt ci`, which covers every proof, every edit that must fail and
-#                    every test of the crates; then tests this file, the built programs and the library
+#                    every test of the crates; and beside it `make checks`
 # make proofs        only `rt ci`
+# make checks        tests this file, the built programs and the library
 # make turns         makes each memory allocation of the programs fail in turn
 # make library-test  compares the library, as called from C and Python, with the programs; tests it installed; tests the wheel
 # make wheel         builds a wheel of the Python module with the library inside, for `pip install`, in dist/
@@ -89,16 +90,16 @@ $(OF_PROGRAMS): build
 $(OF_LIBRARY): library
 
 # `make install` by itself uses bin/ as it is. The other targets run `rt`, which knows what has changed.
-ifneq ($(filter build test $(OF_PROGRAMS),$(or $(MAKECMDGOALS),show)),)
+ifneq ($(filter build checks $(OF_PROGRAMS),$(or $(MAKECMDGOALS),show)),)
 .PHONY: $(BUILT)
 endif
-ifneq ($(filter library test $(OF_LIBRARY),$(MAKECMDGOALS)),)
+ifneq ($(filter library checks $(OF_LIBRARY),$(MAKECMDGOALS)),)
 .PHONY: bin/libt85.a
 endif
 
-# The order of the command line is kept if files are removed, if `rt ci` sets aside what was built, and for benchmarks.
+# The order of the command line is kept if files are removed, and for benchmarks.
 # Dependencies cannot express this: these targets need nothing from the other targets on the command line.
-ifneq ($(filter clean uninstall test proofs bench,$(MAKECMDGOALS)),)
+ifneq ($(filter clean uninstall bench,$(MAKECMDGOALS)),)
 .NOTPARALLEL:
 endif
 
@@ -207,17 +208,22 @@ documents:
 	tools/texts
 	tools/links
 
-# `rt ci` proves from nothing, and keeps only the statements of a library. The builds after it use libraries with their
-# proofs, so the crates below the programs are proved once more unless an earlier run has stored them.
-#
-# One job per processor: by default `rt ci` assumes that `t85_core` needs far more memory than it does, and lets all other
-# processors wait for its proof. A job takes less than 3 GB.
+# `rt ci` proves from nothing, and keeps only the statements of a library.
 proofs:
-	@$(locked) && echo "rt ci" && { RT_JOBS=$${RT_JOBS:-$$(nproc)} rt ci 9>&-; echo $$? > bin/ci.status; } | tee bin/ci.log && \
+	@mkdir -p bin && echo "rt ci" && { tools/ci; echo $$? > bin/ci.status; } 2>&1 | tee bin/ci.log && \
 		exit "$$(cat bin/ci.status)"
 
+# The builds need libraries with their proofs, so they prove the crates below the programs once more. They run beside `rt ci`,
+# at a lower priority, since its proofs and edits take longer.
+test: documents
+	@$(MAKE) --no-print-directory -j 2 proofs beside
+	@tail -n 1 bin/ci.log
+
+beside:
+	@nice $(MAKE) --no-print-directory checks
+
 # (in this order)
-test: documents proofs build library
+checks: build library
 	tests/makefile
 	tests/interface
 	tests/abi
@@ -234,7 +240,6 @@ test: documents proofs build library
 	tests/library bin
 	tests/python bin
 	tests/others bin
-	@tail -n 1 bin/ci.log
 
 turns:
 	tests/turns bin
@@ -391,5 +396,5 @@ endif
 clean:
 	rm -rf bin dist crates/*/out
 
-.PHONY: show build library rust rust-test wasm arm page targets-test static processor documents proofs test turns library-test wheel pictures manuals debian jbig85 jbig \
+.PHONY: show build library rust rust-test wasm arm page targets-test static processor documents proofs test beside checks turns library-test wheel pictures manuals debian jbig85 jbig \
 	interop clients charts libtiff fuzz fuzz-python fuzz-jbig against bench install install-programs install-library install-jbig uninstall clean
