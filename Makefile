@@ -220,7 +220,7 @@ test: documents
 	@tail -n 1 bin/ci.log
 
 beside:
-	@nice $(MAKE) --no-print-directory checks
+	@nice -n 4 $(MAKE) --no-print-directory checks
 
 # (in this order)
 checks: build library
