@@ -7,6 +7,7 @@ ghost use Rattle.raster_core.specs.Packed.{packed_row};
 ghost use Rattle.raster_core.specs.Machine.Words.{word as pixels_word, led, is_within, agreed_from, part_agreement, pixels_from};
 
 use crate::words::{agreed_word, joined, mask_at, word_at};
+use std::ops::Range;
 
 /// The 64 pixels that are `lag` to the left of the last of three words.
 fn left_by(lag: usize, second: u64, before: u64, word: u64) -> u64
@@ -97,44 +98,42 @@ pub(crate) fn add_word(
         return u64::from(mask.count_ones());
     }
     if end <= 64 {
-        add_lags(counts, least, end, least as u32, before, word, word, mask);
+        add_lags(counts, least..end, least as u32, before, word, word, mask);
     } else {
-        add_lags(counts, least, 64, least as u32, before, word, word, mask);
-        add_lags(counts, 64, end, 0, second, before, word, mask);
+        add_lags(counts, least..64, least as u32, before, word, word, mask);
+        add_lags(counts, 64..end, 0, second, before, word, mask);
     }
     0
 }
 
-/// Counts the pixels of a word at the lags from `from` up to, but not including, `end`, which are the shifts from
-/// `shift` on of the words `first` and `next`.
+/// Counts the pixels of a word at these lags, which are the shifts from `shift` on of the words `first` and `next`.
 fn add_lags(
     counts: &mut [u64; 128],
-    from: usize,
-    end: usize,
+    lags: Range<usize>,
     shift: u32,
     first: u64,
     next: u64,
     word: u64,
     mask: u64,
 )
-    requires end { end ≤ 128 }
+    requires end { lags.end ≤ 128 }
     requires shift { shift < 64 }
-    requires fits { end + shift ≤ from + 64 }
+    requires fits { lags.end + shift ≤ lags.start + 64 }
     requires room { (lag : ℕ) → slice_index counts.old lag + 64 < 2 ^ 64 }
     ensures counts { (p m : ℕ → Bool) (place a c : ℕ) → first ≡ pixels_word p place 64 →
         next ≡ pixels_word p (place + 64) 64 → word ≡ pixels_word p a 64 →
-        mask ≡ pixels_word m c 64 → (lag : ℕ) → from ≤ lag → lag < end →
+        mask ≡ pixels_word m c 64 → (lag : ℕ) → lags.start ≤ lag → lag < lags.end →
         slice_index counts.new lag ≡ slice_index counts.old lag + agreed_from (pixels_from p a)
-        (pixels_from p (place + 64 + from - (shift + lag))) (pixels_from m c) 64 }
-    ensures below { (lag : ℕ) → lag < from →
+        (pixels_from p (place + 64 + lags.start - (shift + lag))) (pixels_from m c) 64 }
+    ensures below { (lag : ℕ) → lag < lags.start →
         slice_index counts.new lag ≡ slice_index counts.old lag }
-    ensures above { (lag : ℕ) → end ≤ lag →
+    ensures above { (lag : ℕ) → lags.end ≤ lag →
         slice_index counts.new lag ≡ slice_index counts.old lag }
     ensures room { (lag : ℕ) → slice_index counts.new lag ≤ slice_index counts.old lag + 64 }
 {
     let mut near = joined(first, next, shift);
     let mut far = first >> shift;
-    for lag in from..end {
+    for lag in lags.start..lags.end {
         counts[lag] += agreed_word(mask, word, near);
         near = far << 63 | near >> 1;
         far >>= 1;

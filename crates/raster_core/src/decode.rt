@@ -22,6 +22,7 @@ mod runs;
 
 use crate::context::flag_context;
 use crate::decode::begin::begin_row;
+use crate::decode::registers::RowContext;
 use crate::decode::row::decode_pixels;
 use crate::place::RowPlace;
 use crate::shape::{Kept, Shape};
@@ -54,7 +55,13 @@ fn decode_below<S: CodeBytes>(
     if flag {
         current.copy_from_slice(above);
     } else {
-        match decode_pixels(shape, kept.offset, *place, current, above, second, reader) {
+        let context = RowContext {
+            shape,
+            offset: kept.offset,
+            above,
+            second,
+        };
+        match decode_pixels(context, *place, current, reader) {
             Ok(()) => {}
             Err(at) => {
                 *place = at;
@@ -86,8 +93,8 @@ fn rows_above<'a>(front: &'a [u8], back: &'a [u8], long: usize, place: u8) -> (&
     }
 }
 
-/// Decodes the rest of the row at a place, between the memory before it and after it, which contains the two rows above
-/// it.
+/// Decodes the rest of the row at a place, between the memory before it and after it, `sides`, which contains the two
+/// rows above it.
 // It cannot be part of `decode_at`: after the match in `rows_above`, the prover would not know there that the borrowed
 // halves of the window are unchanged.
 #[inline(always)]
@@ -95,27 +102,29 @@ fn decode_beside<S: CodeBytes>(
     shape: Shape,
     place: &mut RowPlace,
     kept: &mut Kept,
-    head: &[u8],
+    sides: (&[u8], &[u8]),
     row: &mut [u8],
-    tail: &[u8],
     at: u8,
     reader: &mut Reader<'_, S>,
 ) -> Result<(), Stop>
     requires goes_on { MayGoOnIn shape kept.old place.old reader.old.decoder.now }
-    requires head { length head.now ≡ at * div_ceil shape.width 8 }
+    requires head { length sides.0.now ≡ at * div_ceil shape.width 8 }
     requires row { length row.old ≡ div_ceil shape.width 8 }
-    requires tail { length head.now + length tail.now ≡ 2 * div_ceil shape.width 8 }
+    requires tail { length sides.0.now + length sides.1.now ≡ 2 * div_ceil shape.width 8 }
     requires at { at < 3 }
     ensures reads { ReaderReads S.failed reader.old reader.new result }
     ensures place { LeavesPlace shape kept.old kept.new place.new result }
-    ensures above { SameAbove (rows_beside at shape.width head.now row.old tail.now)
-        (rows_beside at shape.width head.now row.new tail.now) }
-    ensures row { RowContinues S.CodeBytes shape (row_progress kept.old place.old (rows_beside at
-        shape.width head.now row.old tail.now) reader.old) (row_progress kept.new place.new
-        (rows_beside at shape.width head.now row.new tail.now) reader.new) result }
+    ensures above { SameAbove
+        (rows_beside at shape.width sides.entry.0.now row.old sides.entry.1.now)
+        (rows_beside at shape.width sides.entry.0.now row.new sides.entry.1.now) }
+    ensures row { RowContinues S.CodeBytes shape
+        (row_progress kept.old place.old (rows_beside at shape.width sides.entry.0.now row.old
+        sides.entry.1.now) reader.old)
+        (row_progress kept.new place.new (rows_beside at shape.width sides.entry.0.now row.new
+        sides.entry.1.now) reader.new) result }
 {
     let long = shape.width.div_ceil(8) as usize;
-    let (above, second) = rows_above(head, tail, long, at);
+    let (above, second) = rows_above(sides.0, sides.1, long, at);
     decode_below(shape, place, kept, row, above, second, reader)
 }
 
@@ -143,7 +152,7 @@ fn decode_at<S: CodeBytes>(
     let long = shape.width.div_ceil(8) as usize;
     let (front, rest) = rows.split_at_mut(current as usize * long);
     let (row, back) = rest.split_at_mut(long);
-    decode_beside(shape, place, kept, front, row, back, current, reader)
+    decode_beside(shape, place, kept, (front, back), row, current, reader)
 }
 
 /// Decodes the current row of a window, below the two rows above it.

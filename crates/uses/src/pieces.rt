@@ -32,8 +32,7 @@ pub fn rows_of_body(
         &mut decoder,
         window,
         &mut learned,
-        first,
-        second,
+        (first, second),
         usize::MAX,
         rows,
     )
@@ -48,17 +47,18 @@ pub fn rows_of_two(
     decoder: &mut PieceDecoder,
     window: &mut Window<'_>,
     learned: &mut Learned,
-    first: &[u8],
-    second: &[u8],
+    pieces: (&[u8], &[u8]),
     limit: usize,
     rows: &mut Vec<u8>,
 ) -> Result<Outcome, AllocError>
     ensures read { IfOk result (λ answer. TextRead (decoder_over decoder.old window.old learned.old)
-        (decoder_over decoder.new window.new learned.new) (first.now ++ second.now) limit answer
+        (decoder_over decoder.new window.new learned.new)
+        (pieces.entry.0.now ++ pieces.entry.1.now) limit answer
         (gathered rows.old.items rows.new.items)) }
     ensures short { OnErr result (SomeRead (decoder_over decoder.old window.old learned.old)
         (gathered rows.old.items rows.new.items)) }
 {
+    let (first, second) = pieces;
     let begun = rows_of_piece(decoder, window, learned, first, More::Comes, limit, rows)?;
     match begun.outcome {
         Outcome::More => {

@@ -19,6 +19,7 @@ use Rattle.raster_core.specs.Packed.{packed_row}
 use Rattle.raster_core.specs.Window.{shape_mode}
 use Rattle.raster_core.specs.declared.place.Pause.{Pause}
 use Rattle.raster_core.specs.declared.decode.registers.Registers.{Registers}
+use Rattle.raster_core.specs.declared.decode.registers.RowContext.{RowContext}
 use Rattle.raster_core.specs.declared.place.RowPlace.{RowPlace}
 use Rattle.raster_core.specs.Machine.Uniform.{uniform_event, StaysUniform, AreFilled}
 
@@ -146,8 +147,8 @@ pub record RowAround : Type 0 where
   pub above : List ℕ
   pub second : List ℕ
 
-abbrev pub row_around : Mode → ℕ → (above second : List ℕ) → RowAround
-row_around mode offset above second = record { mode = mode; offset = offset; above = above; second = second }
+abbrev pub row_around : RowContext → RowAround
+row_around c = record { mode = shape_mode c.shape; offset = c.offset; above = c.above.now; second = c.second.now }
 
 -- the inputs for decoding the next byte
 abbrev pub next_around : RowAround → BytesAt → ByteAround

@@ -1,4 +1,4 @@
-//! The context registers for the pixels of a byte.
+//! The inputs for the contexts of a row, and of a byte.
 
 ghost use Rattle.std.specs.Prelude.{◌<◌, ◌≤◌, ◌^◌};
 
@@ -18,4 +18,15 @@ pub(crate) struct Registers {
     ghost in_reach: { offset ≤ 127 },
     ghost second_fits: { second < 2 ^ 24 },
     ghost above_fits: { above < 2 ^ 24 },
+}
+
+/// The inputs for the contexts of a row, besides the row itself.
+#[derive(Clone, Copy)]
+pub(crate) struct RowContext<'a> {
+    pub(crate) shape: Shape,
+    /// The offset of the adaptive pixel.
+    pub(crate) offset: u8,
+    pub(crate) above: &'a [u8],
+    /// The row two above.
+    pub(crate) second: &'a [u8],
 }

@@ -11,7 +11,7 @@ ghost use Rattle.raster_core.specs.Machine.Decoded.{SkipsFilledAlong, SkipsAlong
 ghost use Rattle.raster_core.specs.Machine.Registers.{bit, is_moved, past_bits};
 ghost use Rattle.raster_core.specs.Machine.Uniform.{uniform_event, colour_of, filled, AreFilled, AreAllOf};
 
-use crate::decode::registers::Registers;
+use crate::decode::registers::{Registers, RowContext};
 use crate::uniform::{is_all_above, is_filled, is_run, paint, uniform_context};
 use qm_core::{Decoder, Learned};
 
@@ -111,15 +111,12 @@ fn skip_words(
 
 /// The same if all preceding pixels in the registers have one colour, and stores the bytes; otherwise decodes nothing.
 #[inline(always)]
-pub(crate) fn skip_filled<const MOVED: bool>(
-    current: &mut [u8],
-    above: &[u8],
-    second: &[u8],
+pub(super) fn skip_filled<const MOVED: bool>(
+    registers: Registers,
+    context: RowContext<'_>,
     i: usize,
     left: u32,
-    second_bytes: u32,
-    above_bytes: u32,
-    before: u128,
+    current: &mut [u8],
     learned: &Learned,
     decoder: &mut Decoder,
 ) -> u32
@@ -128,23 +125,38 @@ pub(crate) fn skip_filled<const MOVED: bool>(
     requires long { length current.old ≡ div_ceil (8 * i + left) 8 }
     ensures skips { SkipsSoMany result decoder.old decoder.new }
     ensures inside { 64 * result < left }
-    ensures second { 1 ≤ result → second_bytes ≡ filled (colour_of above_bytes) 24 }
-    ensures above { 1 ≤ result → above_bytes ≡ filled (colour_of above_bytes) 24 }
+    ensures second { 1 ≤ result → registers.second ≡ filled (colour_of registers.above) 24 }
+    ensures above { 1 ≤ result → registers.above ≡ filled (colour_of registers.above) 24 }
     ensures before { 1 ≤ result → (offset : ℕ) → MOVED ≡ is_moved offset →
-        before ≡ filled (colour_of above_bytes) (past_bits offset) }
+        registers.past ≡ filled (colour_of registers.above) (past_bits offset) }
     ensures filled { (k : ℕ) → i ≤ k → k < i + 8 * result →
-        slice_index current.new k ≡ bit (colour_of above_bytes) * 255 }
+        slice_index current.new k ≡ bit (colour_of registers.above) * 255 }
     ensures kept { (k : ℕ) → k < i → slice_index current.new k ≡ slice_index current.old k }
-    ensures skipped { SkipsFilledAlong (filled_run (colour_of above_bytes) i (8 * result)) above.now
-        second.now decoder.old learned.now decoder.new }
+    ensures skipped { SkipsFilledAlong (filled_run (colour_of registers.above) i (8 * result))
+        context.entry.above.now context.entry.second.now decoder.old learned.now decoder.new }
 {
+    let Registers {
+        shape: _shape,
+        offset: _offset,
+        second,
+        above,
+        past,
+    } = registers;
     // Most bytes that are not part of a run end here.
-    if second_bytes != above_bytes {
+    if second != above {
         return 0;
     }
-    let colour = above_bytes == 0xFF_FFFF;
-    if is_filled::<MOVED>(colour, second_bytes, above_bytes, before) {
-        let words = skip_words(colour, above, second, i, left, learned, decoder);
+    let colour = above == 0xFF_FFFF;
+    if is_filled::<MOVED>(colour, second, above, past) {
+        let words = skip_words(
+            colour,
+            context.above,
+            context.second,
+            i,
+            left,
+            learned,
+            decoder,
+        );
         paint(current, colour, i, i + 8 * words as usize);
         words
     } else {

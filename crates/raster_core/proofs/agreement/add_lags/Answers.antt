@@ -14,8 +14,8 @@ pub loop-lag-init : goal.loop-lag-init
 loop-lag-init c = record {
   none = λ h. omega arith;
   long = omega arith;
-  near = λ p place e f. c.joined-near.ensures p place e f ∙ ap (λ s. word p (place + 64 - s) 64) (first_shift c.args.shift c.args.from);
-  far = λ p place e. ap (λ x. x / 2 ^ c.args.shift) e ∙ second_part p place c.args.shift (omega arith) ∙ ap (λ s. word p place (64 - s)) (first_shift c.args.shift c.args.from);
+  near = λ p place e f. c.joined-near.ensures p place e f ∙ ap (λ s. word p (place + 64 - s) 64) (first_shift c.args.shift c.args.lags.start);
+  far = λ p place e. ap (λ x. x / 2 ^ c.args.shift) e ∙ second_part p place c.args.shift (omega arith) ∙ ap (λ s. word p place (64 - s)) (first_shift c.args.shift c.args.lags.start);
   done = λ p m place a d e f g h j from below. absurd (omega arith);
   below = λ j lt. refl;
   above = λ j le. refl;
@@ -34,22 +34,22 @@ loop-lag-preserved c =
     let xs : List ℕ = c.loop-lag.counts in
     let v : ℕ = get_or xs k 0 + c.agreed_word.result in
     let begin = c.loop-lag.auto.lag in
-    let d : ℕ = c.args.shift + (k - c.args.from) in
+    let d : ℕ = c.args.shift + (k - c.args.lags.start) in
     let small : d < 64 = omega (arith, begin, c.requires.fits, c.loop-lag-test.true) in
     let there : k < length xs = omega arith in
     record {
       none = λ h. absurd (omega (arith, h, begin, c.loop-lag-test.true));
       long = length-set xs k v ∙ c.loop-lag.invariant.long;
       near = λ p place e f.
-          rw (c.loop-lag.invariant.far p place e, c.loop-lag.invariant.near p place e f, near_next p place d small, next_shift c.args.shift c.args.from k begin) refl;
+          rw (c.loop-lag.invariant.far p place e, c.loop-lag.invariant.near p place e f, near_next p place d small, next_shift c.args.shift c.args.lags.start k begin) refl;
       far = λ p place e.
-          rw (c.loop-lag.invariant.far p place e, far_next p place d small, next_shift c.args.shift c.args.from k begin) refl;
+          rw (c.loop-lag.invariant.far p place e, far_next p place d small, next_shift c.args.shift c.args.lags.start k begin) refl;
       done = λ p m place a q e f g h j from below.
           elim (le_cases j k (omega arith)) [
             | inr lt ↦ same_else xs k v j (λ eq. omega arith) ∙ c.loop-lag.invariant.done p m place a q e f g h j from lt
             | inl eq ↦
                 let more = c.agreed_word.ensures.agreed p p m a (place + 64 - d) q g (c.loop-lag.invariant.near p place e f) h in
-                rw (eq, same_here xs k v there, c.loop-lag.invariant.above k (omega arith), more, at_place place c.args.shift c.args.from k begin) refl
+                rw (eq, same_here xs k v there, c.loop-lag.invariant.above k (omega arith), more, at_place place c.args.shift c.args.lags.start k begin) refl
           ];
       below = λ j lt. same_else xs k v j (λ eq. omega arith) ∙ c.loop-lag.invariant.below j lt;
       above = λ j le. same_else xs k v j (λ eq. omega arith) ∙ c.loop-lag.invariant.above j (omega arith);

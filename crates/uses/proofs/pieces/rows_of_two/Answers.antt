@@ -8,10 +8,10 @@ returns-in_err-ended-in-More-clause-short c = on_err c.from_residual-in_err-ende
 
 pub returns-in_ok-ended-in-More-clause-read : goal.returns-in_ok-ended-in-More-clause-read
 returns-in_ok-ended-in-More-clause-read c =
-    let rest_is : c.as_slice.result.now ≡ drop c.in_ok-begun.begun.taken c.args.first.now ++ c.args.second.now =
+    let rest_is : c.as_slice.result.now ≡ drop c.in_ok-begun.begun.taken c.args.pieces.0.now ++ c.args.pieces.1.now =
     c.as_slice.ensures.value ∙ c.in_ok-extend_from_slice-in-More.ensures.items
-    ∙ ap (λ z. z ++ c.args.second.now) (c.in_ok-rest-in-More.ensures.items ∙ take_rest c.args.first.now c.in_ok-begun.begun.taken) in
-    second_told c.args.second.now (rw c.in-More.is at c.in_ok-begun.ensures.read) c.rows_of_piece.ensures.same rest_is c.in_ok-ended-in-More.ensures.read
+    ∙ ap (λ z. z ++ c.args.pieces.1.now) (c.in_ok-rest-in-More.ensures.items ∙ take_rest c.args.pieces.0.now c.in_ok-begun.begun.taken) in
+    second_told c.args.pieces.1.now (rw c.in-More.is at c.in_ok-begun.ensures.read) c.rows_of_piece.ensures.same rest_is c.in_ok-ended-in-More.ensures.read
 
 pub returns-in_default-clause-read : goal.returns-in_default-clause-read
-returns-in_default-clause-read c = first_told c.args.second.now c.in_ok-begun.ensures.read c.in_default.not-More
+returns-in_default-clause-read c = first_told c.args.pieces.1.now c.in_ok-begun.ensures.read c.in_default.not-More

@@ -6,7 +6,7 @@ use Rattle.raster_core.proofs.decode.row.decode_bytes.Goals as goal
 
 pub returns-in-Err-clause-leaves : goal.returns-in-Err-clause-leaves
 returns-in-Err-clause-leaves g c =
-    let inside : 8 * c.bytes.i < c.args.shape.width = omega arith in
+    let inside : 8 * c.bytes.i < c.args.context.shape.width = omega arith in
     let same = c.skip_filled-words.ensures.skips.2 (omega arith) in
     let along = kept_along same c.skip_filled-words.ensures.kept c.bytes.invariant.along in (
       tt,
@@ -25,14 +25,16 @@ bytes-preserved-then-words-gt0 g c =
       going = skip.skips.0 ∙ was.going;
       stuck = λ t. absurd (not_both t (sym was.going ∙ skip.skips.1 some));
       left = omega (arith, was.left, skip.inside);
+      second_fits = was.second_fits;
+      above_fits = was.above_fits;
       along = bytes_skipped (8 * c.skip_filled-words.result) c.requires.template.0 was.left (omega (arith, skip.inside)) (omega (arith, some))
-          (record { second_is = skip.second some; above_is = skip.above some; past_is = skip.before some c.args.offset c.requires.template.2 })
+          (record { second_is = skip.second some; above_is = skip.above some; past_is = skip.before some c.args.context.offset c.requires.template.2 })
           (record { filled = skip.filled; kept = skip.kept }) (skip.skips.1 some) skip.skipped was.along;
     }
 
 pub bytes-preserved : goal.bytes-preserved
 bytes-preserved g c =
-    let inside : 8 * c.bytes.i < c.args.shape.width = omega arith in
+    let inside : 8 * c.bytes.i < c.args.context.shape.width = omega arith in
     let same = c.skip_filled-words.ensures.skips.2 (omega arith) in
     let along = kept_along same c.skip_filled-words.ensures.kept c.bytes.invariant.along in
     let going = had_not_stopped (λ t. (c.in-Ok.ensures.reads.0.0 t).0) in
@@ -45,6 +47,8 @@ bytes-preserved g c =
       going = had_not_stopped c.in-Ok.ensures.reads.0.1.0 ∙ sym was;
       stuck = λ t. absurd (not_both t was);
       left = omega arith;
+      second_fits = omega arith;
+      above_fits = omega arith;
       along = rw (c.byte_at.ensures.byte, c.byte_at-in-bytes.ensures.byte)
           (bytes_next c.bytes.invariant.left inside (omega arith) (omega arith) (whole c.in-Ok.past) along
           (rw (← c.byte_at-in-bytes.ensures.byte, ← c.byte_at.ensures.byte) c.in-Ok.ensures.pixels.0));
@@ -59,7 +63,7 @@ returns-then-left-eq0-clause-leaves g c =
 
 pub returns-in-Err-decode_byte-clause-leaves : goal.returns-in-Err-decode_byte-clause-leaves
 returns-in-Err-decode_byte-clause-leaves g c =
-    let inside : 8 * c.bytes.i < c.args.shape.width = omega arith in (
+    let inside : 8 * c.bytes.i < c.args.context.shape.width = omega arith in (
       tt,
       bytes_stop c.bytes.left c.bytes.invariant.left inside
           (omega arith) c.within-in-Err-decode_byte.ensures.begun c.within-in-Err-decode_byte.ensures.done c.within-in-Err-decode_byte.ensures.past c.bytes.invariant.along
@@ -68,7 +72,7 @@ returns-in-Err-decode_byte-clause-leaves g c =
 
 pub returns-clause-leaves : goal.returns-clause-leaves
 returns-clause-leaves g c =
-    let inside : 8 * c.bytes.i < c.args.shape.width = omega arith in
+    let inside : 8 * c.bytes.i < c.args.context.shape.width = omega arith in
     let wide = c.bytes.auto.current ∙ c.requires.part.1 in
     let byte = c.in-Ok-decode_byte.last % 256 * 2 ^ (8 - c.bytes.left) % 4294967296 % 256 in
     let long = length-set c.bytes.current c.bytes.i byte ∙ wide in (

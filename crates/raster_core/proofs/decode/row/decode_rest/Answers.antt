@@ -3,8 +3,8 @@ use Rattle.raster_core.proofs.LaneTables.{if_err, on_ok}
 use Rattle.raster_core.proofs.RowBytes.{ended_row, then_row}
 use Rattle.raster_core.proofs.decode.row.decode_rest.Goals as goal
 
-pub returns-then-from-shape-clause-leaves : goal.returns-then-from-shape-clause-leaves
-returns-then-from-shape-clause-leaves g c = (ended_row c.if-from-shape.true (c.end_byte.auto.current ∙ c.requires.part.1) c.in_ok-from.ensures.ok, tt)
+pub returns-then-from-context-clause-leaves : goal.returns-then-from-context-clause-leaves
+returns-then-from-context-clause-leaves g c = (ended_row c.if-from-context.true (c.end_byte.auto.current ∙ c.requires.part.1) c.in_ok-from.ensures.ok, tt)
 
 pub returns-clause-leaves : goal.returns-clause-leaves
 returns-clause-leaves g c = (
