@@ -1,14 +1,12 @@
 //! Buffers the bytes of an output in an array of fixed size, and writes them together.
 
 ghost use Rattle.std.specs.Prelude.{◌≡◌, ◌≤◌, ◌<◌, ◌-◌, length, take, OnOk, IfErr};
-ghost use Rattle.std.specs.Io.KnownBytes.{Appends, Keeps, append_known};
-ghost use Rattle.pbm_core.specs.Device.{Counts};
+ghost use Rattle.std.specs.Io.KnownBytes.{Appends, Keeps};
 ghost use Rattle.t85_core.specs.declared.fault.Fault.TheVariants.{Write};
-ghost use Rattle.t85_core.specs.Steps.Buffers.{TargetView, PutsBytes, Pushes, HandsOn, held_of, known_length};
-ghost use Rattle.t85_core.specs.Failures.{SameOutput};
+ghost use Rattle.t85_core.specs.Steps.Buffers.{TargetView, PutsBytes, Pushes, HandsOn};
 
 use crate::fault::Fault;
-use pbm_core::{DeviceFailed, Output, WriteFault, write_bytes};
+use pbm_core::{Output, WriteFault, write_bytes, write_counted};
 
 /// The number of bytes that are buffered of an image or of its stream.
 pub const IMAGE_HELD: usize = 4096;
@@ -76,44 +74,19 @@ impl<W: Output, const SIZE: usize> OutputBuffer<'_, W, SIZE> {
         ensures err { IfErr result (λ f. f ≡ Write) }
         ensures writes { WritesBehind self.old self.new result }
     {
-        match write_part(self.output, &self.bytes, self.at, self.end) {
+        let held = &self.bytes[..];
+        match write_counted(self.output, &held[self.at..self.end]) {
             Ok(()) => {
                 self.at = 0;
                 self.end = 0;
                 Ok(())
             }
-            Err(at) => {
-                self.at = at;
+            Err(count) => {
+                self.at += count;
                 Err(Fault::Write)
             }
         }
     }
-}
-
-/// Writes the bytes from position `at` up to `end`. If a write fails, returns the position of the first byte that has
-/// not been written.
-fn write_part<W: Output>(output: &mut W, bytes: &[u8], at: usize, end: usize) -> Result<(), usize>
-    requires ordered { at ≤ end }
-    requires within { end ≤ length bytes.now }
-    ensures ok { OnOk result (Appends (W.view output.old).contents (W.view output.new).contents
-        (held_of bytes.now at end)) }
-    ensures err { IfErr result (λ place. Keeps (append_known (W.view output.old).contents
-        (held_of bytes.now at end)) (append_known (W.view output.new).contents
-        (held_of bytes.now place end))) }
-    ensures bound { IfErr result (λ place. place ≤ end) }
-    ensures grows { known_length (W.view output.old).contents ≤ known_length (W.view
-        output.new).contents }
-    ensures same_output { SameOutput (W.view output.old) (W.view output.new) }
-    ensures counts { Counts (W.view output.old).failures (W.view output.new).failures result }
-{
-    let mut place = at;
-    while place < end {
-        match output.write(&bytes[place..end]) {
-            Ok(count) => place += count,
-            Err(DeviceFailed) => return Err(place),
-        }
-    }
-    Ok(())
 }
 
 impl<W: Output, const SIZE: usize> OutputBuffer<'_, W, SIZE> {

@@ -1,11 +1,12 @@
 -- Bytes that are held after those that an output has taken.
-use Rattle.std.proofs.Common.{◌≡◌, ◌≤◌, ◌+◌, ◌-◌, ℕ, List, [], ◌∷◌, ◌++◌, Option, None, Some, length, take, drop, refl, sym, ap, ◌∙◌, append_assoc, append-nil, length-append, length-take-le, arith}
+use Rattle.std.proofs.Common.{◌≡◌, ◌≤◌, ◌+◌, ◌-◌, ℕ, List, [], ◌∷◌, ◌++◌, Option, None, Some, length, take, drop, refl, sym, ap, ◌∙◌, append_assoc, append-nil, length-append, length-take-le, take-append-drop, arith}
 use Rattle.std.specs.Io.KnownBytes.{Appends, Keeps, append_known}
 use Rattle.std.proofs.lemmas.List.{drop-take, drop-append-le}
 use Rattle.std.proofs.lemmas.Slice.{take-put_mid}
 use borrow.Rule.Slice.PartMut.{put_mid}
 use Rattle.pbm_core.specs.Device.{AppendsBeginning}
 use Rattle.t85_core.specs.Steps.Buffers.{held_of, known_length}
+use Rattle.t85_core.proofs.Bytes.Held.{Keeps-same, held_after}
 
 -- a front of those that are held was written
 pub keeps_written : {rest : List ℕ} (a b c : Option (List ℕ)) (whole front back : List ℕ) → Keeps (append_known a whole) (append_known b rest) → Appends b c front →
@@ -16,17 +17,12 @@ keeps_written (Some a) None c whole front back k p e = absurd k
 keeps_written (Some a) (Some b) None whole front back k p e = absurd p
 keeps_written (Some a) (Some b) (Some c) whole front back k p e = rw (p, append_assoc, ← e) k
 
-pub keeps_failed : (a b c : Option (List ℕ)) (whole rest : List ℕ) → Keeps (append_known a whole) (append_known b rest) → Keeps b c → Keeps (append_known a whole) (append_known c rest)
-keeps_failed None b c whole rest k p = tt
-keeps_failed (Some a) None c whole rest k p = absurd k
-keeps_failed (Some a) (Some b) None whole rest k p = absurd p
-keeps_failed (Some a) (Some b) (Some c) whole rest k p = rw p k
-
--- all that are held were written
-pub all_written : {rest : List ℕ} (a b : Option (List ℕ)) (whole : List ℕ) → Keeps (append_known a whole) (append_known b rest) → rest ≡ [] → Appends a b whole
-all_written None b whole k e = tt
-all_written (Some a) None whole k e = absurd k
-all_written (Some a) (Some b) whole k e = rw (← append-nil b, ← e) k
+-- so many of those that are held were written
+pub keeps_counted : {end : ℕ} (a b : Option (List ℕ)) (bytes : List ℕ) (at n : ℕ) → at + n ≤ end → Appends a b (take n (held_of bytes at end)) →
+    Keeps (append_known a (held_of bytes at end)) (append_known b (held_of bytes (at + n) end))
+keeps_counted {end} a b bytes at n fits p =
+    let held = held_of bytes at end in
+    keeps_written a a b held (take n held) _ (Keeps-same _) p (sym (take-append-drop n held) ∙ ap (λ z. take n held ++ z) (sym (held_after bytes at n end fits)))
 
 pub keeps_handed : (a b : Option (List ℕ)) (held : List ℕ) → Appends a b held → Keeps (append_known a held) (append_known b [])
 keeps_handed None b held p = tt
@@ -42,11 +38,6 @@ pub grows_with : (a b : Option (List ℕ)) (more : List ℕ) → Appends a b mor
 grows_with None b more p = omega arith
 grows_with (Some a) None more p = absurd p
 grows_with (Some a) (Some b) more p = let e = ap length p ∙ length-append a more in omega arith
-
-pub grows_kept : (a b : Option (List ℕ)) → Keeps a b → known_length a ≤ known_length b
-grows_kept None b p = omega arith
-grows_kept (Some a) None p = absurd p
-grows_kept (Some a) (Some b) p = let e = ap length p in omega arith
 
 cut_front : (a c held front : List ℕ) → length a ≤ length c → c ++ held ≡ a ++ front → (more : List ℕ) × (c ≡ a ++ more) × (front ≡ more ++ held)
 cut_front [] c held front le e = (c, refl, sym e)
