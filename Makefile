@@ -219,8 +219,9 @@ test: documents
 	@$(MAKE) --no-print-directory -j 2 proofs beside
 	@tail -n 1 bin/ci.log
 
+# (without make's job server, which cargo would look for in the tests)
 beside:
-	@nice -n 4 $(MAKE) --no-print-directory checks
+	@MAKEFLAGS= nice -n 4 $(MAKE) --no-print-directory $(MAKEOVERRIDES) checks
 
 # (in this order)
 checks: build library
