@@ -29,7 +29,8 @@ part_height zero some p = absurd (omega arith)
 part_height (suc width) some p = p
 
 -- an error of the number behind a front
-pub front_fault : (form : Form) (width : ℕ) (front rest : List ℕ) (fault : PbmFault) → IsHeaderFront form width front → PartFault (limit_behind width) (large_behind width) rest fault → HeaderFault (front ++ rest) fault
+pub front_fault : (form : Form) (width : ℕ) (front rest : List ℕ) (fault : PbmFault) → IsHeaderFront form width front →
+    PartFault (limit_behind width) (large_behind width) rest fault → HeaderFault (front ++ rest) fault
 front_fault form width front rest fault (inl f) p = inr (inl (record {
   form = form;
   rest = rest;
@@ -58,7 +59,8 @@ scanned_cut Letter reader bytes is = inl (inl (refl, inr (inl is)))
 scanned_cut Letters reader bytes is = inl (inl (refl, inr (inr (reader.form, is.1))))
 scanned_cut Gap reader bytes is = ends_fault is (λ rest gap. cut_gap rest Truncated (inr gap, refl))
 scanned_cut Comment reader bytes is = ends_fault is (λ rest gap. cut_gap rest Truncated (inl gap, refl))
-scanned_cut Digits reader bytes is = ends_fault is (λ rest n. subst (λ z. PartFault (limit_behind reader.width) (large_behind reader.width) z Truncated) (sym n.bytes_are) (cut_digits n.gap n.digits Truncated n.is_gap n.are_digits refl))
+scanned_cut Digits reader bytes is = ends_fault is (λ rest n. subst (λ z. PartFault (limit_behind reader.width) (large_behind reader.width) z Truncated) (sym n.bytes_are)
+    (cut_digits n.gap n.digits Truncated n.is_gap n.are_digits refl))
 scanned_cut LastComment reader bytes is = inr (inr (inr (
   record {
     form = reader.form;
@@ -117,7 +119,8 @@ enters_gap form width front spaces space is each space_is = record {
 -- ---- one more byte
 
 -- a part that grows by a byte
-pub grown : {P Q : List ℕ → Type 0} {form : Form} {width : ℕ} {bytes : List ℕ} (b : ℕ) → EndsIn form width P bytes → ((rest : List ℕ) → P rest → Q (rest ++ b ∷ [])) → EndsIn form width Q (bytes ++ b ∷ [])
+pub grown : {P Q : List ℕ → Type 0} {form : Form} {width : ℕ} {bytes : List ℕ} (b : ℕ) → EndsIn form width P bytes →
+    ((rest : List ℕ) → P rest → Q (rest ++ b ∷ [])) → EndsIn form width Q (bytes ++ b ∷ [])
 grown {P} {Q} {form} {width} {bytes} b e more = record {
   front = e.front;
   rest = e.rest ++ b ∷ [];
@@ -175,7 +178,8 @@ value_refused : (limit value whole : ℕ) (large fault : PbmFault) → value ≡
 value_refused limit value whole large fault e (inl r) = inl (let z = r.0 in omega (arith, e, z), r.1)
 value_refused limit value whole large fault e (inr r) = inr (let z = r.0 in omega (arith, e, z), r.1)
 
-pub refused_number : {limit value : ℕ} {large fault : PbmFault} (rest : List ℕ) (b : ℕ) → IsNumberSoFar limit value rest → BeginsSpace b → SizeFault limit large value fault → PartFault limit large (rest ++ b ∷ []) fault
+pub refused_number : {limit value : ℕ} {large fault : PbmFault} (rest : List ℕ) (b : ℕ) → IsNumberSoFar limit value rest → BeginsSpace b →
+    SizeFault limit large value fault → PartFault limit large (rest ++ b ∷ []) fault
 refused_number {limit} {value} {large} {fault} rest b n space refused = inr (record {
   gap = n.gap;
   digits = n.digits;
@@ -221,7 +225,8 @@ next_digit limit value new b rest n digit e = record {
 }
 
 -- the width is complete
-pub front_done : (form : Form) (width value n : ℕ) (bytes : List ℕ) → EndsIn form width (IsNumberSoFar (limit_behind width) value) bytes → width ≡ 0 → n ≡ value → 1 ≤ n → n ≤ most_width → IsHeaderFront form n bytes
+pub front_done : (form : Form) (width value n : ℕ) (bytes : List ℕ) → EndsIn form width (IsNumberSoFar (limit_behind width) value) bytes →
+    width ≡ 0 → n ≡ value → 1 ≤ n → n ≤ most_width → IsHeaderFront form n bytes
 front_done form width value n bytes e none is some within =
     let so : IsNumberSoFar most_width value e.rest = (let P : ℕ → Type 0 = λ w. IsNumberSoFar (limit_behind w) value e.rest in subst P none e.is_rest) in
     inr (e.rest, e.bytes_are ∙ ap (λ z. z ++ e.rest) (letters_are e.is_front), accepted_number most_width value n e.rest so is some within) where
@@ -245,7 +250,8 @@ pub large_height : (width : ℕ) → width ≢ 0 → large_behind width ≡ TooT
 large_height zero other = absurd (other refl)
 large_height (suc width) other = refl
 
-pub numbers_done : (form : Form) (width value n : ℕ) (bytes : List ℕ) → EndsIn form width (IsNumberSoFar (limit_behind width) value) bytes → width ≢ 0 → n ≡ value → 1 ≤ n → n ≤ most_height → HasNumbers form width value bytes
+pub numbers_done : (form : Form) (width value n : ℕ) (bytes : List ℕ) → EndsIn form width (IsNumberSoFar (limit_behind width) value) bytes →
+    width ≢ 0 → n ≡ value → 1 ≤ n → n ≤ most_height → HasNumbers form width value bytes
 numbers_done form width value n bytes e other is some within = done e.is_front where
   so : IsNumberSoFar most_height value e.rest
   so = let P : ℕ → Type 0 = λ l. IsNumberSoFar l value e.rest in subst P (limit_height width other) e.is_rest
@@ -265,7 +271,8 @@ pushed form first second tail bytes e = ap (λ z. z ++ tail) e ∙ append_assoc 
 
 -- a header, by its last space
 pub numbers_whole : (form : Form) (width height : ℕ) (bytes space : List ℕ) → HasNumbers form width height bytes → IsSpace space → IsPbmHeader (bytes ++ space) form width height
-numbers_whole form width height bytes space h is = subst (λ z. IsPbmHeader z form width height) (sym (pushed form h.first h.second space bytes h.bytes_are)) (header_of form h.first h.second space width height h.is_width h.is_height is)
+numbers_whole form width height bytes space h is = subst (λ z. IsPbmHeader z form width height) (sym (pushed form h.first h.second space bytes h.bytes_are))
+    (header_of form h.first h.second space width height h.is_width h.is_height is)
 
 pub numbers_comment : (form : Form) (width height : ℕ) (bytes : List ℕ) (b : ℕ) → HasNumbers form width height bytes → b ≡ 35 → EndsInComment form width height (bytes ++ b ∷ [])
 numbers_comment form width height bytes b h e = record {
@@ -278,7 +285,8 @@ numbers_comment form width height bytes b h e = record {
   is_open = record { text = []; bytes_are = ap (λ z. z ∷ []) e; one_line = tt };
 }
 
-behind : (form : Form) (first second rest tail : List ℕ) (bytes : List ℕ) → bytes ≡ letters_of form ++ (first ++ (second ++ rest)) → bytes ++ tail ≡ letters_of form ++ (first ++ (second ++ (rest ++ tail)))
+behind : (form : Form) (first second rest tail : List ℕ) (bytes : List ℕ) → bytes ≡ letters_of form ++ (first ++ (second ++ rest)) →
+    bytes ++ tail ≡ letters_of form ++ (first ++ (second ++ (rest ++ tail)))
 behind form first second rest tail bytes e = pushed form first (second ++ rest) tail bytes e ∙ ap (λ z. letters_of form ++ (first ++ z)) (append_assoc second rest tail)
 
 -- a byte of the comment behind the numbers

@@ -92,7 +92,8 @@ among_all lines first end offset n some within =
     let front = count_none f 0 first (λ i lt. rw (below first end (0 + i) (omega arith)) refl) in
     let middle = count_same f g first first (end - first) (λ i lt. rw (inside first end (first + i) (omega arith) (omega arith)) refl) in
     let back = count_none f (first + (end - first)) (n - end) (λ i lt. rw (behind first end (first + (end - first) + i) (omega arith)) refl) in
-    rw (whole n some within, count_cat f 0 first ((end - first) + (n - end)), front, zero-add, zero-add, count_cat f first (end - first) (n - end), middle, back) (add-zero (count_by g (numbers_from first (end - first))))
+    rw (whole n some within, count_cat f 0 first ((end - first) + (n - end)), front, zero-add, zero-add, count_cat f first (end - first) (n - end), middle, back)
+    (add-zero (count_by g (numbers_from first (end - first))))
   where
     g : ℕ → Bool
     g = λ x. same (pixel_at lines.row x) (adaptive lines offset x)

@@ -153,7 +153,8 @@ pub worth_of : (t : Choice) (n : PixelCounts) (best worst current : ℕ) → Has
 worth_of t n best worst current h offered e f =
     rw (h.pixels, count_there t n current h offered, e, f) refl
 
-pub moved : (n : PixelCounts) (lags : List ℕ) (current unmoved best : ℕ) → is_worth n (greatest_of (map n.at lags)) (least_of n.pixels (map n.at lags)) current ≡ true → first_best n (0 ∷ lags) ≡ Some best →
+pub moved : (n : PixelCounts) (lags : List ℕ) (current unmoved best : ℕ) → is_worth n (greatest_of (map n.at lags)) (least_of n.pixels (map n.at lags)) current ≡ true →
+    first_best n (0 ∷ lags) ≡ Some best →
     best ≡ offset_by n lags current unmoved
 moved n lags current unmoved best e f = rw (e, f) refl
 

@@ -77,7 +77,8 @@ counts_full c stripe lines h =
 pub counts_typical : (c : Counting) (stripe : List Lines) (lines : Lines) → is_plain c lines ≡ false → counts_of c (stripe ++ lines ∷ []) ≡ counts_of c stripe
 counts_typical c stripe lines e =
     ap (by_rows c)
-    (ap (take (2048 / column_count c + 1)) (filter-append (is_plain c) stripe (lines ∷ []) ∙ ap (λ x. filter (is_plain c) stripe ++ x) (one_typical c lines e) ∙ append-nil (filter (is_plain c) stripe)))
+    (ap (take (2048 / column_count c + 1)) (filter-append (is_plain c) stripe (lines ∷ [])
+    ∙ ap (λ x. filter (is_plain c) stripe ++ x) (one_typical c lines e) ∙ append-nil (filter (is_plain c) stripe)))
 
 pub counts_more : (c : Counting) (stripe : List Lines) (lines : Lines) → is_plain c lines ≡ true → 1 ≤ column_count c → (counts_of c stripe).pixels ≤ 2048 →
     counts_of c (stripe ++ lines ∷ []) ≡ by_rows c (counted_rows c stripe ++ lines ∷ [])
@@ -142,7 +143,8 @@ pub columns_agree : (c : Counting) (lines : Lines) (offset n : ℕ) → c.most �
     part_among (is_between c.most (c.width - 2)) lines offset 0 n ≡ column_agreement c offset (fit_lines c.width lines)
 columns_agree c lines offset n some within =
     among_all lines c.most (c.width - 2) offset n some within
-    ∙ count_same (λ x. same (pixel_at lines.row x) (adaptive lines offset x)) (λ x. same (pixel_at (fit_row c.width lines.row) x) (adaptive (fit_lines c.width lines) offset x)) c.most c.most (column_count c)
+    ∙ count_same (λ x. same (pixel_at lines.row x) (adaptive lines offset x))
+    (λ x. same (pixel_at (fit_row c.width lines.row) x) (adaptive (fit_lines c.width lines) offset x)) c.most c.most (column_count c)
     (λ i lt. sym (both (fit_pixel lines.row c.width (c.most + i) (omega arith)) (fit_adaptive lines c.width offset (c.most + i) (omega arith))))
   where
     both : {a b x y : Bool} → a ≡ b → x ≡ y → same a x ≡ same b y

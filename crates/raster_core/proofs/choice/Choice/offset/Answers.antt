@@ -10,7 +10,8 @@ pub returns-then-is_worth-clause-chosen : goal.returns-then-is_worth-clause-chos
 returns-then-is_worth-clause-chosen c stripe k offered =
     let t = c.args.self.now in
     let n : PixelCounts = counts_of (counting_of t) stripe in
-    let e = worth_of t n c.extremes-extremes.result.best c.extremes-extremes.result.worst c.args.current k (offered_is (counting_of t) c.args.current offered) (c.extremes-extremes.ensures.best n k) (c.extremes-extremes.ensures.worst n k) in
+    let e = worth_of t n c.extremes-extremes.result.best c.extremes-extremes.result.worst c.args.current k (offered_is (counting_of t) c.args.current offered)
+    (c.extremes-extremes.ensures.best n k) (c.extremes-extremes.ensures.worst n k) in
     moved n (candidates (counting_of t).mode.two_line (counting_of t).most) c.args.current _ c.first_best.result
     (sym e ∙ sym (c.is_worth.ensures (small t c.args.current (offered_is (counting_of t) c.args.current offered))) ∙ c.if-is_worth.true) (c.first_best.ensures.best n k)
 
@@ -18,7 +19,8 @@ pub returns-else-is_worth-clause-chosen : goal.returns-else-is_worth-clause-chos
 returns-else-is_worth-clause-chosen c stripe k offered =
     let t = c.args.self.now in
     let n : PixelCounts = counts_of (counting_of t) stripe in
-    let e = worth_of t n c.extremes-extremes.result.best c.extremes-extremes.result.worst c.args.current k (offered_is (counting_of t) c.args.current offered) (c.extremes-extremes.ensures.best n k) (c.extremes-extremes.ensures.worst n k) in
+    let e = worth_of t n c.extremes-extremes.result.best c.extremes-extremes.result.worst c.args.current k (offered_is (counting_of t) c.args.current offered)
+    (c.extremes-extremes.ensures.best n k) (c.extremes-extremes.ensures.worst n k) in
     let worth = sym e ∙ sym (c.is_worth.ensures (small t c.args.current (offered_is (counting_of t) c.args.current offered))) ∙ c.if-is_worth.false in
     rw c.unmoved-unmoved.ensures (stays n (candidates (counting_of t).mode.two_line (counting_of t).most) c.args.current _ worth)
 
