@@ -30,10 +30,10 @@ made_grown part black made from is few weight =
     omega (arith, same, is, weight, binary_push part black)
 
 -- a byte is stored behind those that are complete
-pub stored : (whole part : List Bool) (row : List ℕ) (bytes value : ℕ) → length whole ≡ 8 * bytes → bytes < length row → value ≡ byte_at part 0 →
+stored : (whole part : List Bool) (row : List ℕ) (bytes : ℕ) {value : ℕ} → length whole ≡ 8 * bytes → bytes < length row → value ≡ byte_at part 0 →
     ((k : ℕ) → k < bytes → get_or row k 0 ≡ byte_at whole k)
     → (k : ℕ) → k < bytes + 1 → get_or (slice_set row bytes value) k 0 ≡ byte_at (whole ++ part) k
-stored whole part row bytes value many within is before =
+stored whole part row bytes {value} many within is before =
     below_more _ _
     (λ k h. let other : k ≢ bytes = omega arith in get_or-set_other row bytes k value 0 other ∙ before k h ∙ sym (byte_before whole part k (omega (arith, many, h))))
     (get_or-set_same row bytes value 0 within ∙ is ∙ sym (byte_behind whole part bytes many))
@@ -57,12 +57,12 @@ pub grows : {reader : RowReader} {width : ℕ} {row : List ℕ} {pixels : List B
 grows h black = ap (λ z. z ++ black ∷ []) h.pixels_are ∙ append_assoc h.whole h.part (black ∷ [])
 
 -- the same, at a place that is computed
-pub stored_at : (whole part : List Bool) (row : List ℕ) (bytes i value : ℕ) → i ≡ bytes → length whole ≡ 8 * bytes → bytes < length row → value ≡ byte_at part 0 →
+pub stored_at : (whole part : List Bool) (row : List ℕ) {bytes i value : ℕ} → i ≡ bytes → length whole ≡ 8 * bytes → bytes < length row → value ≡ byte_at part 0 →
     ((k : ℕ) → k < bytes → get_or row k 0 ≡ byte_at whole k)
     → (k : ℕ) → k < bytes + 1 → get_or (slice_set row i value) k 0 ≡ byte_at (whole ++ part) k
-stored_at whole part row bytes i value e many within is before k h =
+stored_at whole part row {bytes} {i} {value} e many within is before k h =
     let P : ℕ → Type 0 = λ j. get_or (slice_set row j value) k 0 ≡ byte_at (whole ++ part) k in
-    subst P (sym e) (stored whole part row bytes value many within is before k h)
+    subst P (sym e) (stored whole part row bytes many within is before k h)
 
 -- the byte that is next is in the row
 pub row_has : (width : ℕ) {reader : RowReader} {held : List ℕ} {pixels : List Bool} (h : HoldsPixels reader width held pixels) (row : List ℕ) → length row ≡ bytes_of_row width → h.bytes < length row
@@ -78,7 +78,7 @@ row_has width h row whole =
 pub whole_stored : (width : ℕ) {reader : RowReader} {pixels : List Bool} {row : List ℕ} (h : HoldsPixels reader width row pixels) (black : Bool) (i value : ℕ) → i ≡ h.bytes →
     length (pixels ++ black ∷ []) ≡ width → length row ≡ bytes_of_row width → value ≡ byte_at (h.part ++ black ∷ []) 0 → slice_set row i value ≡ packed_row (pixels ++ black ∷ [])
 whole_stored width {reader} {pixels} {row} h black i value e wide whole is =
-    let each = stored_at h.whole (h.part ++ black ∷ []) row h.bytes i value e h.many (row_has width h row whole) is h.packed in
+    let each = stored_at h.whole (h.part ++ black ∷ []) row e h.many (row_has width h row whole) is h.packed in
     let n = counts h in
     let few = h.few in
     let filled = h.filled in
@@ -144,9 +144,9 @@ pub length_mid : (at n : ℕ) (xs ys : List ℕ) → at + n ≤ length xs → le
 length_mid at n xs ys h e = grind (arith, common_steps)
 
 -- the bytes before the piece, and those of the piece, fill the row
-pub filled_row : (before piece row ys : List ℕ) (at n : ℕ) → at ≡ length before → before ≡ take (length before) row → at + n ≡ length row → ys ≡ take n piece → n ≤ length piece →
+pub filled_row : (before piece row ys : List ℕ) {at : ℕ} (n : ℕ) → at ≡ length before → before ≡ take (length before) row → at + n ≡ length row → ys ≡ take n piece → n ≤ length piece →
     before ++ take n piece ≡ put_mid at (at + n - at) row ys
-filled_row before piece row ys at n is front whole same within =
+filled_row before piece row ys {at} n is front whole same within =
     let long : length ys ≡ n = ap length same ∙ length-take-le n piece within in
     let mid : List ℕ = put_mid at (at + n - at) row ys in
     let all : take (at + n) mid ≡ mid = take_all (at + n) mid (omega (arith, length_mid at n row ys (omega (arith, whole)) long, whole)) in

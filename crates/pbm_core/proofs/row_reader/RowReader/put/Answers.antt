@@ -42,7 +42,7 @@ returns-then-count-eq8 c pixels h =
       filled = omega (arith, length_push pixels c.args.black, at, filled);
       below = omega (arith, length_push pixels c.args.black, at, filled, below, c.if-filled-size.false);
       made = refl;
-      packed = stored_at h.whole (h.part ++ c.args.black ∷ []) c.args.row.now h.bytes (c.min-at.result / 8) (c.args.self.now.made % 128 * 2 + c.from.result) i h.many
+      packed = stored_at h.whole (h.part ++ c.args.black ∷ []) c.args.row.now i h.many
           (row_has c.args.size.width h c.args.row.now c.requires)
           (eight_stored (h.part ++ c.args.black ∷ []) (c.args.self.now.made % 128 * 2 + c.from.result) made eight) h.packed;
     }

@@ -18,7 +18,7 @@ returns-clause-takes c before is =
     record {
       decides = (
         cleared_row c.args.size.width (before ++ take n c.args.piece.now) _ c.clear_padding.new.row c.args.size.some_width (same ∙ c.requires)
-            (filled_row before c.args.piece.now c.args.row.now c.copy_from_slice.new.self at n begun is.2 whole ys within) c.clear_padding.ensures
+            (filled_row before c.args.piece.now c.args.row.now c.copy_from_slice.new.self n begun is.2 whole ys within) c.clear_padding.ensures
             (λ k. omega (arith, c.type_inv.row k)),
         c.start.ensures.raw c.args.size.width c.clear_padding.new.row c.args.size.some_width,
       );
