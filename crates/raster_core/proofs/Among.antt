@@ -113,15 +113,15 @@ different p q m a b c n =
     (word_same (λ i. not (same (p (a + (0 + i))) (q (b + (0 + i)))) && m (c + i)) (λ i. not (same (p (a + i)) (q (b + i))) && m (c + i)) 0 0 n
     (λ i lt. ap (λ x. not (same (p (a + x)) (q (b + x))) && m (c + (0 + i))) (zero-add (0 + i))))
 
-pub same_where : (p q m : ℕ → Bool) (a b c n : ℕ) → bit_and (bit_xor (word p a n) (word q b n)) (word m c n) ≡ 0 → (i : ℕ) → i < n → m (c + i) ≡ true → p (a + i) ≡ q (b + i)
-same_where p q m a b c n e i lt here =
+same_where : (p q m : ℕ → Bool) (a b c : ℕ) → bit_and (bit_xor (word p a 64) (word q b 64)) (word m c 64) ≡ 0 → (i : ℕ) → i < 64 → m (c + i) ≡ true → p (a + i) ≡ q (b + i)
+same_where p q m a b c e i lt here =
     same_only (p (a + i)) (q (b + i)) (by (same (p (a + i)) (q (b + i))) (rw (zero-add i, here) at at_i))
   where
     f : ℕ → Bool
     f = λ i. not (same (p (a + i)) (q (b + i))) && m (c + i)
 
     at_i : not (same (p (a + (0 + i))) (q (b + (0 + i)))) && m (c + (0 + i)) ≡ false
-    at_i = dark f 0 n (sym (different p q m a b c n) ∙ e) i lt
+    at_i = dark f 0 64 (sym (different p q m a b c 64) ∙ e) i lt
 
     by : (s : Bool) → not s && true ≡ false → s ≡ true
     by true h = refl
@@ -169,11 +169,12 @@ pub record AreWords (a b : List Bool) (width k x y mask : ℕ) : Type 0 where
   pub other : y ≡ word (led b) (64 * (k + 2)) 64
   pub masked : mask ≡ word (is_within width) (64 * k) 64
 
-pub words_same : (a b : List Bool) (width k x y mask z : ℕ) → AreWords a b width k x y mask → bit_and (bit_xor x y) mask ≡ 0 → 64 * k ≤ z → z < 64 * (k + 1) → z < width → pixel_at a z ≡ pixel_at b z
-words_same a b width k x y mask z w e low high inside =
+pub words_same : (a b : List Bool) (width k : ℕ) {x y mask : ℕ} (z : ℕ) → AreWords a b width k x y mask → bit_and (bit_xor x y) mask ≡ 0 → 64 * k ≤ z → z < 64 * (k + 1) → z < width →
+    pixel_at a z ≡ pixel_at b z
+words_same a b width k z w e low high inside =
     let at : 64 * k + (z - 64 * k) ≡ z = omega arith in
     let zero = rw (w.one, w.other, w.masked) at e in
-    let p = same_where (led a) (led b) (is_within width) (64 * (k + 2)) (64 * (k + 2)) (64 * k) 64 zero (z - 64 * k) (omega arith) (rw at (is_lt z width inside)) in
+    let p = same_where (led a) (led b) (is_within width) (64 * (k + 2)) (64 * (k + 2)) (64 * k) zero (z - 64 * k) (omega arith) (rw at (is_lt z width inside)) in
     sym (led_at a z (at_pixel k (z - 64 * k) ∙ ap (λ i. i + 128) at)) ∙ p ∙ led_at b z (at_pixel k (z - 64 * k) ∙ ap (λ i. i + 128) at)
 
 within : (w x : ℕ) → is_within w x ≡ true → x < w

@@ -163,11 +163,11 @@ pub record AddsRow (old new : Choice) (columns : Columns) (row above : List ℕ)
   pub lags : (lag : ℕ) → least_lag (counting_of old).mode.two_line ≤ lag → lag ≤ (counting_of old).most → AddsAt columns old new row above lag
 
 -- the count at an offset
-at_more : (old new : Choice) (columns : Columns) (row above : List ℕ) (rows : List Lines) (lines : Lines) (offset : ℕ) → AddsRow old new columns row above →
-    AreLines row above lines → column_count (counting_of old) * length rows ≤ 2048 →
+at_more : {old new : Choice} {columns : Columns} {row above : List ℕ} {lines : Lines} (rows : List Lines) (offset : ℕ) → AddsRow old new columns row above → AreLines row above lines →
+    column_count (counting_of old) * length rows ≤ 2048 →
     slice_index old.counts offset ≡ sum_by (column_agreement (counting_of old) offset) rows → AddsAt columns old new row above offset →
     slice_index new.counts offset ≡ sum_by (column_agreement (counting_of old) offset) (rows ++ fit_lines (counting_of old).width lines ∷ [])
-at_more old new columns row above rows lines offset adds are few before added =
+at_more {old} {columns = columns} {lines = lines} rows offset adds are few before added =
     let c : Counting = counting_of old in
     let fit : Lines = fit_lines c.width lines in
     let n : ℕ = 64 * div_ceil columns.end 64 in
@@ -179,11 +179,11 @@ at_more old new columns row above rows lines offset adds are few before added =
     let all = pixels_more c rows fit in
     omega arith
 
-pub row_counted : (old new : Choice) (columns : Columns) (row above : List ℕ) (stripe : List Lines) (lines : Lines) → AddsRow old new columns row above →
-    HasCounted old stripe → AreLines row above lines → old.pixels ≤ 2048 →
+pub row_counted : (old new : Choice) (columns : Columns) {row above : List ℕ} (stripe : List Lines) {lines : Lines} → AddsRow old new columns row above → HasCounted old stripe →
+    AreLines row above lines → old.pixels ≤ 2048 →
     may_be_typical (counting_of old).mode (fit_lines (counting_of old).width lines) ≡ false →
     HasCounted new (stripe ++ fit_lines (counting_of old).width lines ∷ [])
-row_counted old new columns row above stripe lines adds k are few plain =
+row_counted old new columns {row} {above} stripe {lines} adds k are few plain =
     let c : Counting = counting_of old in
     let fit : Lines = fit_lines c.width lines in
     let rows : List Lines = counted_rows c stripe in
@@ -194,10 +194,10 @@ row_counted old new columns row above stripe lines adds k are few plain =
     (subst Q (sym (counts_more c stripe fit (rw plain refl) (omega arith) counted))
     (record {
       pixels = let all = pixels_more c rows fit in omega arith;
-      nominal = at_more old new columns row above rows lines 0 adds are counted k.nominal adds.nominal;
+      nominal = at_more rows 0 adds are counted k.nominal adds.nominal;
       lags = λ lag from to.
           let two : not (new.two_line == 0) ≡ not (old.two_line == 0) = ap (λ d. d.mode.two_line) adds.same in
           let low : least_lag (not (old.two_line == 0)) ≤ lag = rw two at from in
           let high : lag ≤ min old.most 127 = omega (arith, to, ap (λ d. d.most) adds.same) in
-          at_more old new columns row above rows lines lag adds are counted (k.lags lag low high) (adds.lags lag low high);
+          at_more rows lag adds are counted (k.lags lag low high) (adds.lags lag low high);
     }))

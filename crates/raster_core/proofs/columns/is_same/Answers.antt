@@ -10,7 +10,7 @@ loop-k-preserved c lines are x below inside =
     elim (cases_lt x (64 * c.loop-k.k)) [
       | inl lt ↦ c.loop-k.invariant lines are x lt inside
       | inr le ↦
-          words_same lines.row lines.above c.args.width c.loop-k.k _ _ _ x
+          words_same lines.row lines.above c.args.width c.loop-k.k x
           (record { one = c.word_at.ensures lines.row are.row_is; other = c.word_at-in-loop-k.ensures lines.above are.above_is; masked = c.mask_at.ensures })
           c.if-different-mask_at-ne0.false le below inside
     ]

@@ -18,7 +18,7 @@ returns-then-is_typical-clause-counted c stripe lines k are =
 
 pub returns-clause-counted : goal.returns-clause-counted
 returns-clause-counted c stripe lines k are =
-    row_counted c.args.self.now c.add_row.new.self c.columns-columns.result c.args.row.now c.args.above.now stripe lines
+    row_counted c.args.self.now c.add_row.new.self c.columns-columns.result stripe
     (record {
       same = c.add_row.ensures.counting;
       first_is = c.columns-columns.ensures.first;
