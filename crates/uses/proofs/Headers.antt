@@ -6,12 +6,7 @@ use Rattle.t85_core.specs.Laws.{HeaderLaws}
 use Rattle.t85_core.specs.ToPbm.{TakesHeader}
 
 pub same_fields : (h k : Fields) → h.xd ≡ k.xd → h.yd ≡ k.yd → h.l0 ≡ k.l0 → h.mx ≡ k.mx → h.options ≡ k.options → h ≡ k
-same_fields h k = same h.xd k.xd h.yd k.yd h.l0 k.l0 h.mx k.mx h.options k.options where
-  make : ℕ → ℕ → ℕ → ℕ → ℕ → Fields
-  make xd yd l0 mx options = record { xd = xd; yd = yd; l0 = l0; mx = mx; options = options }
-
-  same : (a a' b b' c c' d d' e e' : ℕ) → a ≡ a' → b ≡ b' → c ≡ c' → d ≡ d' → e ≡ e' → make a b c d e ≡ make a' b' c' d' e'
-  same a a' b b' c c' d d' e e' p q r s t = cc
+same_fields h k xd yd l0 mx options = λ i. record { xd = xd i; yd = yd i; l0 = l0 i; mx = mx i; options = options i }
 
 -- A header that was taken is the header of all the bytes, and the body stands after it.
 pub record Splits (bytes : List ℕ) (h : Fields) (body : Option (List ℕ)) : Type 0 where
