@@ -13,11 +13,12 @@ use Rattle.t85_core.specs.Failures.{Ends, reads_after}
 use Rattle.t85_core.specs.Info.{IsWalkFault}
 use Rattle.t85_core.specs.Steps.Segments.{code_bytes, PassesSegment, PieceFault}
 use Rattle.t85_core.specs.Steps.HeightWalk.{Comments, LooksTo, LookEnds, LookOpen}
+use Rattle.t85_core.specs.Steps.PartSteps.{place_before}
 use Rattle.t85_core.proofs.Bytes.Streams.{Consumes-more, longer_or_all}
 use Rattle.t85_core.proofs.Bytes.Lists.{All-push, flat_map_push}
 use Rattle.t85_core.proofs.Bytes.Lengths.{valid_parts}
 use Rattle.t85_core.proofs.Walks.Passed.{Consumes-none}
-use Rattle.t85_core.proofs.Walks.Segments.{length_whole, comment_whole}
+use Rattle.t85_core.proofs.Walks.Segments.{unnamed_spot, length_whole, comment_whole}
 use Rattle.t85_core.proofs.Bytes.Stuffing.{stuffed_cons}
 use Rattle.t85_core.proofs.Grammar.Cut.{no_segment_in_code, marker_no_segment}
 use Rattle.t85_core.proofs.Bytes.Known.{stable_rest, counted-other}
@@ -48,7 +49,7 @@ module _ {h : Fields} {a b c : Option (List ℕ)} (p : HasLooked h a b) where
       record {
         segments = p.segments ++ segment ∷ [];
         are = record { comments = All-push (λ s. IsTrue (is_comment s)) p.segments segment p.are.comments refl; legal = All-push (IsLegal h) p.segments segment p.are.legal s.legal };
-        taken = subst (λ z. Consumes a c z) (sym (flat_map_push segment_bytes p.segments segment)) (Consumes-more a b c _ _ p.taken s.taken);
+        taken = rw flat_map_push (Consumes-more a b c _ _ p.taken s.taken);
       }
 
   pub looked_to : (k n : ℕ) → is_valid_length h k n ≡ true → PassesSegment h b c (NewLength n) → LooksTo h k a c n
@@ -61,11 +62,15 @@ module _ {h : Fields} {a b c : Option (List ℕ)} (p : HasLooked h a b) where
   }
 
   -- a read failed
-  pub looked_open : (k : ℕ) → Ends Truncated b c (PieceFault h (record { height = 0; entities = k; given = false }) true) Read → (given : List ℕ) × Consumes a c given × LookOpen h k given
-  looked_open k e = (flat_map segment_bytes p.segments ++ e.given, Consumes-more a b c (flat_map segment_bytes p.segments) e.given p.taken e.taken, record { segments = p.segments; rest = e.given; are = p.are; given_is = refl; cut = e.has_fault })
+  pub looked_open : (k : ℕ) → Ends Truncated b c (PieceFault h (place_before k) true) Read → (given : List ℕ) × Consumes a c given × LookOpen h k given
+  looked_open k e = (
+    flat_map segment_bytes p.segments ++ e.given,
+    Consumes-more a b c (flat_map segment_bytes p.segments) e.given p.taken e.taken,
+    record { segments = p.segments; rest = e.given; are = p.are; given_is = refl; cut = e.has_fault },
+  )
 
   -- a fault that is no failed read
-  pub looked_fault : (k : ℕ) (f : Fault) → h.yd < 2 ^ 32 → is_variable h ≡ true → f ≢ Read → Ends Truncated b c (PieceFault h (record { height = 0; entities = k; given = false }) true) f → IfSome a (LookEnds h k)
+  pub looked_fault : (k : ℕ) (f : Fault) → h.yd < 2 ^ 32 → is_variable h ≡ true → f ≢ Read → Ends Truncated b c (PieceFault h (place_before k) true) f → IfSome a (LookEnds h k)
   looked_fault k f small variable other e = went a b c p.taken e.taken e.at_end where
     went : (a b c : Option (List ℕ)) → Consumes a b (flat_map segment_bytes p.segments) → Consumes b c e.given → (f ≡ Truncated → IsAtEnd c) → IfSome a (LookEnds h k)
     went None b c q r end = tt
@@ -77,16 +82,18 @@ module _ {h : Fields} {a b c : Option (List ℕ)} (p : HasLooked h a b) where
       are = p.are;
       no_height = λ n z valid is.
           let within = valid_parts h k n valid in
-          none_some (sym (length_whole h n k variable z (omega (arith, within.1, small)) valid) ∙ subst (λ u. rest_fault h (record { height = n; entities = k; heights = 0 }) 1 false u ≡ Some f) is (has n));
-      no_comment = λ text z fits is. none_some (sym (comment_whole text z fits) ∙ subst (λ u. rest_fault h (record { height = 0; entities = k; heights = 0 }) 1 false u ≡ Some f) is (has 0));
+          none_some (sym (length_whole h n k variable z (omega (arith, within.1)) valid) ∙ subst (λ u. has_rest n u) is (has n));
+      no_comment = λ text z fits is. none_some (sym (comment_whole text z fits) ∙ subst (λ u. has_rest 0 u) is (has 0));
       rest_is = q;
     } where
-      told : (n : ℕ) → rest_fault h (record { height = n; entities = k; heights = 0 }) 1 false e.given ≡ Some f
-      told n = subst (λ x. rest_fault h (record { height = n; entities = k; heights = 0 }) 1 false e.given ≡ Some x) (counted-other Truncated f other) (e.has_fault n)
+      has_rest : ℕ → List ℕ → Type 0
+      has_rest n z = rest_fault h (unnamed_spot n k) 1 false z ≡ Some f
 
-      has : (n : ℕ) → rest_fault h (record { height = n; entities = k; heights = 0 }) 1 false last ≡ Some f
-      has n = subst (λ z. rest_fault h (record { height = n; entities = k; heights = 0 }) 1 false z ≡ Some f) (sym r)
-          (longer_or_all (λ z. rest_fault h (record { height = n; entities = k; heights = 0 }) 1 false z ≡ Some f) e.given left (told n) end (stable_rest h (record { height = n; entities = k; heights = 0 }) 1 false e.given left f (told n)))
+      told : (n : ℕ) → has_rest n e.given
+      told n = subst (λ x. rest_fault h (unnamed_spot n k) 1 false e.given ≡ Some x) (counted-other Truncated f other) (e.has_fault n)
+
+      has : (n : ℕ) → has_rest n last
+      has n = subst (λ z. has_rest n z) (sym r) (longer_or_all (λ z. has_rest n z) e.given left (told n) end (stable_rest h (unnamed_spot n k) 1 false e.given left f (told n)))
 
 -- a code begins
 pub looked_code : {h : Fields} {a b : Option (List ℕ)} (p : HasLooked h a b) (d : Option (List ℕ)) (k : ℕ) (first : Code) → Consumes b d (code_bytes first) → IfSome a (LookEnds h k)
@@ -109,5 +116,5 @@ looked_code {h} {a} {b} p d k first taken = went a b d first p.taken taken where
   }
 
 -- the fault of a piece is one of a walk
-pub piece_faults : (h : Fields) (k : ℕ) {b c : Option (List ℕ)} {f : Fault} → Ends Truncated b c (PieceFault h (record { height = 0; entities = k; given = false }) true) f → IsWalkFault f
-piece_faults h k {f = f} e = uncounted Truncated f (rest_faults h (record { height = 0; entities = k; heights = 0 }) 1 false e.given (e.has_fault 0))
+pub piece_faults : (h : Fields) (k : ℕ) {b c : Option (List ℕ)} {f : Fault} → Ends Truncated b c (PieceFault h (place_before k) true) f → IsWalkFault f
+piece_faults h k {f = f} e = uncounted Truncated f (rest_faults h (unnamed_spot 0 k) 1 false e.given (e.has_fault 0))

@@ -3,7 +3,6 @@ use Rattle.std.proofs.Common.{cond, not, ◌≡◌, ◌≢◌, ◌⊎◌, inl, i
 use Rattle.std.proofs.lemmas.List.{get_or_append_left, drop-append-le, take-append-drop, length-take-le, length-drop}
 use Rattle.byteorder.specs.Endian.{big_number}
 use Rattle.byteorder.specs.Numbers.{big_from-append}
-use Rattle.qm_core.specs.Code.{stuffed}
 use Rattle.t85_core.specs.declared.fault.Fault.{Fault}
 use Rattle.t85_core.specs.declared.fault.Fault.TheVariants.{Truncated, Read}
 use Rattle.t85_core.specs.declared.segments.Code.{Code}
@@ -28,17 +27,17 @@ module _ (stream : List ℕ) (long : 20 ≤ length stream) where
   twenty = length-take-le 20 stream long
 
   front_byte : (i : ℕ) → i < 20 → slice_index (take 20 stream) i ≡ slice_index stream i
-  front_byte i less = sym (get_or_append_left (take 20 stream) (drop 20 stream) 0 i (omega (arith, less, twenty))) ∙ ap (λ z. slice_index z i) (take-append-drop 20 stream)
+  front_byte i less = sym (get_or_append_left (take 20 stream) (drop 20 stream) 0 i (omega (arith, twenty))) ∙ ap (λ z. slice_index z i) (take-append-drop 20 stream)
 
   front_long : (i : ℕ) → i + 4 ≤ 20 → long_at i (take 20 stream) ≡ long_at i stream
   front_long i less =
-      sym (ap (big_number 4) (drop-append-le i (take 20 stream) (drop 20 stream) (omega (arith, less, twenty)))
-      ∙ big_from-append 4 (drop i (take 20 stream)) (drop 20 stream) (let l = length-drop i (take 20 stream) in omega (arith, l, less, twenty)))
+      sym (ap (big_number 4) (drop-append-le i (take 20 stream) (drop 20 stream) (omega (arith, twenty)))
+      ∙ big_from-append 4 (drop i (take 20 stream)) (drop 20 stream) (omega (arith, length-drop i (take 20 stream), twenty)))
       ∙ ap (long_at i) (take-append-drop 20 stream)
 
 pub header_front : (stream : List ℕ) (h : Fields) → HeaderOf stream h → HeaderOf (take 20 stream) h
 header_front stream h p = record {
-  whole = (let e = twenty stream p.whole in omega (arith, e));
+  whole = (let e = twenty stream p.whole in omega arith);
   dl = front_byte stream p.whole 0 (omega arith) ∙ p.dl;
   d = front_byte stream p.whole 1 (omega arith) ∙ p.d;
   p = front_byte stream p.whole 2 (omega arith) ∙ p.p;
@@ -54,56 +53,52 @@ header_front stream h p = record {
 
 -- memory never fails
 pub not_read : (f : Fault) → 0 ≡ reads_after f 0 → f ≢ Read
-not_read f e is = let z : 0 ≡ reads_after Read 0 = subst (λ x. 0 ≡ reads_after x 0) is e in omega (arith, z)
+not_read f e is = let z : 0 ≡ reads_after Read 0 = subst (λ x. 0 ≡ reads_after x 0) is e in omega arith
 
 -- a fault stays, whatever bytes follow
-stays : (h : Fields) (spot : Spot) (moves : ℕ) (in_code : Bool) (given left : List ℕ) (f : Fault) → (f ≡ Truncated → left ≡ []) → rest_fault h spot moves in_code given ≡ Some f → rest_fault h spot moves in_code (given ++ left) ≡ Some f
+stays : (h : Fields) (spot : Spot) (moves : ℕ) (in_code : Bool) (given left : List ℕ) (f : Fault) → (f ≡ Truncated → left ≡ []) → rest_fault h spot moves in_code given ≡ Some f →
+    rest_fault h spot moves in_code (given ++ left) ≡ Some f
 stays h spot moves in_code given left f ended e = by (stable_rest h spot moves in_code given left f e) where
   by : (f ≡ Truncated) ⊎ (rest_fault h spot moves in_code (given ++ left) ≡ Some f) → rest_fault h spot moves in_code (given ++ left) ≡ Some f
   by (inl t) = subst (λ z. rest_fault h spot moves in_code z ≡ Some f) (sym (ap (λ z. given ++ z) (ended t) ∙ append-nil given)) e
   by (inr k) = k
 
-module _ (h : Fields) (place : Place) (moved : Bool) (old new : List ℕ) where
+-- at this height
+abbrev spot_with : Place → ℕ → Spot
+spot_with place n = record { height = n; entities = place.entities; heights = cond place.given 1 0 }
+
+module _ (h : Fields) (place : Place) (moved : Bool) {old : List ℕ} where
   -- before a code
-  pub missed_piece : (f : Fault) → f ≢ Read → Ends Truncated (Some old) (Some new) (PieceFault h place moved) f → MissesPart h place moved old f
-  missed_piece f other e = record {
+  pub missed_piece : {new : List ℕ} {f : Fault} → f ≢ Read → Ends Truncated (Some old) (Some new) (PieceFault h place moved) f → MissesPart h place moved old f
+  missed_piece {new} {f} other e = record {
     code = [];
     rest = old;
     bytes_are = refl;
     small = tt;
-    rest_has = λ n.
-        let spot : Spot = record { height = n; entities = place.entities; heights = cond place.given 1 0 } in
-        let told : rest_fault h spot (cond moved 1 0) false e.given ≡ Some f = subst (λ x. rest_fault h spot (cond moved 1 0) false e.given ≡ Some x) (counted-other Truncated f other) (e.has_fault n) in
-        subst (λ z. rest_fault h spot (cond moved 1 0) false z ≡ Some f) (sym e.taken) (stays h spot (cond moved 1 0) false e.given new f e.at_end told);
+    rest_has = λ n. rw e.taken
+        (stays h (spot_with place n) (cond moved 1 0) false e.given new f e.at_end
+        (subst (λ x. rest_fault h (spot_with place n) (cond moved 1 0) false e.given ≡ Some x) (counted-other Truncated f other) (e.has_fault n)));
   }
 
-  module _ (mid : List ℕ) where
-    -- in it
-    pub missed_entity : (first : Code) (f : Fault) → IsByteOrMarker first → old ≡ code_bytes first ++ mid → f ≢ Read → Ends Truncated (Some mid) (Some new) (RestBreaks first) f → MissesPart h place moved old f
-    missed_entity (code.Byte b) f small front other e =
-        let q : CodeFault e.given f = subst (CodeFault e.given) (counted-other Truncated f other) e.has_fault in
-        record {
-          code = b ∷ q.code;
-          rest = q.rest ++ new;
-          bytes_are = front ∙ ap (λ z. stuffed (b ∷ []) ++ z) (e.taken ∙ ap (λ z. z ++ new) q.bytes_are ∙ append_assoc (stuffed q.code) q.rest new)
-              ∙ sym (append_assoc (stuffed (b ∷ [])) (stuffed q.code) (q.rest ++ new)) ∙ ap (λ z. z ++ (q.rest ++ new)) (sym (stuffed_append (b ∷ []) q.code));
-          small = (small, q.small);
-          rest_has = λ n.
-              let spot : Spot = record { height = n; entities = place.entities; heights = cond place.given 1 0 } in
-              stays h spot (cond moved 1 0) true q.rest new f e.at_end (q.rest_has h spot (cond moved 1 0));
-        }
-    missed_entity (code.Marker reset) f small front other e = absurd e.has_fault
+  -- in it
+  pub missed_entity : {mid new : List ℕ} {f : Fault} (first : Code) → IsByteOrMarker first → old ≡ code_bytes first ++ mid → f ≢ Read → Ends Truncated (Some mid) (Some new) (RestBreaks first) f →
+      MissesPart h place moved old f
+  missed_entity {new = new} {f} (code.Byte b) small front other e =
+      let q : CodeFault e.given f = rw counted-other at e.has_fault in
+      record {
+        code = b ∷ q.code;
+        rest = q.rest ++ new;
+        bytes_are = rw (front, e.taken, q.bytes_are, stuffed_append (b ∷ []) q.code) (simp append_assoc);
+        small = (small, q.small);
+        rest_has = λ n. stays h (spot_with place n) (cond moved 1 0) true q.rest new f e.at_end (q.rest_has h (spot_with place n) (cond moved 1 0));
+      }
+  missed_entity (code.Marker reset) small front other e = absurd e.has_fault
 
-    -- the code and its end marker
-    pub read_entity : (first : Code) → IsByteOrMarker first → old ≡ code_bytes first ++ mid → PassesRest first (Some mid) (Some new) → ReadsPart h place moved old new taken.DataEntity
-    read_entity (code.Byte b) small front (reset, q) = (
-      b ∷ q.code,
-      reset,
-      (small, q.bytes),
-      front ∙ ap (λ z. stuffed (b ∷ []) ++ z) (q.taken ∙ append_assoc (stuffed q.code) (marker_bytes reset) new) ∙ sym (append_assoc (stuffed (b ∷ [])) (stuffed q.code) (marker_bytes reset ++ new))
-          ∙ ap (λ z. z ++ (marker_bytes reset ++ new)) (sym (stuffed_append (b ∷ []) q.code)) ∙ sym (append_assoc (stuffed (b ∷ q.code)) (marker_bytes reset) new),
-    )
-    read_entity (code.Marker reset) small front same = ([], reset, tt, front ∙ ap (λ z. marker_bytes reset ++ z) (let e : mid ≡ new = cc in e))
+  -- the code and its end marker
+  pub read_entity : (mid new : List ℕ) (first : Code) → IsByteOrMarker first → old ≡ code_bytes first ++ mid → PassesRest first (Some mid) (Some new) →
+      ReadsPart h place moved old new taken.DataEntity
+  read_entity mid new (code.Byte b) small front (reset, q) = (b ∷ q.code, reset, (small, q.bytes), rw (front, q.taken, stuffed_append (b ∷ []) q.code) (simp append_assoc))
+  read_entity mid new (code.Marker reset) small front same = ([], reset, tt, front ∙ ap (λ z. marker_bytes reset ++ z) (let e : mid ≡ new = cc in e))
 
 -- the fault is one of a stream
 pub missed_among : (h : Fields) (place : Place) (moved : Bool) (bytes : List ℕ) (f : Fault) → MissesPart h place moved bytes f → IsWalkFault f

@@ -9,7 +9,7 @@ use Rattle.t85_core.specs.declared.fault.Fault.{Fault}
 use Rattle.t85_core.specs.declared.fault.Fault.TheVariants.{Truncated, Changed}
 use Rattle.t85_core.specs.declared.segments.Move as move
 use Rattle.t85_core.specs.Header.{Fields}
-use Rattle.t85_core.specs.Grammar.{Segment, NewLength, Move, Comment, lengths, GiveOnly, segment_bytes, is_move, is_comment, marker_bytes, Stripe, all_segments, IsLegal, is_valid_length}
+use Rattle.t85_core.specs.Grammar.{Segment, NewLength, Move, Comment, lengths, segment_bytes, is_move, is_comment, marker_bytes, Stripe, all_segments, IsLegal, is_valid_length}
 use Rattle.t85_core.specs.Coding.{move_of}
 use Rattle.t85_core.specs.Refusal.{Spot, spot_behind, rest_fault, StripeFault}
 use Rattle.t85_core.specs.Failures.{Ends, counted_as}
@@ -49,9 +49,9 @@ passed_none h place before a = record {
 
 move_of_push : (segments : List Segment) (s : Segment) → count_by is_move segments ≡ 0 → move_of (segments ++ s ∷ []) ≡ move_of (s ∷ [])
 move_of_push [] s none = refl
-move_of_push (Move row offset ∷ segments) s none = absurd (let e = sum_by-append (λ y. cond (is_move y) 1 0) (Move row offset ∷ []) segments in omega (arith, none, e))
-move_of_push (NewLength n ∷ segments) s none = move_of_push segments s (let e = sum_by-append (λ y. cond (is_move y) 1 0) (NewLength n ∷ []) segments in omega (arith, none, e))
-move_of_push (Comment text ∷ segments) s none = move_of_push segments s (let e = sum_by-append (λ y. cond (is_move y) 1 0) (Comment text ∷ []) segments in omega (arith, none, e))
+move_of_push (Move row offset ∷ segments) s none = absurd (let e = sum_by-append (λ y. cond (is_move y) 1 0) (Move row offset ∷ []) segments in omega arith)
+move_of_push (NewLength n ∷ segments) s none = move_of_push segments s (let e = sum_by-append (λ y. cond (is_move y) 1 0) (NewLength n ∷ []) segments in omega arith)
+move_of_push (Comment text ∷ segments) s none = move_of_push segments s (let e = sum_by-append (λ y. cond (is_move y) 1 0) (Comment text ∷ []) segments in omega arith)
 
 move_of_comment : (segments : List Segment) (text : List ℕ) → move_of (segments ++ Comment text ∷ []) ≡ move_of segments
 move_of_comment [] text = refl
@@ -65,13 +65,11 @@ move_of_length (NewLength m ∷ segments) n = move_of_length segments n
 move_of_length (Move row offset ∷ segments) n = refl
 move_of_length (Comment other ∷ segments) n = move_of_length segments n
 
-gives_more : (place : Place) (segments : List Segment) (s : Segment) → GiveOnly place.height (cond place.given 1 0) segments → GiveOnly place.height (cond place.given 1 0 + length (lengths segments)) (s ∷ []) → GiveOnly place.height (cond place.given 1 0) (segments ++ s ∷ [])
-gives_more place segments s g k = gives_both place.height (cond place.given 1 0) (s ∷ []) g k
-
 few_moves : (before moved : Bool) (n : ℕ) → cond moved 1 0 ≡ cond before 1 0 + n → cond before 1 0 + n ≤ 1
-few_moves before moved n e = let few = few_byte moved in omega (arith, e, few)
+few_moves before moved n e = let few = few_byte moved in omega arith
 
-module _ {h : Fields} {place : Place} {before : Bool} {a b c : Option (List ℕ)} {at : Option move.Move} {moved given : Bool} {comments : ℕ} (p : HasPassed h place before a b (segments_so_far at moved given comments)) where
+module _ {h : Fields} {place : Place} {before : Bool} {a b c : Option (List ℕ)} {at : Option move.Move} {moved given : Bool} {comments : ℕ}
+    (p : HasPassed h place before a b (segments_so_far at moved given comments)) where
   -- the height in use was given
   pub passed_length : (n : ℕ) → given ≡ false → n ≡ place.height → PassesSegment h b c (NewLength n) → HasPassed h place before a c (segments_so_far at moved true comments)
   passed_length n none same s =
@@ -81,50 +79,51 @@ module _ {h : Fields} {place : Place} {before : Bool} {a b c : Option (List ℕ)
       let zero_heights : cond place.given 1 0 + length (lengths p.segments) ≡ 0 = sym p.given_is ∙ ap (λ t. cond t 1 0) none in
       record {
         segments = p.segments ++ segment ∷ [];
-        begun = record { legal = All-push (IsLegal h) p.segments segment p.begun.legal s.legal; one_move = omega (arith, p.begun.one_move, count); bytes = tt };
-        gives = gives_more place p.segments segment p.gives (record { one = omega (arith, zero_heights); this = (same, tt) });
-        given_is = (let n = many_lengths p.segments (segment ∷ []) in omega (arith, zero_heights, n));
+        begun = record { legal = All-push (IsLegal h) p.segments segment p.begun.legal s.legal; one_move = omega (arith, p.begun.one_move); bytes = tt };
+        gives = gives_both place.height (cond place.given 1 0) (segment ∷ []) p.gives (record { one = omega arith; this = (same, tt) });
+        given_is = (let n = many_lengths p.segments (segment ∷ []) in omega arith);
         move_is = p.move_is ∙ sym (move_of_length p.segments n);
-        counted = omega (arith, p.counted, count);
-        found = omega (arith, p.found, count);
-        told = omega (arith, p.told, comments_all);
-        taken = subst (λ z. Consumes a c z) (sym (flat_map_push segment_bytes p.segments segment)) (Consumes-more a b c _ _ p.taken s.taken);
+        counted = omega arith;
+        found = omega arith;
+        told = omega arith;
+        taken = rw flat_map_push (Consumes-more a b c _ _ p.taken s.taken);
       }
 
   pub passed_move : (to : move.Move) → moved ≡ false → PassesSegment h b c (Move to.row to.offset) → HasPassed h place before a c (segments_so_far (Some to) true given comments)
   passed_move to none s =
       let segment : Segment = Move to.row to.offset in
       let no_move : cond before 1 0 + count_by is_move p.segments ≡ 0 = sym p.counted ∙ ap (λ t. cond t 1 0) none in
-      let zero_moves : count_by is_move p.segments ≡ 0 = omega (arith, no_move) in
+      let zero_moves : count_by is_move p.segments ≡ 0 = omega arith in
       let count = count_push is_move p.segments segment in
       let comments_all = count_push is_comment p.segments segment in
       record {
         segments = p.segments ++ segment ∷ [];
-        begun = record { legal = All-push (IsLegal h) p.segments segment p.begun.legal s.legal; one_move = omega (arith, zero_moves, count); bytes = tt };
-        gives = gives_more place p.segments segment p.gives (gives_none place.height (cond place.given 1 0 + length (lengths p.segments)) (segment ∷ []) p.gives.one refl);
-        given_is = (let n = many_lengths p.segments (segment ∷ []) in omega (arith, p.given_is, n));
+        begun = record { legal = All-push (IsLegal h) p.segments segment p.begun.legal s.legal; one_move = omega arith; bytes = tt };
+        gives = gives_both place.height (cond place.given 1 0) (segment ∷ []) p.gives (gives_none place.height (cond place.given 1 0 + length (lengths p.segments)) (segment ∷ []) p.gives.one refl);
+        given_is = (let n = many_lengths p.segments (segment ∷ []) in omega arith);
         move_is = sym (move_of_push p.segments segment zero_moves);
-        counted = omega (arith, no_move, count);
-        found = omega (arith, zero_moves, count);
-        told = omega (arith, p.told, comments_all);
-        taken = subst (λ z. Consumes a c z) (sym (flat_map_push segment_bytes p.segments segment)) (Consumes-more a b c _ _ p.taken s.taken);
+        counted = omega arith;
+        found = omega arith;
+        told = omega arith;
+        taken = rw flat_map_push (Consumes-more a b c _ _ p.taken s.taken);
       }
 
-  pub passed_comment : (more_comments : ℕ) (text : List ℕ) → PassesSegment h b c (Comment text) → more_comments ≡ min (comments + 1) (2 ^ 64 - 1) → HasPassed h place before a c (segments_so_far at moved given more_comments)
+  pub passed_comment : (more_comments : ℕ) (text : List ℕ) → PassesSegment h b c (Comment text) → more_comments ≡ min (comments + 1) (2 ^ 64 - 1) →
+      HasPassed h place before a c (segments_so_far at moved given more_comments)
   passed_comment more_comments text s told =
       let segment : Segment = Comment text in
       let count = count_push is_move p.segments segment in
       let comments_all = count_push is_comment p.segments segment in
       record {
         segments = p.segments ++ segment ∷ [];
-        begun = record { legal = All-push (IsLegal h) p.segments segment p.begun.legal s.legal; one_move = omega (arith, p.begun.one_move, count); bytes = tt };
-        gives = gives_more place p.segments segment p.gives (gives_none place.height (cond place.given 1 0 + length (lengths p.segments)) (segment ∷ []) p.gives.one refl);
-        given_is = (let n = many_lengths p.segments (segment ∷ []) in omega (arith, p.given_is, n));
+        begun = record { legal = All-push (IsLegal h) p.segments segment p.begun.legal s.legal; one_move = omega (arith, p.begun.one_move); bytes = tt };
+        gives = gives_both place.height (cond place.given 1 0) (segment ∷ []) p.gives (gives_none place.height (cond place.given 1 0 + length (lengths p.segments)) (segment ∷ []) p.gives.one refl);
+        given_is = (let n = many_lengths p.segments (segment ∷ []) in omega arith);
         move_is = p.move_is ∙ sym (move_of_comment p.segments text);
-        counted = omega (arith, p.counted, count);
-        found = omega (arith, p.found, count);
-        told = omega (arith, p.told, comments_all, told);
-        taken = subst (λ z. Consumes a c z) (sym (flat_map_push segment_bytes p.segments segment)) (Consumes-more a b c _ _ p.taken s.taken);
+        counted = omega arith;
+        found = omega arith;
+        told = omega arith;
+        taken = rw flat_map_push (Consumes-more a b c _ _ p.taken s.taken);
       }
 
   -- what was skipped, and what is next
@@ -143,7 +142,8 @@ module _ {h : Fields} {place : Place} {before : Bool} {a b c : Option (List ℕ)
   }
 
   -- what was skipped, and a rest with a fault before the code
-  pub cut_segments : {f : Fault} → Ends Truncated b c (PieceFault h (record { height = place.height; entities = place.entities; given = given }) moved) f → Ends Truncated a c (SegmentsFault h place before) f
+  pub cut_segments : {f : Fault} → Ends Truncated b c (PieceFault h (record { height = place.height; entities = place.entities; given = given }) moved) f →
+      Ends Truncated a c (SegmentsFault h place before) f
   cut_segments e = Ends-after (flat_map segment_bytes p.segments) p.taken (λ bytes fault has. record {
     segments = p.segments;
     rest = bytes;
@@ -151,23 +151,20 @@ module _ {h : Fields} {place : Place} {before : Bool} {a b c : Option (List ℕ)
     begun = p.begun;
     alone = few_moves before moved (count_by is_move p.segments) p.counted;
     gives = p.gives;
-    rest_has = λ n. subst (λ m. rest_fault h (record { height = n; entities = place.entities; heights = cond place.given 1 0 + length (lengths p.segments) }) m false bytes ≡ Some fault) p.counted
-        (subst (λ m. rest_fault h (record { height = n; entities = place.entities; heights = m }) (cond moved 1 0) false bytes ≡ Some fault) p.given_is (has n));
+    rest_has = λ n. subst (λ (z : ℕ × ℕ). rest_fault h (record { height = n; entities = place.entities; heights = z.0 }) z.1 false bytes ≡ Some fault) (λ i. (p.given_is i, p.counted i)) (has n);
   }) e
 
 -- a height after segments isn't the one in use
-changed : (h : Fields) → h.yd < 2 ^ 32 → (height k m moves n : ℕ) → m ≡ 0 → is_valid_length h k n ≡ true → IsLegal h (NewLength n) → n ≢ height →
-    rest_fault h (record { height = height; entities = k; heights = m }) moves false (segment_bytes (NewLength n)) ≡ Some Changed
-changed h small height k m moves n none valid legal other =
-    subst (λ u. rest_fault h (record { height = height; entities = k; heights = u }) moves false (segment_bytes (NewLength n)) ≡ Some Changed) (sym none)
-    (length_changed h height k legal.0 n [] (omega (arith, legal.2, small)) valid other)
+changed : (h : Fields) (spot : Spot) (moves n : ℕ) → h.yd < 2 ^ 32 → spot.heights ≡ 0 → is_valid_length h spot.entities n ≡ true → IsLegal h (NewLength n) → n ≢ spot.height →
+    rest_fault h spot moves false (segment_bytes (NewLength n)) ≡ Some Changed
+changed h spot moves n small none valid legal other = rw none (length_changed h spot.height spot.entities legal.0 n [] (omega (arith, legal.2)) valid other)
 
 module _ {h : Fields} {place : Place} {a b : Option (List ℕ)} {s : Segments} where
   -- after them is another height
   pub head_changed : (n : ℕ) → h.yd < 2 ^ 32 → s.next ≡ next.Height n → PassesSegments h place false a b s → Ends Truncated a b (HeadFault h (spot_at place)) Changed
   head_changed n small is p =
-      let next_is : IsNextItem h place s.given (next.Height n) = subst (IsNextItem h place s.given) is p.next_is in
-      Ends-at (flat_map segment_bytes p.segments ++ segment_bytes (NewLength n)) (subst (λ k. Consumes a b (flat_map segment_bytes p.segments ++ next_bytes k)) is p.taken) refl (λ e. cc) (
+      let next_is : IsNextItem h place s.given (next.Height n) = rw is at p.next_is in
+      Ends-at (flat_map segment_bytes p.segments ++ segment_bytes (NewLength n)) (rw is at p.taken) refl (λ e. cc) (
         record {
           segments = p.segments;
           code = [];
@@ -175,8 +172,7 @@ module _ {h : Fields} {place : Place} {a b : Option (List ℕ)} {s : Segments} w
           bytes_are = refl;
           begun = p.begun;
           gives = p.gives;
-          rest_has = changed h small place.height place.entities (cond place.given 1 0 + length (lengths p.segments)) (count_by is_move p.segments) n
-              (sym p.given_is ∙ ap (λ t. cond t 1 0) next_is.0) next_is.1 next_is.2 next_is.3;
+          rest_has = changed h (spot_behind (spot_at place) p.segments) (count_by is_move p.segments) n small (sym p.given_is ∙ ap (λ t. cond t 1 0) next_is.0) next_is.1 next_is.2 next_is.3;
         },
         refl,
       )
@@ -212,25 +208,26 @@ pub skipped_plain : {a b c : Option (List ℕ)} (plain : List ℕ) → HasSkippe
 skipped_plain {a} {b} {c} plain p each taken = record {
   code = p.code ++ plain;
   bytes = All-append (λ x. x < 256) p.code plain p.bytes (below plain each);
-  taken = subst (λ z. Consumes a c z) (ap (λ z. stuffed p.code ++ z) (sym (stuffed_plain plain each)) ∙ sym (stuffed_append p.code plain)) (Consumes-more a b c _ _ p.taken taken);
+  taken = rw (stuffed_append, stuffed_plain plain each) (Consumes-more a b c _ _ p.taken taken);
 }
 
 pub skipped_byte : {a b c : Option (List ℕ)} (byte : ℕ) → HasSkipped a b → byte < 256 → Consumes b c (stuffed (byte ∷ [])) → HasSkipped a c
 skipped_byte {a} {b} {c} byte p small taken = record {
   code = p.code ++ byte ∷ [];
   bytes = All-push (λ x. x < 256) p.code byte p.bytes small;
-  taken = subst (λ z. Consumes a c z) (sym (stuffed_append p.code (byte ∷ []))) (Consumes-more a b c _ _ p.taken taken);
+  taken = rw stuffed_append (Consumes-more a b c _ _ p.taken taken);
 }
 
 pub code_ends : {a b c : Option (List ℕ)} (reset : Bool) → HasSkipped a b → Consumes b c (marker_bytes reset) → PassesCode a c reset
 code_ends {a} {b} {c} reset p taken = record { code = p.code; bytes = p.bytes; taken = Consumes-more a b c _ _ p.taken taken }
 
-pub code_cut : {a b c : Option (List ℕ)} {f : Fault} → HasSkipped a b → Ends Truncated b c (λ given fault. (h : Fields) (spot : Spot) (moves : ℕ) → rest_fault h spot moves true given ≡ Some fault) f → Ends Truncated a c CodeFault f
+pub code_cut : {a b c : Option (List ℕ)} {f : Fault} → HasSkipped a b →
+    Ends Truncated b c (λ given fault. (h : Fields) (spot : Spot) (moves : ℕ) → rest_fault h spot moves true given ≡ Some fault) f → Ends Truncated a c CodeFault f
 code_cut p e = Ends-after (stuffed p.code) p.taken (λ given fault has. record { code = p.code; rest = given; bytes_are = refl; small = p.bytes; rest_has = has }) e
 
 pub sum_push : {X : Type 0} (f : X → ℕ) (xs : List X) (x : X) → sum_by f (xs ++ x ∷ []) ≡ sum_by f xs + f x
-sum_push f xs x = let e = sum_by-append f xs (x ∷ []) in omega (arith, e)
+sum_push f xs x = let e = sum_by-append f xs (x ∷ []) in omega arith
 
 pub segments_push : (ss : List Stripe) (s : Stripe) → all_segments (ss ++ s ∷ []) ≡ all_segments ss ++ s.segments
 segments_push [] s = append-nil s.segments
-segments_push (t ∷ ss) s = ap (λ z. t.segments ++ z) (segments_push ss s) ∙ sym (append_assoc t.segments (all_segments ss) s.segments)
+segments_push (t ∷ ss) s = rw (segments_push ss s, append_assoc)

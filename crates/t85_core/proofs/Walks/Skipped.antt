@@ -1,5 +1,5 @@
 -- The items that a walk passes if it searches for a height, or continues after one.
-use Rattle.std.proofs.Common.{cond, ◌≡◌, ◌<◌, ◌≤◌, ◌+◌, ◌-◌, ◌^◌, ℕ, Bool, true, false, List, [], ◌∷◌, ◌++◌, Option, Some, count_by, length, min, is_some, refl, sym, ap, ◌∙◌, subst, append_assoc, arith}
+use Rattle.std.proofs.Common.{cond, ◌≡◌, ◌<◌, ◌≤◌, ◌+◌, ◌-◌, ◌^◌, ℕ, Bool, true, false, List, [], ◌∷◌, ◌++◌, Option, count_by, length, min, is_some, refl, sym, ◌∙◌, subst, append_assoc, arith}
 use Rattle.std.specs.Prelude.{flat_map}
 use mir.Val.{bool_byte}
 use Rattle.std.specs.Io.KnownBytes.{Consumes}
@@ -12,11 +12,10 @@ use Rattle.t85_core.specs.declared.segments.Code.TheVariants as code
 use Rattle.t85_core.specs.declared.segments.Next.TheVariants as next
 use Rattle.t85_core.specs.declared.segments.Segments.{Segments}
 use Rattle.t85_core.specs.Header.{Fields}
-use Rattle.t85_core.specs.Grammar.{segment_bytes, is_move, lengths, all_segments, stripe_bytes, marker_bytes, Stripe, IsBegun, moves_in, comments_in}
-use Rattle.t85_core.specs.Refusal.{rest_fault}
+use Rattle.t85_core.specs.Grammar.{segment_bytes, is_move, lengths, stripe_bytes, marker_bytes, Stripe, IsBegun, moves_in, comments_in}
 use Rattle.t85_core.specs.Failures.{Ends}
-use Rattle.t85_core.specs.Steps.Segments.{IsNextItem, next_bytes, PassesSegments, SegmentsFault}
-use Rattle.t85_core.specs.Steps.HeightWalk.{PassesRest, RestBreaks, SkipsStripe, SkipsTo, SkipFault, moved_behind, IsAlone, SkipsStripes, SkipsStripesTo, SkipsFault, search_place, search_end, segment_counts}
+use Rattle.t85_core.specs.Steps.Segments.{IsNextItem, PassesSegments, SegmentsFault}
+use Rattle.t85_core.specs.Steps.HeightWalk.{PassesRest, RestBreaks, SkipsStripe, SkipsTo, SkipFault, moved_behind, IsAlone, SkipsStripes, SkipsStripesTo, SkipsFault, SegmentCounts, search_place, search_end, segment_counts}
 use Rattle.t85_core.specs.Steps.Buffers.{reading}
 use Rattle.t85_core.proofs.Bytes.Streams.{Consumes-more}
 use Rattle.t85_core.proofs.Bytes.Ends.{Ends-after}
@@ -31,32 +30,31 @@ byte_of false = refl
 
 none_given : (given later : Bool) → cond later 1 0 ≡ cond given 1 0 + 0 → later ≡ false → given ≡ false
 none_given false later e k = refl
-none_given true later e k = absurd (let z : cond later 1 0 ≡ 0 = ap (λ (t : Bool). cond {A = ℕ} t 1 0) k in omega (arith, e, z))
+none_given true later e k = absurd (let z = rw k at e in omega arith)
 
 module _ {h : Fields} {entities : ℕ} {given before : Bool} {a b : Option (List ℕ)} {s : Segments} (p : PassesSegments h (record { height = 0; entities = entities; given = given }) before a b s) where
   pub moves_counted : (n : ℕ) (t : Bool) → n ≡ bool_byte t → t ≡ is_some s.at → n ≡ count_by is_move p.segments
-  moves_counted n t e k = e ∙ byte_of t ∙ ap (λ u. cond u 1 0) k ∙ p.moves_are
+  moves_counted n t e k = e ∙ byte_of t ∙ rw k p.moves_are
 
   gives_nothing : lengths p.segments ≡ []
   gives_nothing = legal_give_none h p.segments p.begun.legal p.gives.this
 
   -- the data entity was skipped, too
-  pub stripe_skipped : {c : Option (List ℕ)} (first : Code) (moves : ℕ) → s.next ≡ next.Code first → PassesRest first b c → moves ≡ count_by is_move p.segments → SkipsStripe h before (reading a c) (segment_counts moves s.comments)
+  pub stripe_skipped : {c : Option (List ℕ)} (first : Code) (moves : ℕ) → s.next ≡ next.Code first → PassesRest first b c → moves ≡ count_by is_move p.segments →
+      SkipsStripe h before (reading a c) (segment_counts moves s.comments)
   stripe_skipped {c} (code.Byte byte) moves is rest counted =
-      let front : List ℕ = flat_map segment_bytes p.segments in
-      let small : byte < 256 = subst (IsNextItem h (record { height = 0; entities = entities; given = given }) s.given) is p.next_is in
       let q = rest.1 in
+      let front : List ℕ = flat_map segment_bytes p.segments in
       let joined : (front ++ stuffed (byte ∷ [])) ++ (stuffed q.code ++ marker_bytes rest.0) ≡ front ++ (stuffed (byte ∷ q.code) ++ marker_bytes rest.0) =
-      append_assoc front (stuffed (byte ∷ [])) (stuffed q.code ++ marker_bytes rest.0)
-      ∙ ap (λ z. front ++ z) (sym (append_assoc (stuffed (byte ∷ [])) (stuffed q.code) (marker_bytes rest.0)) ∙ ap (λ z. z ++ marker_bytes rest.0) (sym (stuffed_append (byte ∷ []) q.code))) in
+      rw (stuffed_append (byte ∷ []) q.code) (simp append_assoc) in
       record {
         stripe = record { segments = p.segments; code = byte ∷ q.code; reset = rest.0 };
-        whole = record { legal = p.begun.legal; one_move = p.begun.one_move; bytes = (small, q.bytes) };
+        whole = record { legal = p.begun.legal; one_move = p.begun.one_move; bytes = (rw is at p.next_is, q.bytes) };
         alone = p.alone;
         none = gives_nothing;
         moves_are = counted;
         comments_are = p.comments_are;
-        taken = subst (λ z. Consumes a c z) joined (Consumes-more a b c _ _ (subst (λ n. Consumes a b (front ++ next_bytes n)) is p.taken) q.taken);
+        taken = subst (λ z. Consumes a c z) joined (Consumes-more a b c _ _ (rw is at p.taken) q.taken);
       }
   stripe_skipped {c} (code.Marker reset) moves is rest counted = record {
     stripe = record { segments = p.segments; code = []; reset = reset };
@@ -65,38 +63,37 @@ module _ {h : Fields} {entities : ℕ} {given before : Bool} {a b : Option (List
     none = gives_nothing;
     moves_are = counted;
     comments_are = p.comments_are;
-    taken = subst (λ z. Consumes a z (flat_map segment_bytes p.segments ++ marker_bytes reset)) (sym rest) (subst (λ n. Consumes a b (flat_map segment_bytes p.segments ++ next_bytes n)) is p.taken);
+    taken = rw rest (rw is at p.taken);
   }
 
   -- a height is after the segments
   pub skipped_to : (n moves : ℕ) → s.next ≡ next.Height n → moves ≡ count_by is_move p.segments → SkipsTo h (search_place entities given before) (reading a b) (segment_counts moves s.comments) n
   skipped_to n moves is counted =
-      let next_is : IsNextItem h (record { height = 0; entities = entities; given = given }) s.given (next.Height n) = subst (IsNextItem h (record { height = 0; entities = entities; given = given }) s.given) is p.next_is in
+      let next_is : IsNextItem h (record { height = 0; entities = entities; given = given }) s.given (next.Height n) = rw is at p.next_is in
       record {
         segments = p.segments;
         begun = p.begun;
         alone = p.alone;
         none = gives_nothing;
-        ungiven = none_given given s.given (p.given_is ∙ ap (λ z. cond given 1 0 + length z) gives_nothing) next_is.0;
+        ungiven = none_given given s.given (rw gives_nothing at p.given_is) next_is.0;
         legal = next_is.2;
         valid = next_is.1;
         moves_are = counted;
         comments_are = p.comments_are;
-        taken = subst (λ k. Consumes a b (flat_map segment_bytes p.segments ++ next_bytes k)) is p.taken;
+        taken = rw is at p.taken;
       }
 
   -- the data entity breaks
-  pub cut_rest : {c : Option (List ℕ)} {f : Fault} (first : Code) → s.next ≡ next.Code first → Ends Truncated b c (RestBreaks first) f → Ends Truncated a c (SkipFault h (search_place entities given before)) f
+  pub cut_rest : {c : Option (List ℕ)} {f : Fault} (first : Code) → s.next ≡ next.Code first → Ends Truncated b c (RestBreaks first) f →
+      Ends Truncated a c (SkipFault h (search_place entities given before)) f
   cut_rest {c} {f} (code.Byte byte) is e =
       let front : List ℕ = flat_map segment_bytes p.segments in
-      let small : byte < 256 = subst (IsNextItem h (record { height = 0; entities = entities; given = given }) s.given) is p.next_is in
-      Ends-after (front ++ stuffed (byte ∷ [])) (subst (λ n. Consumes a b (front ++ next_bytes n)) is p.taken) (λ bytes fault has. record {
+      Ends-after (front ++ stuffed (byte ∷ [])) (rw is at p.taken) (λ bytes fault has. record {
         segments = p.segments;
         code = byte ∷ has.code;
         rest = has.rest;
-        bytes_are = ap (λ z. (front ++ stuffed (byte ∷ [])) ++ z) has.bytes_are ∙ append_assoc front (stuffed (byte ∷ [])) (stuffed has.code ++ has.rest)
-            ∙ ap (λ z. front ++ z) (sym (append_assoc (stuffed (byte ∷ [])) (stuffed has.code) has.rest) ∙ ap (λ z. z ++ has.rest) (sym (stuffed_append (byte ∷ []) has.code)));
-        begun = record { legal = p.begun.legal; one_move = p.begun.one_move; bytes = (small, has.small) };
+        bytes_are = rw (has.bytes_are, stuffed_append (byte ∷ []) has.code) (simp append_assoc);
+        begun = record { legal = p.begun.legal; one_move = p.begun.one_move; bytes = (rw is at p.next_is, has.small) };
         alone = p.alone;
         none = gives_nothing;
         rest_has = λ n. has.rest_has h (record { height = n; entities = entities; heights = cond given 1 0 }) (cond before 1 0 + count_by is_move p.segments);
@@ -104,12 +101,14 @@ module _ {h : Fields} {entities : ℕ} {given before : Bool} {a b : Option (List
   cut_rest {c} {f} (code.Marker reset) is e = absurd e.has_fault
 
 -- a stripe that breaks before its code begins
-pub cut_pieces : {h : Fields} {entities : ℕ} {given before : Bool} {a b : Option (List ℕ)} {f : Fault} → Ends Truncated a b (SegmentsFault h (record { height = 0; entities = entities; given = given }) before) f → Ends Truncated a b (SkipFault h (search_place entities given before)) f
+pub cut_pieces : {h : Fields} {entities : ℕ} {given before : Bool} {a b : Option (List ℕ)} {f : Fault} →
+    Ends Truncated a b (SegmentsFault h (record { height = 0; entities = entities; given = given }) before) f → Ends Truncated a b (SkipFault h (search_place entities given before)) f
 cut_pieces {h} {entities} {given} {before} {a} {b} {f} e = Ends-after {a = a} {b = a} [] (Consumes-none a) (λ bytes fault has. broken bytes fault has) e where
-  broken : (bytes : List ℕ) (fault : Fault) → SegmentsFault h (record { height = 0; entities = entities; given = given }) before bytes fault → SkipFault h (search_place entities given before) bytes fault
+  broken : (bytes : List ℕ) (fault : Fault) → SegmentsFault h (record { height = 0; entities = entities; given = given }) before bytes fault →
+      SkipFault h (search_place entities given before) bytes fault
   broken bytes fault q =
       let none = legal_give_none h q.segments q.begun.legal q.gives.this in
-      let zero : cond given 1 0 + length (lengths q.segments) ≡ cond given 1 0 = (let z = ap length none in omega (arith, z)) in
+      let zero : cond given 1 0 + 0 ≡ cond given 1 0 = omega arith in
       record {
         segments = q.segments;
         code = [];
@@ -118,7 +117,7 @@ cut_pieces {h} {entities} {given} {before} {a} {b} {f} e = Ends-after {a = a} {b
         begun = q.begun;
         alone = q.alone;
         none = none;
-        rest_has = λ n. subst (λ m. rest_fault h (record { height = n; entities = entities; heights = m }) (cond before 1 0 + count_by is_move q.segments) false q.rest ≡ Some fault) zero (q.rest_has n);
+        rest_has = λ n. rw (none, zero) at q.rest_has n;
       }
 
 -- ---- stripes
@@ -144,45 +143,48 @@ moved_push before (t ∷ ss) s = refl
 
 module _ {h : Fields} {before : Bool} {count moves comments : ℕ} {moved : Bool} {a b c : Option (List ℕ)} (p : HasStripes h before count a b moved moves comments) where
   -- a stripe more
-  pub stripes_more : {more_moves more_comments : ℕ} (all_comments next_count : ℕ) → next_count ≡ count + 1 → SkipsStripe h moved (reading b c) (segment_counts more_moves more_comments) → all_comments ≡ min (comments + more_comments) (2 ^ 64 - 1) →
-      HasStripes h before next_count a c false (moves + more_moves) all_comments
+  pub stripes_more : {more : SegmentCounts} (all_comments next_count : ℕ) → next_count ≡ count + 1 → SkipsStripe h moved (reading b c) more →
+      all_comments ≡ min (comments + more.comments) (2 ^ 64 - 1) →
+      HasStripes h before next_count a c false (moves + more.moves) all_comments
   stripes_more all_comments next_count next s told =
       let moves_all = sum_push moves_in p.so.stripes s.stripe in
       let comments_all = sum_push comments_in p.so.stripes s.stripe in
       record {
         so = record {
           stripes = p.so.stripes ++ s.stripe ∷ [];
-          count_is = length_push p.so.stripes s.stripe ∙ ap (λ n. n + 1) p.so.count_is ∙ sym next;
+          count_is = rw (length_push p.so.stripes s.stripe, p.so.count_is) (sym next);
           each = All-push (λ t. IsBegun h t.segments t.code) p.so.stripes s.stripe p.so.each s.whole;
-          alone = alone_push before p.so.stripes s.stripe p.so.alone (subst (λ m. cond m 1 0 + count_by is_move s.stripe.segments ≤ 1) p.moved_is s.alone);
-          none = ap lengths (segments_push p.so.stripes s.stripe) ∙ lengths_append (all_segments p.so.stripes) s.stripe.segments ∙ ap (λ z. z ++ lengths s.stripe.segments) p.so.none ∙ s.none;
-          moves_are = omega (arith, p.so.moves_are, s.moves_are, moves_all);
-          comments_are = omega (arith, p.so.comments_are, s.comments_are, comments_all, told);
-          taken = subst (λ z. Consumes a c z) (sym (flat_map_push stripe_bytes p.so.stripes s.stripe)) (Consumes-more a b c (flat_map stripe_bytes p.so.stripes) (stripe_bytes s.stripe) p.so.taken s.taken);
+          alone = alone_push before p.so.stripes s.stripe p.so.alone (rw p.moved_is at s.alone);
+          none = rw (segments_push p.so.stripes s.stripe, lengths_append, p.so.none) s.none;
+          moves_are = omega (arith, p.so.moves_are);
+          comments_are = omega (arith, p.so.comments_are);
+          taken = rw flat_map_push (Consumes-more a b c (flat_map stripe_bytes p.so.stripes) (stripe_bytes s.stripe) p.so.taken s.taken);
         };
         moved_is = moved_push before p.so.stripes s.stripe;
       }
 
   -- a height is after them
-  pub stripes_to : {given : Bool} {part_moves part_comments n : ℕ} (from entities : ℕ) → entities ≡ from + count → SkipsTo h (search_place entities given moved) (reading b c) (segment_counts part_moves part_comments) n → SkipsStripesTo h (search_place from given before) (reading a c) (search_end entities moves comments part_moves part_comments) n
-  stripes_to {given} {part_moves} {part_comments} {n} from entities at s = record {
+  pub stripes_to : {given : Bool} {part : SegmentCounts} {n : ℕ} (from entities : ℕ) → entities ≡ from + count → SkipsTo h (search_place entities given moved) (reading b c) part n →
+      SkipsStripesTo h (search_place from given before) (reading a c) (search_end entities moves comments part.moves part.comments) n
+  stripes_to from entities at s = record {
     mid = b;
     count = count;
     entities_are = at;
     before = p.so;
-    part = subst (λ m. SkipsTo h (search_place entities given m) (reading b c) (segment_counts part_moves part_comments) n) p.moved_is s;
+    part = rw p.moved_is at s;
   }
 
   -- and after them one that breaks
-  pub cut_stripes : {given : Bool} {f : Fault} (from entities wanted : ℕ) → entities ≡ from + count → entities < wanted → Ends Truncated b c (SkipFault h (search_place entities given moved)) f → Ends Truncated a c (SkipsFault h (search_place from given before) wanted) f
+  pub cut_stripes : {given : Bool} {f : Fault} (from entities wanted : ℕ) → entities ≡ from + count → entities < wanted → Ends Truncated b c (SkipFault h (search_place entities given moved)) f →
+      Ends Truncated a c (SkipsFault h (search_place from given before) wanted) f
   cut_stripes {given} from entities wanted at fewer e = Ends-after (flat_map stripe_bytes p.so.stripes) p.so.taken (λ bytes fault has. record {
     stripes = p.so.stripes;
     tail = bytes;
     bytes_are = refl;
-    fewer = omega (arith, p.so.count_is, at, fewer);
+    fewer = omega (arith, p.so.count_is);
     each = p.so.each;
     alone = p.so.alone;
     none = p.so.none;
-    tail_has = (let n : entities ≡ from + length p.so.stripes = omega (arith, p.so.count_is, at) in
-        subst (λ k. SkipFault h (search_place k given (moved_behind before p.so.stripes)) bytes fault) n (subst (λ m. SkipFault h (search_place entities given m) bytes fault) p.moved_is has));
+    tail_has = (let n : entities ≡ from + length p.so.stripes = omega (arith, p.so.count_is) in
+        subst (λ (z : ℕ × Bool). SkipFault h (search_place z.0 given z.1) bytes fault) (λ i. (n i, p.moved_is i)) has);
   }) e

@@ -3,4 +3,5 @@ use Rattle.t85_core.proofs.input_buffer.read_behind.Goals as goal
 
 pub returns-clause-ok : goal.returns-clause-ok
 returns-clause-ok g c =
-    behind_read c.read.result c.args.held c.args.bytes.now c.read.new.buf (g.R.Input.view c.args.input.now).remaining (g.R.Input.view c.read.new.self).remaining c.requires.within c.read.ensures.within c.read.ensures.bytes
+    behind_read c.read.result c.args.held c.args.bytes.now c.read.new.buf (g.R.Input.view c.args.input.now).remaining (g.R.Input.view c.read.new.self).remaining
+    c.requires.within c.read.ensures.within c.read.ensures.bytes

@@ -1,6 +1,6 @@
-use Rattle.std.proofs.Common.{◌≢◌, [], ◌∷◌, refl, arith}
+use Rattle.std.proofs.Common.{[], ◌∷◌, refl, arith}
 use Rattle.t85_core.proofs.Bytes.Ends.{Ends-at}
-use Rattle.t85_core.proofs.Walks.Pieces.{escape_taken, escape_in_code}
+use Rattle.t85_core.proofs.Walks.Pieces.{EndsNoCode, escape_taken, escape_in_code}
 use Rattle.t85_core.proofs.segments.any_code.Goals as goal
 
 pub returns-in-4-clause-err : goal.returns-in-4-clause-err
@@ -12,7 +12,7 @@ returns-in-4-clause-err g c =
 pub returns-in_default-clause-err : goal.returns-in_default-clause-err
 returns-in_default-clause-err g c =
     let escape = c.in_ok-escape.escape in
-    let other : (escape ≢ 0) × (escape ≢ 2) × (escape ≢ 3) × (escape ≢ 4) = (omega arith, omega arith, omega arith, omega arith) in
+    let other : EndsNoCode escape = (omega arith, omega arith, omega arith, omega arith) in
     Ends-at (255 ∷ escape ∷ [])
     (escape_taken _ _ _ _ _ c.in_ok-first.ensures.ok c.if-first.false c.in_ok-escape.ensures.ok) refl (λ h. cc)
-    (λ h spot moves. escape_in_code h spot moves escape [] other.0 other.1 other.2 other.3)
+    (λ h spot moves. escape_in_code h spot moves escape [] other)

@@ -2,7 +2,7 @@ use Rattle.std.proofs.Common.{◌≢◌, [], ◌∷◌, refl, cond, arith}
 use Rattle.t85_core.specs.Options.{fields_of}
 use Rattle.t85_core.proofs.Bytes.Streams.{Consumes-more}
 use Rattle.t85_core.proofs.Bytes.Ends.{exit, Ends-at, Ends-after}
-use Rattle.t85_core.proofs.Walks.Pieces.{escape_taken, unknown_escape}
+use Rattle.t85_core.proofs.Walks.Pieces.{EndsNoCode, escape_taken, unknown_escape}
 use Rattle.t85_core.proofs.segments.next_element.Goals as goal
 
 pub returns-in-4-clause-err : goal.returns-in-4-clause-err
@@ -61,9 +61,9 @@ returns-in_ok-skip_comment-in-7-clause-ok g c =
 pub returns-in_default-clause-err : goal.returns-in_default-clause-err
 returns-in_default-clause-err g c =
     let escape = c.in_ok-escape.escape in
-    let other : (escape ≢ 0) × (escape ≢ 2) × (escape ≢ 3) × (escape ≢ 4) = (omega arith, omega arith, omega arith, omega arith) in
+    let other : EndsNoCode escape = (omega arith, omega arith, omega arith, omega arith) in
     let more : (escape ≢ 5) × (escape ≢ 6) × (escape ≢ 7) = (omega arith, omega arith, omega arith) in
     Ends-at (255 ∷ escape ∷ [])
     (escape_taken _ _ _ _ _ c.in_ok-first.ensures.ok c.if-first.false c.in_ok-escape.ensures.ok) refl (λ h. cc)
     (λ n. unknown_escape (fields_of c.args.header.now) (record { height = n; entities = c.args.place.entities; heights = cond c.args.place.given 1 0 })
-    (cond c.args.moved 1 0) escape [] other.0 other.1 other.2 other.3 more.0 more.1 more.2)
+    (cond c.args.moved 1 0) escape [] other more)

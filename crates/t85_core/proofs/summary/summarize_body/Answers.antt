@@ -1,5 +1,4 @@
 use Rattle.std.proofs.Common.{Err, ap}
-use Rattle.t85_core.specs.Options.{fields_of}
 use Rattle.t85_core.proofs.Bytes.Ends.{exit, exit_of}
 use Rattle.t85_core.proofs.Walks.HeightFound.{accepted, skipped_refused, open_unfinished}
 use Rattle.t85_core.proofs.Walks.Summed.{none_numbers}
@@ -7,13 +6,13 @@ use Rattle.t85_core.proofs.summary.summarize_body.Goals as goal
 
 pub returns-in_err-reached-clause-err : goal.returns-in_err-reached-clause-err
 returns-in_err-reached-clause-err g c =
-    exit _ _ c.from_residual.ensures.1 (λ n. skipped_refused (fields_of c.args.header.now) (accepted c.args.header.now) _ _ _ (c.in_err-reached.ensures.err n) n)
+    exit _ _ c.from_residual.ensures.1 (λ n. skipped_refused (accepted c.args.header.now) _ (c.in_err-reached.ensures.err n) n)
 
 pub returns-in_err-reached-clause-unread : goal.returns-in_err-reached-clause-unread
 returns-in_err-reached-clause-unread g c is =
     exit_of c.from_residual.result c.from_residual.ensures.1 (λ e.
     let u = c.in_err-reached.ensures.unread (ap Err e) in
-    (u.0, u.1, open_unfinished (fields_of c.args.header.now) (accepted c.args.header.now) u.0 u.2)) is
+    (u.0, u.1, open_unfinished (accepted c.args.header.now) u.2)) is
 
 pub returns-in-None-clause-ok : goal.returns-in-None-clause-ok
-returns-in-None-clause-ok g c = none_numbers (fields_of c.args.header.now) _ _ _ _ _ _ (rw c.in-None.is at c.in_ok-reached.ensures.ok) c.summary_of.ensures
+returns-in-None-clause-ok g c = none_numbers _ _ (rw c.in-None.is at c.in_ok-reached.ensures.ok) c.summary_of.ensures

@@ -1,5 +1,4 @@
 use Rattle.std.proofs.Common.{refl}
-use Rattle.t85_core.specs.Options.{fields_of}
 use Rattle.t85_core.proofs.Bytes.Ends.{exit, exit_of}
 use Rattle.t85_core.proofs.Walks.Found.{skips_faults, sought_whole}
 use Rattle.t85_core.proofs.Walks.HeightFound.{accepted}
@@ -8,24 +7,22 @@ use Rattle.t85_core.proofs.summary.walk_on.Goals as goal
 
 pub returns-then-reached-count-clause-ok : goal.returns-then-reached-count-clause-ok
 returns-then-reached-count-clause-ok g c = λ known f.
-    whole_numbers (fields_of c.args.header.now) (accepted c.args.header.now) known _ _ _ _ _ _ _ f c.div_ceil-count.result _ c.div_ceil-count.ensures c.if-reached-count.true c.summary_of.ensures
+    whole_numbers (accepted c.args.header.now) f c.div_ceil-count.ensures c.if-reached-count.true c.summary_of.ensures
 
 pub returns-in_err-more-clause-err : goal.returns-in_err-more-clause-err
 returns-in_err-more-clause-err g c =
     exit _ _ c.from_residual.ensures.1 (λ n known f.
-    joined_refused (fields_of c.args.header.now) (accepted c.args.header.now) known _ _ _ _ _ _ _ f c.requires.part _ c.div_ceil-count.result _ c.div_ceil-count.ensures c.in_err-more.ensures.err n)
+    joined_refused (accepted c.args.header.now) f c.requires.part c.div_ceil-count.ensures c.in_err-more.ensures.err n)
 
 pub returns-in_err-more-clause-unread : goal.returns-in_err-more-clause-unread
 returns-in_err-more-clause-unread g c is =
     exit_of c.from_residual.result c.from_residual.ensures.1 (λ same known f.
-    joined_unread (fields_of c.args.header.now)
-    (accepted c.args.header.now) known _ _ _ _ _ _ _ f c.requires.part _ c.div_ceil-count.result _ c.div_ceil-count.ensures c.in_err-more.ensures.err same) is
+    joined_unread (accepted c.args.header.now) f c.requires.part c.div_ceil-count.ensures c.in_err-more.ensures.err same) is
 
 pub returns-in_err-more-clause-among : goal.returns-in_err-more-clause-among
-returns-in_err-more-clause-among g c = exit _ _ c.from_residual.ensures.1 (skips_faults (fields_of c.args.header.now) _ _ _ _ c.in_err-more.ensures.err)
+returns-in_err-more-clause-among g c = exit _ _ c.from_residual.ensures.1 (skips_faults c.in_err-more.ensures.err)
 
 pub returns-clause-ok : goal.returns-clause-ok
 returns-clause-ok g c = λ known f.
-    joined_numbers (fields_of c.args.header.now)
-    (accepted c.args.header.now) known _ _ _ _ _ _ _ f c.requires.part _ c.div_ceil-count.result _ _ _ _ _ _ c.div_ceil-count.ensures c.if-reached-count.false
-    (sought_whole (fields_of c.args.header.now) _ _ _ _ _ _ _ _ _ _ _ c.in_ok-more.ensures.ok) refl c.saturating_add.ensures c.saturating_add-2.ensures c.summary_of-2.ensures
+    joined_numbers (accepted c.args.header.now) f c.requires.part c.div_ceil-count.ensures c.if-reached-count.false
+    (sought_whole _ _ _ _ _ _ refl c.in_ok-more.ensures.ok) refl c.saturating_add.ensures c.saturating_add-2.ensures c.summary_of-2.ensures

@@ -7,7 +7,7 @@ returns-in-Some-clause-told c = λ zero most n g ss gs p.
     let left = c.read_before_height.new.source.rest.now in
     let read = rw c.rest_of-rest.ensures at c.in-Some.ensures.some in
     tells_taken c.take.ensures.told c.take.ensures.behind
-    (takes_before p left _ (ap (λ z. length z - length left) c.rest_of-rest.ensures) zero most n g c.in-Some.taken c.in-Some.ensures.segment read)
+    (takes_before p left _ (ap (λ z. length z - length left) c.rest_of-rest.ensures) zero most g c.in-Some.taken c.in-Some.ensures.segment read)
 
 pub returns-in-None-clause-told : goal.returns-in-None-clause-told
 returns-in-None-clause-told c = λ zero most n g ss gs p. absurd (never_before p zero most (rw c.rest_of-rest.ensures at (c.in-None.ensures.none refl g.variable)) n g)

@@ -10,7 +10,7 @@ returns-in-Ok-clause-told c = λ few ss gs p.
     (takes_in_stripe p left _ (ap (λ z. length z - length left) c.rest_of-rest.ensures) few c.is_given.result c.in-Ok.taken c.is_given.ensures read)
 
 pub returns-in-Err-clause-told : goal.returns-in-Err-clause-told
-returns-in-Err-clause-told c = λ few ss gs p. (breaks_in_stripe p c.is_given.result c.is_given.ensures few c.in-Err.fault (rw c.rest_of-rest.ensures at c.in-Err.ensures.err), refl)
+returns-in-Err-clause-told c = λ few ss gs p. (breaks_in_stripe p c.is_given.ensures few (rw c.rest_of-rest.ensures at c.in-Err.ensures.err), refl)
 
 pub returns-in-Ok-clause-any : goal.returns-in-Ok-clause-any
 returns-in-Ok-clause-any c =
