@@ -196,7 +196,6 @@ processor:
 
 # Checks that the documents match the tree, and that clauses are readable.
 documents:
-	tools/references
 	tools/model --check
 	tools/clauses
 	tools/weights --check
