@@ -82,6 +82,8 @@ buffer read_file(const char *name)
         fail("%s can't be read", name);
     file.len = (size_t)ftell(from);
     file.bytes = (uint8_t *)malloc(file.len + 1);
+    if (!file.bytes)
+        fail("no memory for %zu bytes", file.len + 1);
     rewind(from);
     if (fread(file.bytes, 1, file.len, from) != file.len)
         fail("%s can't be read", name);

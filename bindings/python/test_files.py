@@ -198,7 +198,7 @@ class FromFileToFile(unittest.TestCase):
         error, written = self.fault(t85.encode_file, b"P1\n8 2\n11111111 0 2 000000", typical=False, stripe_rows=1)
         self.assertEqual((error.number, written), (38, head(8, 2, 1, 0, 0) + b"\xf0\xff\x02"))
 
-    def test_texts(self):
+    def test_texts_of_commands(self):
         # The texts of the errors that only a PBM has are those of the commands.
         with open(os.path.join(HERE, "../../docs/FORMAT.md")) as file:
             rows = [line.split(" | ") for line in file if re.match(r"\| 3[1258] ", line)]
