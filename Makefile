@@ -7,14 +7,15 @@
 # make targets-test  tests these three: ARM under qemu, WebAssembly in node, and the page in Chromium
 # make static        builds both programs again in bin/static/, statically linked with the C library, and tests them
 # make library       builds bin/libt85.a and bin/libt85.so.1.0.0
-# make test          the gate: checks the documents; runs `rt ci`, which covers every proof, every edit that must fail and
-#                    every test of the crates; and beside it `make checks`
+# make test          the gate: checks the documents and runs `make lint`; then runs `rt ci`, which covers every proof, every edit
+#                    that must fail and every test of the crates, and beside it `make checks`
 # make proofs        only `rt ci`
 # make checks        tests this file, the built programs and the library
 # make turns         makes each memory allocation of the programs fail in turn
 # make library-test  compares the library, as called from C and Python, with the programs; tests it installed; tests the wheel
 # make wheel         builds a wheel of the Python module with the library inside, for `pip install`, in dist/
 # make manuals       checks the manual pages
+# make lint          runs the checkers of scripts, Python, C and documents that are installed
 # make debian        builds the packages of packaging/debian into dist/, and runs lintian on them
 # make jbig85        builds bin/libjbig85.a and bin/libjbig85.so.0: JBIG-KIT's functions for T.85 on the library
 # make jbig          builds these, bin/libjbig.a and bin/libjbig.so.0: also JBIG-KIT's other functions, for one plane
@@ -207,6 +208,9 @@ documents:
 	tools/texts
 	tools/links
 
+lint:
+	tools/lint
+
 # `rt ci` proves from nothing, and keeps only the statements of a library.
 proofs:
 	@mkdir -p bin && echo "rt ci" && { tools/ci; echo $$? > bin/ci.status; } 2>&1 | tee bin/ci.log && \
@@ -214,7 +218,7 @@ proofs:
 
 # The builds need libraries with their proofs, so they prove the crates below the programs once more. They run beside `rt ci`,
 # at a lower priority, since its proofs and edits take longer.
-test: documents
+test: documents lint
 	@$(MAKE) --no-print-directory -j 2 proofs beside
 	@tail -n 1 bin/ci.log
 
@@ -396,5 +400,5 @@ endif
 clean:
 	rm -rf bin dist crates/*/out
 
-.PHONY: show build library rust rust-test wasm arm page targets-test static processor documents proofs test beside checks turns library-test wheel pictures manuals debian jbig85 jbig \
+.PHONY: show build library rust rust-test wasm arm page targets-test static processor documents lint proofs test beside checks turns library-test wheel pictures manuals debian jbig85 jbig \
 	interop clients charts libtiff fuzz fuzz-python fuzz-jbig against bench install install-programs install-library install-jbig uninstall clean
