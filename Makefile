@@ -202,6 +202,7 @@ documents:
 	tools/weights --check
 	tools/names
 	tools/prose
+	tools/generate --check
 	tools/interface
 	tools/recipes
 	tools/figures

@@ -46,6 +46,7 @@ from ctypes import POINTER, byref, c_bool, c_char, c_size_t, c_uint8, c_uint32, 
 from dataclasses import dataclass
 from typing import TYPE_CHECKING, Any, Callable, Iterator, Optional, Union
 
+from . import _numbers
 from ._rows import Rows, from_image, pack, to_array, to_image, unpack
 from ._rows import refuse_pixels as _refuse_pixels
 from ._rows import row_bytes as _row_bytes
@@ -93,12 +94,6 @@ if TYPE_CHECKING:
     _Writer = Callable[[_Memory, int], int]
 
 _SONAME = "libt85.so.1"
-_OK = 0
-_NO_ROOM = 18
-_TOO_MANY_ROWS = 24
-_ROWS_MISSING = 36
-_NO_MORE_PARTS = 52
-_HEADER_READ, _ROW, _MORE = 60, 61, 62
 # The length of a stream's header, and the greatest length of a PBM's.
 _HEADER_BYTES, _HEAD_BYTES = 20, 22
 _NO_LIMIT = 0xFFFFFFFF
@@ -108,9 +103,9 @@ _FIRST_ROOM = 1 << 23
 class _Option(enum.IntFlag):
     """The bits of the options byte in the header of a stream."""
 
-    TWO_LINES = 0x40
-    VARIABLE_HEIGHT = 0x20
-    TYPICAL = 0x08
+    TWO_LINES = _numbers.TWO_LINES
+    VARIABLE_HEIGHT = _numbers.VARIABLE_HEIGHT
+    TYPICAL = _numbers.TYPICAL
 
 
 class _Options(ctypes.Structure):
@@ -178,15 +173,15 @@ class _Pbm(ctypes.Structure):
 
 
 class _Decoder(ctypes.Structure):
-    _fields_ = [("opaque", c_uint64 * 160)]
+    _fields_ = [("opaque", c_uint64 * (_numbers.DECODER_BYTES // 8))]
 
 
 class _Encoder(ctypes.Structure):
-    _fields_ = [("opaque", c_uint64 * 670)]
+    _fields_ = [("opaque", c_uint64 * (_numbers.ENCODER_BYTES // 8))]
 
 
 class _Choice(ctypes.Structure):
-    _fields_ = [("opaque", c_uint32 * 132)]
+    _fields_ = [("opaque", c_uint32 * (_numbers.CHOICE_BYTES // 4))]
 
 
 def _named() -> str:
@@ -380,7 +375,7 @@ def _chosen(
     has_comment: bool,
 ) -> _Options:
     return _Options(
-        version=1,
+        version=_numbers.OPTIONS_VERSION,
         options=(_Option.TWO_LINES if two_lines else 0)
         | (_Option.VARIABLE_HEIGHT if variable_height else 0)
         | (_Option.TYPICAL if typical else 0),
@@ -403,7 +398,7 @@ def _with_room(write: _Writer, first: int, most: int) -> tuple[int, _Memory]:
     while True:
         output = ctypes.create_string_buffer(max(room, 1))
         status = write(output, room)
-        if status != _NO_ROOM or room == most:
+        if status != _numbers.NO_ROOM or room == most:
             return status, output
         del output
         room = min(2 * room, most)
@@ -468,10 +463,10 @@ def _decoded(write: _Writer, extent: _Extent, before: int, max_bytes: Optional[i
         # Without a buffer, the library still reports other errors.
         room = before + extent.length if fits else 0
         status, output = _with_room(write, room, room)
-    if status == _NO_ROOM and not fits:
+    if status == _numbers.NO_ROOM and not fits:
         taken = f"{extent.length} bytes" if extent.whole else f"more than {limit} bytes"
         text = f"rows take {taken}, and max_bytes is {limit}: give a greater max_bytes, or max_bytes=None for no limit"
-        raise Error(_NO_ROOM, text=text)
+        raise Error(_numbers.NO_ROOM, text=text)
     return status, output
 
 
@@ -501,7 +496,7 @@ def info(stream: Buffer) -> Summary:
 
 def stream_length(data: Buffer) -> int:
     """The length of the stream at the beginning of the data, so that concatenated streams can be split."""
-    facts = _Facts(version=1)
+    facts = _Facts(version=_numbers.FACTS_VERSION)
     status = _LIBRARY.t85_stream_facts(*_lent(data), byref(facts))
     if status:
         raise Error(status)
@@ -510,10 +505,10 @@ def stream_length(data: Buffer) -> int:
 
 def parts(stream: Buffer) -> Iterator[Part]:
     """Yields the parts of a stream in order. If one is broken or incomplete, BrokenPart is raised instead of it."""
-    lent, part = _lent(stream), _Part(version=1)
+    lent, part = _lent(stream), _Part(version=_numbers.PART_VERSION)
     while True:
         status = _LIBRARY.t85_next_part(*lent, byref(part))
-        if status == _NO_MORE_PARTS:
+        if status == _numbers.NO_MORE_PARTS:
             return
         if status:
             raise BrokenPart(status, part.offset, part.stripe)
@@ -535,7 +530,7 @@ class _PbmReader:
         _LIBRARY.t85_pbm_start(self._lent, ctypes.sizeof(state))
         self._take(b"")
         status = self._read(_LIBRARY.t85_pbm_header)
-        if status != _HEADER_READ:
+        if status != _numbers.HEADER_READ:
             raise Error(status, text=_PBM_TEXTS.get(status))
         self.width: int = state.width
         self.height: int = state.height
@@ -550,9 +545,9 @@ class _PbmReader:
     def next_row(self) -> Optional[bytes]:
         """Returns the next row, packed, or None if there is none, or if the file ends before it is complete."""
         status = self._read(_LIBRARY.t85_pbm_row, self._row, len(self._row))
-        if status == _ROW:
+        if status == _numbers.ROW:
             return self._row.raw
-        if status in (_OK, _ROWS_MISSING):
+        if status in (_numbers.OK, _numbers.ROWS_MISSING):
             return None
         raise Error(status)
 
@@ -567,7 +562,7 @@ class _PbmReader:
             status = call(self._lent, self._start, self._left, *row, self._count)
             self._start += self._taken.value
             self._left -= self._taken.value
-            if status != _MORE:
+            if status != _numbers.MORE:
                 return status
             self._take(self._more())
             if not self._left:
@@ -615,7 +610,7 @@ class Decoder:
         self.is_done = False
         self.unused = b""
         self._front = b""
-        self._status = _MORE
+        self._status = _numbers.MORE
         self._state = _Decoder()
         self._window = ctypes.create_string_buffer(0)
         limit = _NO_LIMIT if max_rows is None else _word("max_rows", max_rows)
@@ -662,7 +657,7 @@ class Decoder:
         piece, taken = bytes(memoryview(data)), c_size_t()
         status = _LIBRARY.t85_decode_rest(byref(self._state), piece, len(piece), byref(taken))
         self._is_busy = False
-        if status not in (_OK, _MORE):
+        if status not in (_numbers.OK, _numbers.MORE):
             raise Error(status)
         self.unused = piece[taken.value :]
         return not status
@@ -675,7 +670,7 @@ class Decoder:
             length += len(row) + _ROW_COST
             if self._most is not None and length > self._most:
                 text = f"the list of rows takes more than {self._most} bytes: use rows, or a greater max_bytes"
-                raise Error(_NO_ROOM, self._partial(found), text)
+                raise Error(_numbers.NO_ROOM, self._partial(found), text)
             found.append(row)
         self._is_busy = False
         self._raise_error(found)
@@ -704,10 +699,10 @@ class Decoder:
             if self.header is None:
                 self._front += piece[: taken.value]
             piece = piece[taken.value :]
-            if self._status == _HEADER_READ:
+            if self._status == _numbers.HEADER_READ:
                 self.header = header(self._front)
                 self._window = _window(self.header.width)
-            elif self._status == _ROW:
+            elif self._status == _numbers.ROW:
                 yield self._row(row.value)
             else:
                 self.unused = piece
@@ -720,7 +715,7 @@ class Decoder:
         while True:
             lent = self._window, len(self._window), byref(row)
             self._status = _LIBRARY.t85_decode_end(byref(self._state), *lent)
-            if self._status != _ROW:
+            if self._status != _numbers.ROW:
                 self.is_done = not self._status
                 return
             yield self._row(row.value)
@@ -731,7 +726,7 @@ class Decoder:
 
     def _raise_error(self, rows: list[bytes]) -> None:
         """Raises the stream's error, if there is one, with the rows of the call."""
-        if self._status not in (0, _MORE):
+        if self._status not in (_numbers.OK, _numbers.MORE):
             raise Error(self._status, self._partial(rows))
 
     def _partial(self, rows: list[bytes]) -> Rows:
@@ -988,7 +983,7 @@ def _encode_best(encoder: Encoder, rows: memoryview, height: int, step: int, str
             encoder.offset(encoder.best_offset(b"".join(stripe)))
         pieces += map(encoder.row, stripe)
     if present < height:
-        raise Error(_ROWS_MISSING, b"".join(pieces))
+        raise Error(_numbers.ROWS_MISSING, b"".join(pieces))
     return b"".join([*pieces, encoder.end()])
 
 

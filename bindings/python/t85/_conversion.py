@@ -8,8 +8,7 @@ import os
 import tempfile
 from typing import Any, Callable, Iterator, Optional, Protocol, Union, cast
 
-from . import _MORE, _NO_LIMIT, _NO_ROOM, _ROWS_MISSING, _TOO_MANY_ROWS, MAX_BYTES
-from . import Buffer, Decoder, Encoder, Error, Header, Rows, _height_in_use, _length, _Option, _word
+from . import _NO_LIMIT, MAX_BYTES, Buffer, Decoder, Encoder, Error, Header, Rows, _height_in_use, _length, _numbers, _Option, _word
 from ._files import writing
 from ._pbm import PageReader, head_of
 from ._rows import row_bytes
@@ -74,7 +73,7 @@ def encode_file(
         for row in page.rows():
             output.put(encoder.row(row))
         if encoder.rows_left:
-            raise Error(_ROWS_MISSING)
+            raise Error(_numbers.ROWS_MISSING)
         output.put(encoder.end())
         return output.length
 
@@ -114,7 +113,7 @@ def decode_file(
         else:
             height = stream.header.height
             if height > most:
-                raise Error(_TOO_MANY_ROWS)
+                raise Error(_numbers.TOO_MANY_ROWS)
         _refuse_large(height * row_bytes(width), limit)
         output.put(head_of(width, height))
         count = 0
@@ -215,7 +214,7 @@ class _Stream:
         piece = self.front[_HEADER_BYTES:]
         while True:
             yield from self._decoder._fed(piece)
-            if self._decoder._status != _MORE:
+            if self._decoder._status != _numbers.MORE:
                 return
             piece = self._more(_PIECE)
             if not piece:
@@ -247,4 +246,4 @@ def _kept(front: bytes, more: Callable[[int], bytes], stack: contextlib.ExitStac
 def _refuse_large(taken: int, max_bytes: Optional[int]) -> None:
     if max_bytes is not None and taken > max_bytes:
         text = f"rows take {taken} bytes, and max_bytes is {max_bytes}: give a greater max_bytes, or max_bytes=None for no limit"
-        raise Error(_NO_ROOM, text=text)
+        raise Error(_numbers.NO_ROOM, text=text)

@@ -13,7 +13,7 @@ from __future__ import annotations
 import importlib
 from typing import Any, Tuple
 
-from . import Error, Rows, decode_rows, encode, from_image, header, info
+from . import Error, Rows, _numbers, decode_rows, encode, from_image, header, info
 from ._rows import row_bytes
 
 _IMAGE: Any = importlib.import_module("PIL.Image")
@@ -21,7 +21,6 @@ _FILE: Any = importlib.import_module("PIL.ImageFile")
 
 FORMAT = "JBIG"
 _HEADER_BYTES = 20
-_VARIABLE_HEIGHT, _TRUNCATED = 0x20, 9
 _OPTIONS = (
     "stripe_rows",
     "most_offset",
@@ -37,7 +36,7 @@ _OPTIONS = (
 
 def _accept(prefix: bytes) -> bool:
     """Whether a file may be a stream. Icons begin with the same four bytes, but then have a width that no stream has."""
-    return prefix[:4] == b"\0\0\1\0" and 0 < int.from_bytes(prefix[4:8], "big") <= 1 << 20
+    return prefix[:4] == b"\0\0\1\0" and 0 < int.from_bytes(prefix[4:8], "big") <= _numbers.MOST_WIDTH
 
 
 class JbigFile(_FILE.ImageFile):  # type: ignore[misc]
@@ -51,7 +50,7 @@ class JbigFile(_FILE.ImageFile):  # type: ignore[misc]
             fields = header(self.fp.read(_HEADER_BYTES))
         except Error as error:
             raise SyntaxError(error.text) from error
-        height = self._late_height(fields.height) if fields.options & _VARIABLE_HEIGHT else fields.height
+        height = self._late_height(fields.height) if fields.options & _numbers.VARIABLE_HEIGHT else fields.height
         self._size = fields.width, height
         # The name of this attribute differs between versions of Pillow.
         setattr(self, "_mode" if isinstance(getattr(type(self), "mode", None), property) else "mode", "1")
@@ -83,7 +82,7 @@ class JbigDecoder(_FILE.PyDecoder):  # type: ignore[misc]
             is_same = (rows.width, rows.count) == (width, height)
         except Error as error:
             if not _FILE.LOAD_TRUNCATED_IMAGES or not isinstance(error.partial, Rows):
-                what = "image file is truncated" if error.number == _TRUNCATED else "broken data stream when reading image file"
+                what = "image file is truncated" if error.number == _numbers.TRUNCATED else "broken data stream when reading image file"
                 raise OSError(f"{what}: {error.text}") from error
             rows = error.partial
             is_same = rows.width == width and rows.count <= height
