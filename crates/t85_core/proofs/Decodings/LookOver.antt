@@ -5,7 +5,7 @@ use Rattle.std.proofs.lemmas.Bool.Decides.{nat_tests}
 use Rattle.t85_core.specs.Lent.{PieceView}
 use Rattle.t85_core.specs.Header.{Fields, is_variable}
 use Rattle.t85_core.specs.Options.{fields_of}
-use Rattle.t85_core.specs.Grammar.{AreStripes, stripe_bytes, stripe_count, all_segments, lengths, is_valid_length}
+use Rattle.t85_core.specs.Grammar.{AreStripes, stripe_bytes, stripe_count, all_segments, lengths}
 use Rattle.t85_core.specs.Height.{GivesHeight}
 use Rattle.t85_core.specs.Steps.State.{image_start}
 use Rattle.t85_core.specs.Pieces.{HoldsImage, MayFollow}
@@ -74,9 +74,8 @@ module _ (d d' : PieceView) (p : List ℕ) (is_all : Bool) (q : CoderLaws) (late
       look = over w.back more (subst (λ l. BehindStands h (behind_at (place_behind h d.walk.stage d.walk.entities) l) d.behind w.back) last w.behind) follows
 
       no_height : (n : ℕ) → GivesHeight h (w.done ++ ((w.back ++ p) ++ more)) n → ⊥
-      no_height n = never_behind (own_height d.header).accepted read.stripes look.segments look.last (read.many ∙ many) each (gives_none 0 0 (all_segments read.stripes) (omega arith) none)
-          (ap (λ z. z ++ ((w.back ++ p) ++ more)) done_is) look.are.comments look.are.legal
-          (λ m z valid e. look.no_height m z (subst (λ u. is_valid_length h u m ≡ true) same valid) e) look.no_comment look.rest_is
+      no_height n = never_behind (own_height d.header).accepted read.stripes (read.many ∙ many) each (gives_none 0 0 (all_segments read.stripes) (omega arith) none)
+          (ap (λ z. z ++ ((w.back ++ p) ++ more)) done_is) (subst (λ k. LookEnds h k ((w.back ++ p) ++ more)) (sym same) look)
 
   pub look_whole : EndsWhole is_all d p d.header.yd
   look_whole text out more s follows =

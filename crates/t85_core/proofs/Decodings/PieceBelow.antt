@@ -271,8 +271,8 @@ module _ (d d' : PieceView) (late : d.is_open ≡ true) (waits : d.waits ≡ tru
       same = came.many ∙ sym (in_code_entities d.walk.stage d.walk.entities gave.code)
 
       height : IsHeight H (w.done ++ ((w.back ++ p) ++ more)) d.header.yd
-      height = height_of_ended ok came.stripes look.segments look.last (came.many ∙ many) came.each (gives_none 0 0 (all_segments came.stripes) (omega arith) came.none)
-          (ap (λ z. z ++ ((w.back ++ p) ++ more)) came.text_is) look.are.comments look.are.legal (λ n z valid e. look.no_height n z (subst (λ m. is_valid_length H m n ≡ true) same valid) e) look.no_comment look.rest_is
+      height = height_of_ended ok came.stripes (came.many ∙ many) came.each (gives_none 0 0 (all_segments came.stripes) (omega arith) came.none)
+          (ap (λ z. z ++ ((w.back ++ p) ++ more)) came.text_is) (subst (λ k. LookEnds H k ((w.back ++ p) ++ more)) (sym same) look)
 
   -- ---- what its step leaves
 

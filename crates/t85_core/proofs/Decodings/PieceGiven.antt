@@ -72,7 +72,7 @@ height_broken h body f use_ b other n (inl g) = went (cases_eq n h.yd) where
   went : (n ≡ h.yd) ⊎ (n ≢ h.yd) → n ≡ h.yd
   went (inl e) = e
   went (inr different) = absurd (other (one_broken use_.accepted h.yd (stripe_count h.yd h.l0) (suits_in_use use_) b.stripes g.stripes
-      b.each g.each b.gives (gives_none h.yd 0 (all_segments g.stripes) (omega arith) none_before) (let less = b.fewer in omega (arith, less)) g.within b.tail_has (changed different) (sym b.bytes_are ∙ g.body_is)).broken.fault)
+      (record { each = b.each; gives = b.gives }) (record { each = g.each; gives = gives_none h.yd 0 (all_segments g.stripes) (omega arith) none_before }) (let less = b.fewer in omega (arith, less)) g.within b.tail_has (changed different) (sym b.bytes_are ∙ g.body_is)).broken.fault)
 
 -- what breaks before a code breaks so at each height, so a height is no such fault
 module _ (h : Fields) (place : Place) (moved : Bool) (fresh : place.given ≡ false) where

@@ -166,15 +166,14 @@ module _ (s : Settings) (form : Form) (width height' : ℕ) (in_old in_new out_o
         },
       )
 
-  pub encoded : {r : Result (Unit {0}) Fault} (held : List ℕ) → CodeDenotes → AreSettings s → is_low s height' ≡ false → IsSize width height' →
-      (reads_old reads_new writes_old writes_new : ℕ) →
+  pub encoded : {r : Result (Unit {0}) Fault} {reads_old reads_new writes_old writes_new : ℕ} (held : List ℕ) → CodeDenotes → AreSettings s → is_low s height' ≡ false → IsSize width height' →
       OnOk r (ImageCoded (layout_of form width height') (λ raster. jbg s raster) (passage in_old in_new out_old out_new)) →
       ((fault : PbmFault) → IsErrOf r (Pbm fault) → ImageShort s (layout_of form width height') (λ raster n. jbg_up_to s raster n) (λ raster. jbg s raster)
       (passage in_old in_new out_old out_new) fault) →
-      IfErr r IsEncodeFault → CountsBoth reads_old reads_new r → CountsWrite writes_old writes_new r → known_length out_old ≤ known_length out_new →
-      ImageFront (layout_of form width height') (λ raster. jbg s raster) (passage in_old in_new out_old (append_known out_new held)) →
+      IfErr r IsEncodeFault → CountsBoth reads_old reads_new r × CountsWrite writes_old writes_new r →
+      (known_length out_old ≤ known_length out_new) × ImageFront (layout_of form width height') (λ raster. jbg s raster) (passage in_old in_new out_old (append_known out_new held)) →
       Encode s (layout_of form width height') (between in_old in_new reads_old reads_new) (between out_old out_new writes_old writes_new) r
-  encoded {r} held law are low size reads_old reads_new writes_old writes_new ok short among reads writes grows begun = record {
+  encoded {r} held law are low size ok short among counts reached = record {
     low = λ e. absurd (none_low r among e);
     not_low = always r low;
     told_if_low = always_err r low;
@@ -182,10 +181,10 @@ module _ (s : Settings) (form : Form) (width height' : ℕ) (in_old in_new out_o
     taken = map_ok r (λ i. (i.read.given, i.read.taken, record { rows = i.rows; are_rows = i.read.are_rows; many = i.many })) ok;
     short = λ fault other e. code_short fault (short fault e) other;
     unread = λ e. code_unread (short pbm.Read e);
-    front = front_written held grows begun;
+    front = front_written held reached.0 reached.1;
     among = among_else r among;
-    reads = reads;
-    writes = writes;
+    reads = counts.0;
+    writes = counts.1;
   }
 
 -- the output before its loan, and at the loan's end

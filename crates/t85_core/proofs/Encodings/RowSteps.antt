@@ -1,7 +1,7 @@
 -- A row encoder, from row to row.
 use Rattle.t85_core.specs.Steps.DecodeRows.{IsCarried}
 use Rattle.std.proofs.Common.{slice_index_or, ◌≡◌, ℕ, zero, suc, ◌+◌, ◌-◌, ◌*◌, ◌^◌, ◌<◌, ◌≤◌, ◌⊎◌, inl, inr, nat_eq, true, false, Bool, List, [], ◌∷◌, ◌++◌, length, refl, sym, ◌∙◌, ap, subst, arith, Option, None, Some, append_assoc, append-nil, length-append}
-use Rattle.std.specs.Prelude.{if◌then◌else◌, is_some, unwrap_or, IfSome, ◌==◌}
+use Rattle.std.specs.Prelude.{Result, if◌then◌else◌, is_some, unwrap_or, IfSome, ◌==◌}
 use Rattle.std.specs.List.{AllByRecursion}
 use Rattle.std.specs.Io.KnownBytes.{Appends}
 use Rattle.std.proofs.lemmas.Bool.Decides.{nat_tests}
@@ -34,7 +34,7 @@ use Rattle.t85_core.specs.Steps.Sent.{Origin, Sends, SendsBeginning, here}
 use Rattle.t85_core.specs.Steps.RowStream.{StreamCut, HaveCome, StripesWhole}
 use Rattle.t85_core.specs.Steps.ByRow.{RowView, IsPlan, IsHeldBy, IsStart, Runs, Waits, Stands, counted_of, move_bytes, IsBelow, encoder_at}
 use Rattle.t85_core.specs.RowImage.{MayCome, Image}
-use Rattle.t85_core.specs.Steps.RowSteps.{MoveMade, MoveCut, RowPut, RowCut, StripeEnded, StripeBegun, StripesEnded}
+use Rattle.t85_core.specs.Steps.RowSteps.{MoveMade, MoveCut, RowPut, RowCut, CodeEnded, StripeEnded, StripeBegun, StripesEnded}
 use Rattle.t85_core.proofs.Bytes.Sendings.{Sends-more, Sends-keeps, sends_after, sends_longer, sent_here}
 use Rattle.t85_core.proofs.Encodings.RowsDown.{after_more, lines_more}
 use Rattle.t85_core.proofs.Encodings.RowShort.{rows_place, fails_begins}
@@ -196,15 +196,14 @@ module _ {image : Image} {rows : List (List Bool)} {v : RowView} {before : Held}
   counted_same : (kept : Kept) → kept.offset ≡ v.kept.offset → counted_of (record v { kept = kept }) ≡ counted_of v
   counted_same kept same = rw same
 
-  pub row_coded : {kept : Kept} {rows' in_stripe' : ℕ} → v.rows < v.plan.limit → v.in_stripe < v.plan.stripe_rows → v.plan.stripe_rows < 2 ^ 32 →
+  pub row_coded : {kept : Kept} → v.rows < v.plan.limit → v.in_stripe < v.plan.stripe_rows → v.plan.stripe_rows < 2 ^ 32 →
       (learned : List Estimate) (tally : Tally) (e : Encoder) →
-      rows' ≡ v.rows + 1 → in_stripe' ≡ v.in_stripe + 1 →
       RowPut (row_task v.plan.shape v.kept (record { place = b.state.place; learned = v.learned }) (lines_with b row)) r.pushed kept mid (encoder_state text' e learned) →
       ((lines : List Lines) (l : Lines) → length lines < 2 ^ 32 - 1 → HasLines window l → IsCountedTo v.plan.width (counted_of (record v { kept = kept })) v.tally lines →
       IsCountedTo v.plan.width (counted_of (record v { kept = kept })) tally (lines ++ l ∷ [])) →
       is_two_line tally ≡ is_two_line v.tally → most_of tally ≡ most_of v.tally →
-      Runs image (rows ++ row ∷ []) (record v { kept = kept; learned = learned; tally = tally; encoder = e; rows = rows'; in_stripe = in_stripe' }) window origin text'
-  row_coded {kept} left fewer few_rows learned tally e rows_is in_stripe_is put counts two_line most = record {
+      Runs image (rows ++ row ∷ []) (record v { kept = kept; learned = learned; tally = tally; encoder = e; rows = v.rows + 1; in_stripe = v.in_stripe + 1 }) window origin text'
+  row_coded {kept} left fewer few_rows learned tally e put counts two_line most = record {
     plan_is = r.plan_is;
     come = record {
       many = (let sum = length-append rows (row ∷ []) in omega (arith, sum));
@@ -372,14 +371,12 @@ module _ {image : Image} {rows : List (List Bool)} {v : RowView} {window : Held}
       lines_are = λ some'. absurd (let e : false ≡ true = counts some' in let bot : ⊥ = cc in bot);
     }
 
-  pub stripe_ended : {in_stripe : ℕ} {code : List ℕ} (laws : WritingLaws) (e : Encoder) (kept : Kept) (learned : List Estimate) (window' : Held) (text'' : Option (List ℕ)) →
-      in_stripe ≡ 0 →
+  pub stripe_ended : {kept : Kept} {learned : List Estimate} {window' : Held} {text'' : Option (List ℕ)} {E : Type 0} {answer : Result (Unit {0}) E} (laws : WritingLaws) (e : Encoder) →
       EncoderIsAt e start [] →
       ((last' : RowStart) → IsHeldBy None 0 last' v.kept v.learned window → IsHeldBy None 0 (first_row_start (next_stripe_start v.plan.width v.plan.reset last')) kept learned window') →
-      (more : List ℕ) → Rattle.qm_core.specs.Code.IsCode last.state.place code → r.pushed ++ more ≡ stuffed code ++ marker_bytes v.plan.reset → Appends mid text' more →
-      Rattle.std.specs.Io.KnownBytes.Keeps text' text'' →
-      StripeEnded image v.in_stripe rows (encoder_at (record v { kept = kept; learned = learned; encoder = e; in_stripe = in_stripe }) window' text'') origin
-  stripe_ended {in_stripe} laws e kept learned window' text'' none codes goes more is all put keeps = record {
+      (ended : CodeEnded last.state.place v.plan.reset r.pushed mid text' answer) → Appends mid text' ended.more → Rattle.std.specs.Io.KnownBytes.Keeps text' text'' →
+      StripeEnded image v.in_stripe rows (encoder_at (record v { kept = kept; learned = learned; encoder = e; in_stripe = 0 }) window' text'') origin
+  stripe_ended {kept} {learned} {window'} laws e codes goes ended put keeps = record {
     plan_is = r.plan_is;
     come = r.come;
     i = r.i;
@@ -392,7 +389,7 @@ module _ {image : Image} {rows : List (List Bool)} {v : RowView} {window : Held}
     many = sym r.in_stripe;
     some = some_part;
     few = r.few;
-    in_stripe = none;
+    in_stripe = refl;
     codes = codes;
     names_to = r.names_to;
     on_course = λ more'. record {
@@ -402,7 +399,7 @@ module _ {image : Image} {rows : List (List Bool)} {v : RowView} {window : Held}
       named_is = r.none_named ∙ sym (get_or_past image.settings.named (suc r.at.stripe) None (let is = r.stripes.stripe_is in omega arith));
     };
     sent = Sends-keeps
-        (subst (Sends origin text') (bytes_of laws more is all) (Sends-more more r.sent put)) keeps;
+        (subst (Sends origin text') (bytes_of laws ended.more ended.is ended.all) (Sends-more ended.more r.sent put)) keeps;
   }
 
   pub stripe_cut : {code more : List ℕ} (laws : WritingLaws) → Rattle.qm_core.specs.Code.IsCode last.state.place code → r.pushed ++ more ≡ stuffed code ++ marker_bytes v.plan.reset →

@@ -269,6 +269,17 @@ one_stripe_fault {h} {f} {g} ok height k n suits p q e =
 abbrev pub spot_on : ℕ → ℕ → ℕ → List Stripe → Spot
 spot_on height k n ss = spot_of height (k + length ss) (n + length (lengths (all_segments ss)))
 
+-- whole stripes after n heights
+pub record Wholes (h : Fields) (height n : ℕ) (ss : List Stripe) : Type 0 where
+  pub each : AllByRecursion (IsStripe h) ss
+  pub gives : GiveOnly height n (all_segments ss)
+
+first_whole : {h : Fields} {height n : ℕ} {s : Stripe} {ss : List Stripe} → Wholes h height n (s ∷ ss) → IsStripe h s × GiveOnly height n s.segments
+first_whole {height} {n} {s} {ss} w = (w.each.0, gives_left height n s.segments (all_segments ss) w.gives)
+
+rest_whole : {h : Fields} {height n : ℕ} {s : Stripe} {ss : List Stripe} → Wholes h height n (s ∷ ss) → Wholes h height (n + length (lengths s.segments)) ss
+rest_whole {height} {n} {s} {ss} w = record { each = w.each.1; gives = gives_right height n s.segments (all_segments ss) w.gives }
+
 module _ {h : Fields} (ok : IsAccepted h) (height most : ℕ) (suits : (k : ℕ) → k ≤ most → Suits h height k) where
   -- what is left after the first of them stands where it stood
   onward : (k n : ℕ) (s : Stripe) (ss : List Stripe) → spot_on height k n (s ∷ ss) ≡ spot_on height (suc k) (n + length (lengths s.segments)) ss
@@ -284,47 +295,42 @@ module _ {h : Fields} (ok : IsAccepted h) (height most : ℕ) (suits : (k : ℕ)
       let b : n + 0 ≡ n = omega arith in
       ap (λ u. spot_of height u (n + 0)) a ∙ ap (spot_of height k) b
 
-  first_gives : {n : ℕ} (s : Stripe) (ss : List Stripe) → GiveOnly height n (all_segments (s ∷ ss)) → GiveOnly height n s.segments
-  first_gives {n} s ss g = gives_left height n s.segments (all_segments ss) g
-
-  rest_gives : {n : ℕ} (s : Stripe) (ss : List Stripe) → GiveOnly height n (all_segments (s ∷ ss)) → GiveOnly height (n + length (lengths s.segments)) (all_segments ss)
-  rest_gives {n} s ss g = gives_right height n s.segments (all_segments ss) g
-
   -- whole stripes, or fewer and one that isn't whole
-  pub never_both : {tail : List ℕ} {f : Fault} (k n : ℕ) (ss ts : List Stripe) (x : List ℕ) → AllByRecursion (IsStripe h) ss → AllByRecursion (IsStripe h) ts →
-      GiveOnly height n (all_segments ss) →
+  never_both : {tail : List ℕ} {f : Fault} (k : ℕ) {n : ℕ} (ss ts : List Stripe) (x : List ℕ) → Wholes h height n ss → AllByRecursion (IsStripe h) ts →
       k + length ts ≤ most → length ts < length ss → StripeFault h (spot_on height k n ts) tail f → flat_map stripe_bytes ss ++ x ≡ flat_map stripe_bytes ts ++ tail → ⊥
-  never_both k n [] ts x p q g le less w e = omega arith
-  never_both {tail} {f} k n (s ∷ ss) [] x p q g le less w e =
-      no_stripe_in_fault ok height k n (suits k (omega arith)) s (flat_map stripe_bytes ss ++ x) p.0 (first_gives s ss g) (subst (λ u. StripeFault h u tail f) (here k n) w)
+  never_both k [] ts x p q le less w e = omega arith
+  never_both {tail} {f} k {n} (s ∷ ss) [] x p q le less w e =
+      let first = first_whole p in
+      no_stripe_in_fault ok height k n (suits k (omega arith)) s (flat_map stripe_bytes ss ++ x) first.0 first.1 (subst (λ u. StripeFault h u tail f) (here k n) w)
       (sym (append_assoc (stripe_bytes s) (flat_map stripe_bytes ss) x) ∙ e)
-  never_both {tail} {f} k n (s ∷ ss) (t ∷ ts) x p q g le less w e =
-      let first = one_stripe ok s t (flat_map stripe_bytes ss ++ x) (flat_map stripe_bytes ts ++ tail) p.0 q.0
+  never_both {tail} {f} k {n} (s ∷ ss) (t ∷ ts) x p q le less w e =
+      let first = one_stripe ok s t (flat_map stripe_bytes ss ++ x) (flat_map stripe_bytes ts ++ tail) p.each.0 q.0
       (sym (append_assoc (stripe_bytes s) (flat_map stripe_bytes ss) x) ∙ e ∙ append_assoc (stripe_bytes t) (flat_map stripe_bytes ts) tail) in
       let w' : StripeFault h (spot_on height (suc k) (n + length (lengths s.segments)) ts) tail f =
       subst (λ u. StripeFault h (spot_on height (suc k) (n + length (lengths u.segments)) ts) tail f) (sym first.0) (subst (λ u. StripeFault h u tail f) (onward k n t ts) w) in
-      never_both (suc k) (n + length (lengths s.segments)) ss ts x p.1 q.1 (rest_gives s ss g) (omega arith) (omega arith) w' first.1
+      never_both (suc k) ss ts x (rest_whole p) q.1 (omega arith) (omega arith) w' first.1
 
   -- two cuts that end in a stripe that isn't whole have the same stripes, and leave the same bytes
-  pub same_front : {x y : List ℕ} {f g : Fault} (k n : ℕ) (ss ts : List Stripe) → AllByRecursion (IsStripe h) ss → AllByRecursion (IsStripe h) ts → GiveOnly height n (all_segments ss) →
-      GiveOnly height n (all_segments ts) → k + length ss ≤ most → k + length ts ≤ most → StripeFault h (spot_on height k n ss) x f → StripeFault h (spot_on height k n ts) y g →
+  same_front : {x y : List ℕ} {f g : Fault} (k : ℕ) {n : ℕ} (ss ts : List Stripe) → Wholes h height n ss → Wholes h height n ts →
+      k + length ss ≤ most → k + length ts ≤ most → StripeFault h (spot_on height k n ss) x f → StripeFault h (spot_on height k n ts) y g →
       flat_map stripe_bytes ss ++ x ≡ flat_map stripe_bytes ts ++ y → (ss ≡ ts) × (x ≡ y)
-  same_front k n [] [] p q gs gt ls lt v w e = (refl, e)
-  same_front {x} {y} {g} k n (s ∷ ss) [] p q gs gt ls lt v w e =
-      absurd (no_stripe_in_fault ok height k n (suits k (omega arith)) s (flat_map stripe_bytes ss ++ x) p.0 (first_gives s ss gs) (subst (λ u. StripeFault h u y g) (here k n) w)
+  same_front k [] [] p q ls lt v w e = (refl, e)
+  same_front {x} {y} {g = g} k {n} (s ∷ ss) [] p q ls lt v w e =
+      let first = first_whole p in
+      absurd (no_stripe_in_fault ok height k n (suits k (omega arith)) s (flat_map stripe_bytes ss ++ x) first.0 first.1 (subst (λ u. StripeFault h u y g) (here k n) w)
       (sym (append_assoc (stripe_bytes s) (flat_map stripe_bytes ss) x) ∙ e))
-  same_front {x} {y} {f} k n [] (t ∷ ts) p q gs gt ls lt v w e =
-      absurd (no_stripe_in_fault ok height k n (suits k (omega arith)) t (flat_map stripe_bytes ts ++ y) q.0 (first_gives t ts gt) (subst (λ u. StripeFault h u x f) (here k n) v)
+  same_front {x} {y} {f} k {n} [] (t ∷ ts) p q ls lt v w e =
+      let first = first_whole q in
+      absurd (no_stripe_in_fault ok height k n (suits k (omega arith)) t (flat_map stripe_bytes ts ++ y) first.0 first.1 (subst (λ u. StripeFault h u x f) (here k n) v)
       (sym (append_assoc (stripe_bytes t) (flat_map stripe_bytes ts) y) ∙ sym e))
-  same_front {x} {y} {f} {g} k n (s ∷ ss) (t ∷ ts) p q gs gt ls lt v w e =
-      let first = one_stripe ok s t (flat_map stripe_bytes ss ++ x) (flat_map stripe_bytes ts ++ y) p.0 q.0
+  same_front {x} {y} {f} {g} k {n} (s ∷ ss) (t ∷ ts) p q ls lt v w e =
+      let first = one_stripe ok s t (flat_map stripe_bytes ss ++ x) (flat_map stripe_bytes ts ++ y) p.each.0 q.each.0
       (sym (append_assoc (stripe_bytes s) (flat_map stripe_bytes ss) x) ∙ e ∙ append_assoc (stripe_bytes t) (flat_map stripe_bytes ts) y) in
       let back = sym first.0 in
       let w' : StripeFault h (spot_on height (suc k) (n + length (lengths s.segments)) ts) y g =
       subst (λ u. StripeFault h (spot_on height (suc k) (n + length (lengths u.segments)) ts) y g) back (subst (λ u. StripeFault h u y g) (onward k n t ts) w) in
-      let gt' : GiveOnly height (n + length (lengths s.segments)) (all_segments ts) = subst (λ u. GiveOnly height (n + length (lengths u.segments)) (all_segments ts)) back (rest_gives t ts gt) in
-      let rest = same_front (suc k) (n + length (lengths s.segments)) ss ts p.1 q.1 (rest_gives s ss gs) gt' (omega arith) (omega arith)
-      (subst (λ u. StripeFault h u x f) (onward k n s ss) v) w' first.1 in
+      let q' : Wholes h height (n + length (lengths s.segments)) ts = subst (λ u. Wholes h height (n + length (lengths u.segments)) ts) back (rest_whole q) in
+      let rest = same_front (suc k) ss ts (rest_whole p) q' (omega arith) (omega arith) (subst (λ u. StripeFault h u x f) (onward k n s ss) v) w' first.1 in
       (ap (λ z. z ∷ ss) first.0 ∙ ap (λ z. t ∷ z) rest.0, rest.1)
 
   after_is : (ss : List Stripe) → spot_after height ss ≡ spot_on height 0 0 ss
@@ -339,18 +345,18 @@ module _ {h : Fields} (ok : IsAccepted h) (height most : ℕ) (suits : (k : ℕ)
       length ts ≤ most →
       length ts < length ss → StripeFault h (spot_after height ts) tail f → flat_map stripe_bytes ss ++ x ≡ flat_map stripe_bytes ts ++ tail → ⊥
   parts_or_fault {tail} {f} ss ts x p q g le less w e =
-      never_both 0 0 ss ts x p q g (omega arith) less (subst (λ u. StripeFault h u tail f) (after_is ts) w) e
+      never_both 0 ss ts x (record { each = p; gives = g }) q (omega arith) less (subst (λ u. StripeFault h u tail f) (after_is ts) w) e
 
   -- two cuts that end in a stripe that isn't whole are one
   pub record SameCut {x y : List ℕ} {f g : Fault} (ss ts : List Stripe) (v : StripeFault h (spot_after height ss) x f) (w : StripeFault h (spot_after height ts) y g) : Type 0 where
     pub stripes : ss ≡ ts
     pub broken : SameStripeFault v w
 
-  pub one_broken : {x y : List ℕ} {f g : Fault} (ss ts : List Stripe) → AllByRecursion (IsStripe h) ss → AllByRecursion (IsStripe h) ts → GiveOnly height 0 (all_segments ss) →
-      GiveOnly height 0 (all_segments ts) → length ss ≤ most → length ts ≤ most → (v : StripeFault h (spot_after height ss) x f) (w : StripeFault h (spot_after height ts) y g) →
+  pub one_broken : {x y : List ℕ} {f g : Fault} (ss ts : List Stripe) → Wholes h height 0 ss → Wholes h height 0 ts →
+      length ss ≤ most → length ts ≤ most → (v : StripeFault h (spot_after height ss) x f) (w : StripeFault h (spot_after height ts) y g) →
       flat_map stripe_bytes ss ++ x ≡ flat_map stripe_bytes ts ++ y → SameCut ss ts v w
-  one_broken {x} {y} {f} {g} ss ts p q gs gt ls lt v w e =
-      let front = same_front 0 0 ss ts p q gs gt (omega arith) (omega arith)
+  one_broken {x} {y} {f} {g} ss ts p q ls lt v w e =
+      let front = same_front 0 ss ts p q (omega arith) (omega arith)
       (subst (λ u. StripeFault h u x f) (after_is ss) v) (subst (λ u. StripeFault h u y g) (after_is ts) w) e in
       made ts front.0 y front.1 w
     where
@@ -423,19 +429,20 @@ pub stripe_in_fault : {h : Fields} {height n : ℕ} {tail : List ℕ} {f : Fault
 stripe_in_fault {height} {n} ok k suits s x p g q e = no_stripe_in_fault ok height k n suits s x p g q e
 
 module _ {h : Fields} (ok : IsAccepted h) (height most : ℕ) (suits : (k : ℕ) → k ≤ most → Suits h height k) where
-  first_on : (k n : ℕ) (ss ts : List Stripe) (x y : List ℕ) → AllByRecursion (IsStripe h) ss → AllByRecursion (IsStripe h) ts → GiveOnly height n (all_segments ss) →
+  first_on : (k : ℕ) {n : ℕ} (ss ts : List Stripe) (x y : List ℕ) → Wholes h height n ss → AllByRecursion (IsStripe h) ts →
       k + length ts ≤ most →
       (length ss ≤ length ts) ⊎ ((f : Fault) × StripeFault h (spot_on height k n ts) y f) → flat_map stripe_bytes ss ++ x ≡ flat_map stripe_bytes ts ++ y →
       (later : List Stripe) × (ts ≡ ss ++ later) × (x ≡ flat_map stripe_bytes later ++ y)
-  first_on k n [] ts x y p q g le w e = (ts, refl, e)
-  first_on k n (s ∷ ss) [] x y p q g le (inl m) e = absurd (omega arith)
-  first_on k n (s ∷ ss) [] x y p q g le (inr w) e =
-      absurd (no_stripe_in_fault ok height k n (suits k (omega arith)) s (flat_map stripe_bytes ss ++ x) p.0 (first_gives ok height most suits s ss g)
+  first_on k [] ts x y p q le w e = (ts, refl, e)
+  first_on k (s ∷ ss) [] x y p q le (inl m) e = absurd (omega arith)
+  first_on k {n} (s ∷ ss) [] x y p q le (inr w) e =
+      let first = first_whole p in
+      absurd (no_stripe_in_fault ok height k n (suits k (omega arith)) s (flat_map stripe_bytes ss ++ x) first.0 first.1
       (subst (λ u. StripeFault h u y w.0) (here ok height most suits k n) w.1) (sym (append_assoc (stripe_bytes s) (flat_map stripe_bytes ss) x) ∙ e))
-  first_on k n (s ∷ ss) (t ∷ ts) x y p q g le w e =
-      let first = one_stripe ok s t (flat_map stripe_bytes ss ++ x) (flat_map stripe_bytes ts ++ y) p.0 q.0
+  first_on k {n} (s ∷ ss) (t ∷ ts) x y p q le w e =
+      let first = one_stripe ok s t (flat_map stripe_bytes ss ++ x) (flat_map stripe_bytes ts ++ y) p.each.0 q.0
       (sym (append_assoc (stripe_bytes s) (flat_map stripe_bytes ss) x) ∙ e ∙ append_assoc (stripe_bytes t) (flat_map stripe_bytes ts) y) in
-      let rest = first_on (suc k) (n + length (lengths s.segments)) ss ts x y p.1 q.1 (rest_gives ok height most suits s ss g) (omega arith) (fewer first.0 w) first.1 in
+      let rest = first_on (suc k) ss ts x y (rest_whole p) q.1 (omega arith) (fewer first.0 w) first.1 in
       (rest.0, ap (λ z. z ∷ ts) (sym first.0) ∙ ap (λ z. s ∷ z) rest.1, rest.2)
     where
       fewer : s ≡ t → (length (s ∷ ss) ≤ length (t ∷ ts)) ⊎ ((f : Fault) × StripeFault h (spot_on height k n (t ∷ ts)) y f) →
@@ -451,7 +458,7 @@ module _ {h : Fields} (ok : IsAccepted h) (height most : ℕ) (suits : (k : ℕ)
   pub first_parts : (ss ts : List Stripe) (x y : List ℕ) → AllByRecursion (IsStripe h) ss → AllByRecursion (IsStripe h) ts → GiveOnly height 0 (all_segments ss) → length ts ≤ most →
       (length ss ≤ length ts) ⊎ ((f : Fault) × StripeFault h (spot_after height ts) y f) → flat_map stripe_bytes ss ++ x ≡ flat_map stripe_bytes ts ++ y →
       (later : List Stripe) × (ts ≡ ss ++ later) × (x ≡ flat_map stripe_bytes later ++ y)
-  first_parts ss ts x y p q g le w e = first_on 0 0 ss ts x y p q g (omega arith) (turned w) e where
+  first_parts ss ts x y p q g le w e = first_on 0 ss ts x y (record { each = p; gives = g }) q (omega arith) (turned w) e where
     turned : (length ss ≤ length ts) ⊎ ((f : Fault) × StripeFault h (spot_after height ts) y f) → (length ss ≤ length ts) ⊎ ((f : Fault) × StripeFault h (spot_on height 0 0 ts) y f)
     turned (inl m) = inl m
     turned (inr u) = inr (u.0, subst (λ z. StripeFault h z y u.0) (after_is ok height most suits ts) u.1)

@@ -5,13 +5,13 @@ use Rattle.byteorder.specs.Endian.{big_bytes}
 use Rattle.t85_core.specs.declared.fault.Fault.{Fault}
 use Rattle.t85_core.specs.declared.fault.Fault.TheVariants.{Changed}
 use Rattle.t85_core.specs.Header.{Fields, IsAccepted, is_variable}
-use Rattle.t85_core.specs.Grammar.{Segment, NewLength, segment_bytes, lengths, all_segments, stripe_count, is_valid_length, GiveOnly, Parts}
-use Rattle.t85_core.specs.Refusal.{spot_after, length_fault, StripeFault, BodyFault}
+use Rattle.t85_core.specs.Grammar.{Segment, NewLength, segment_bytes, lengths, all_segments, stripe_count, is_valid_length, Parts}
+use Rattle.t85_core.specs.Refusal.{spot_after, length_fault, StripeFault, StripesFault, BodyFault}
 use Rattle.t85_core.specs.Height.{GivesHeight, IsHeight}
 use Rattle.t85_core.specs.Laws.{IsInUse}
 use Rattle.t85_core.proofs.Bytes.Lengths.{lengths_append, gives_none, valid_parts, valid_in_use}
 use Rattle.t85_core.proofs.Walks.Segments.{length_changed}
-use Rattle.t85_core.proofs.Grammar.Cut.{one_number, Suits, spot_of, SameCut, one_broken, parts_or_fault}
+use Rattle.t85_core.proofs.Grammar.Cut.{one_number, Suits, spot_of, Wholes, SameCut, one_broken, parts_or_fault}
 
 -- a height in use is valid up to its last data entity
 pub suits_in_use : {h : Fields} {height : ℕ} → IsInUse h height → (k : ℕ) → k ≤ stripe_count height h.l0 → Suits h height k
@@ -26,7 +26,7 @@ module _ (h : Fields) (height : ℕ) (body : List ℕ) where
   pub one_fault_of : (f g : Fault) (u : IsInUse h height) (p : BodyFault h height body f) (q : BodyFault h height body g) →
       SameCut u.accepted height (stripe_count height h.l0) (suits_in_use u) p.stripes q.stripes p.tail_has q.tail_has
   one_fault_of f g u p q =
-      one_broken u.accepted height (stripe_count height h.l0) (suits_in_use u) p.stripes q.stripes p.each q.each p.gives q.gives
+      one_broken u.accepted height (stripe_count height h.l0) (suits_in_use u) p.stripes q.stripes (record { each = p.each; gives = p.gives }) (record { each = q.each; gives = q.gives })
       (omega arith) (omega arith) p.tail_has q.tail_has (sym p.bytes_are ∙ q.bytes_are)
 
 -- ---- heights that are given
@@ -72,14 +72,21 @@ module _ {h : Fields} (ok : IsAccepted h) (body : List ℕ) where
         omega arith);
   }
 
-  pub stripes_give_none : {n : ℕ} (g : GivesHeight h body n) → GiveOnly 0 0 (all_segments g.stripes)
-  stripes_give_none g = gives_none 0 0 (all_segments g.stripes) (omega arith) (none_left (all_segments g.stripes) g.segments g.first)
+  pub given_whole : {n : ℕ} (g : GivesHeight h body n) → Wholes h 0 0 g.stripes
+  given_whole g = record { each = g.each; gives = gives_none 0 0 (all_segments g.stripes) (omega arith) (none_left (all_segments g.stripes) g.segments g.first) }
+
+  -- at height 0, a body that breaks contains a height at its break or none
+  pub given_where_broken : {n count : ℕ} {f : Fault} (b : StripesFault h 0 count body f) (g : GivesHeight h body n) →
+      SameCut ok 0 (length b.stripes + length g.stripes) (never_suits h (length b.stripes + length g.stripes)) b.stripes g.stripes b.tail_has (given_breaks n g)
+  given_where_broken {n} b g =
+      one_broken ok 0 (length b.stripes + length g.stripes) (never_suits h (length b.stripes + length g.stripes)) b.stripes g.stripes
+      (record { each = b.each; gives = b.gives }) (given_whole g) (omega arith) (omega arith) b.tail_has (given_breaks n g) (sym b.bytes_are ∙ g.body_is)
 
   pub one_given : {a b : ℕ} → GivesHeight h body a → GivesHeight h body b → a ≡ b
   one_given {a} {b} p q =
       let most : ℕ = length p.stripes + length q.stripes in
       let cut = one_broken ok 0 (length p.stripes + length q.stripes) (never_suits h (length p.stripes + length q.stripes)) p.stripes q.stripes
-      p.each q.each (stripes_give_none p) (stripes_give_none q) (omega arith) (omega arith) (given_breaks a p) (given_breaks b q) (sym p.body_is ∙ q.body_is) in
+      (given_whole p) (given_whole q) (omega arith) (omega arith) (given_breaks a p) (given_breaks b q) (sym p.body_is ∙ q.body_is) in
       let w = valid_parts h (length p.stripes) a p.valid in
       let v = valid_parts h (length q.stripes) b q.valid in
       (one_number a b p.rest q.rest (omega arith) (omega arith) (ap (drop 2) cut.broken.rest)).0

@@ -11,15 +11,16 @@ use Rattle.t85_core.specs.Header.{Fields, IsAccepted, is_variable}
 use Rattle.t85_core.specs.Grammar.{Segment, NewLength, Move, Comment, segment_bytes, is_move, is_comment, lengths, Stripe, stripe_bytes, all_segments, stripe_count, is_valid_length, IsLegal, AreStripes, GiveOnly}
 use Rattle.t85_core.specs.Refusal.{rest_fault, StripesFault}
 use Rattle.t85_core.specs.Height.{GivesHeight, IsHeight}
+use Rattle.t85_core.specs.Steps.HeightWalk.{Comments, LookEnds}
 use Rattle.t85_core.proofs.Bytes.Elements.{all_right}
 use Rattle.t85_core.proofs.Bytes.Lengths.{lengths_append, legal_give_none, valid_parts}
 use Rattle.t85_core.proofs.Bytes.Lists.{All-append}
 use Rattle.t85_core.proofs.Walks.Segments.{row_of, comment_whole}
 use Rattle.t85_core.proofs.Bytes.Stuffing.{second}
-use Rattle.t85_core.proofs.Grammar.Cut.{one_segment, one_front, one_broken, parts_or_fault, no_segment_in_code, marker_no_segment, spot_of}
+use Rattle.t85_core.proofs.Grammar.Cut.{one_segment, one_front, parts_or_fault, no_segment_in_code, marker_no_segment, spot_of}
 use Rattle.t85_core.proofs.Grammar.Fronts.{AreBytes, Front, code_byte, end_marker, segment_at, front_of, four_back}
 use Rattle.t85_core.proofs.Grammar.Parsed.{Cut, enough, too_few, cut_of, shorter, segment_long}
-use Rattle.t85_core.proofs.Grammar.Heights.{never_suits, given_breaks, stripes_give_none}
+use Rattle.t85_core.proofs.Grammar.Heights.{never_suits, given_breaks, given_where_broken}
 
 module _ {h : Fields} (ok : IsAccepted h) where
   -- a valid height is at the front, or none is
@@ -54,12 +55,14 @@ module _ {h : Fields} (ok : IsAccepted h) where
 
   -- comments, and after them a valid height, or what is neither
   data Look (k : ℕ) (rest : List ℕ) : Type 0 where
-    found : (cs : List Segment) (n : ℕ) (more : List ℕ) → AllByRecursion (λ s. IsTrue (is_comment s)) cs → AllByRecursion (IsLegal h) cs → is_valid_length h k n ≡ true →
+    found : (cs : List Segment) (n : ℕ) (more : List ℕ) → Comments h cs → is_valid_length h k n ≡ true →
         rest ≡ flat_map segment_bytes cs ++ (segment_bytes (NewLength n) ++ more) → Look k rest
-    ended : (cs : List Segment) (last : List ℕ) → AllByRecursion (λ s. IsTrue (is_comment s)) cs → AllByRecursion (IsLegal h) cs →
-        ((n : ℕ) (more : List ℕ) → is_valid_length h k n ≡ true → last ≡ segment_bytes (NewLength n) ++ more → ⊥) →
-        ((text more : List ℕ) → length text < 2 ^ 32 → last ≡ segment_bytes (Comment text) ++ more → ⊥) →
-        rest ≡ flat_map segment_bytes cs ++ last → Look k rest
+    ended : LookEnds h k rest → Look k rest
+
+  ended_here : {k : ℕ} {rest : List ℕ} → ((n : ℕ) (more : List ℕ) → is_valid_length h k n ≡ true → rest ≡ segment_bytes (NewLength n) ++ more → ⊥) →
+      ((text more : List ℕ) → length text < 2 ^ 32 → rest ≡ segment_bytes (Comment text) ++ more → ⊥) → LookEnds h k rest
+  ended_here {rest} no_height no_comment =
+      record { segments = []; last = rest; are = record { comments = tt; legal = tt }; no_height = no_height; no_comment = no_comment; rest_is = refl }
 
   none_some : {f : Fault} → None ≡ Some f → ⊥
   none_some e = cc
@@ -69,15 +72,15 @@ module _ {h : Fields} (ok : IsAccepted h) where
   look_fault k rest = rest_fault h (spot_of 0 k 0) 1 false rest
 
   look_at : (fuel k : ℕ) (rest : List ℕ) → length rest ≤ fuel → AreBytes rest → Look k rest
-  look_at zero k [] le all = ended [] [] tt tt (λ n more v e. let l = ap length e in omega arith) (λ text more s e. let l : 0 ≡ length (segment_bytes (Comment text) ++ more) = ap length e in
-      omega arith) refl
+  look_at zero k [] le all =
+      ended (ended_here (λ n more v e. let l = ap length e in omega arith) (λ text more s e. let l : 0 ≡ length (segment_bytes (Comment text) ++ more) = ap length e in omega arith))
   look_at zero k (b ∷ rest) le all = absurd (omega arith)
   look_at (suc fuel) k rest le all = went (height_at k rest all) (λ r less a. look_at fuel k r less a) where
     went : HeightAt k rest → ((r : List ℕ) → length r ≤ fuel → AreBytes r → Look k r) → Look k rest
-    went (there n more v e) further = found [] n more tt tt v e
+    went (there n more v e) further = found [] n more (record { comments = tt; legal = tt }) v e
     went (nowhere never) further = look (look_fault k rest) refl where
       stop : ((text more : List ℕ) → length text < 2 ^ 32 → rest ≡ segment_bytes (Comment text) ++ more → ⊥) → Look k rest
-      stop not_comment = ended [] rest tt tt never not_comment refl
+      stop not_comment = ended (ended_here never not_comment)
 
       piece : Front h (spot_of 0 k 0) 1 false rest → Look k rest
       piece (code_byte b more small is) = stop (λ text z fits e. no_segment_in_code b more z (Comment text) (sym is ∙ e))
@@ -102,9 +105,19 @@ module _ {h : Fields} (ok : IsAccepted h) where
               joined : (cs : List Segment) (z : List ℕ) → at.more ≡ flat_map segment_bytes cs ++ z → rest ≡ flat_map segment_bytes (Comment text ∷ cs) ++ z
               joined cs z q = rw (is, q, ← append_assoc (segment_bytes (Comment text)) (flat_map segment_bytes cs) z)
 
+              one_more : (cs : List Segment) → Comments h cs → Comments h (Comment text ∷ cs)
+              one_more cs c = record { comments = (refl, c.comments); legal = (legal, c.legal) }
+
               next : Look k at.more → Look k rest
-              next (found cs n more c l v q) = found (Comment text ∷ cs) n more (refl, c) (legal, l) v (joined cs (segment_bytes (NewLength n) ++ more) q)
-              next (ended cs last c l no_height no_comment q) = ended (Comment text ∷ cs) last (refl, c) (legal, l) no_height no_comment (joined cs last q)
+              next (found cs n more c v q) = found (Comment text ∷ cs) n more (one_more cs c) v (joined cs (segment_bytes (NewLength n) ++ more) q)
+              next (ended l) = ended (record {
+                segments = Comment text ∷ l.segments;
+                last = l.last;
+                are = one_more l.segments l.are;
+                no_height = l.no_height;
+                no_comment = l.no_comment;
+                rest_is = joined l.segments l.last l.rest_is;
+              })
 
       look : (o : Option Fault) → look_fault k rest ≡ o → Look k rest
       look (Some f) q = stop (λ text z fits e. none_some (sym (comment_whole text z fits) ∙ subst (λ u. look_fault k u ≡ Some f) e q))
@@ -124,26 +137,30 @@ module _ {h : Fields} (ok : IsAccepted h) where
   pub comments_make_none : (cs : List Segment) → AllByRecursion (λ s. IsTrue (is_comment s)) cs → count_by is_move cs ≤ 1
   comments_make_none cs c = let e = no_moves cs c in omega arith
 
+  -- neither a valid height nor a comment is at the front
+  record NoSegment (k : ℕ) (last : List ℕ) : Type 0 where
+    no_height : (n : ℕ) (more : List ℕ) → is_valid_length h k n ≡ true → last ≡ segment_bytes (NewLength n) ++ more → ⊥
+    no_comment : (text more : List ℕ) → length text < 2 ^ 32 → last ≡ segment_bytes (Comment text) ++ more → ⊥
+
+  tail_of : {s : Segment} {cs : List Segment} → Comments h (s ∷ cs) → Comments h cs
+  tail_of c = record { comments = c.comments.1; legal = c.legal.1 }
+
   -- where the look ended there is no height
-  no_look : (k n : ℕ) (cs ds : List Segment) (last more : List ℕ) → AllByRecursion (λ s. IsTrue (is_comment s)) cs → AllByRecursion (IsLegal h) cs →
-      AllByRecursion (λ s. IsTrue (is_comment s)) ds → AllByRecursion (IsLegal h) ds →
-      is_valid_length h k n ≡ true →
-      ((n : ℕ) (more : List ℕ) → is_valid_length h k n ≡ true → last ≡ segment_bytes (NewLength n) ++ more → ⊥) →
-      ((text more : List ℕ) → length text < 2 ^ 32 → last ≡ segment_bytes (Comment text) ++ more → ⊥) →
+  no_look : {k : ℕ} {last : List ℕ} (n : ℕ) (cs ds : List Segment) (more : List ℕ) → Comments h cs → Comments h ds → is_valid_length h k n ≡ true → NoSegment k last →
       flat_map segment_bytes cs ++ last ≡ flat_map segment_bytes ds ++ (segment_bytes (NewLength n) ++ more) → ⊥
-  no_look k n [] [] last more c l d m valid no_height no_comment e = no_height n more valid e
-  no_look k n [] (Comment text ∷ ds) last more c l d m valid no_height no_comment e =
-      no_comment text (flat_map segment_bytes ds ++ (segment_bytes (NewLength n) ++ more)) m.0
+  no_look n [] [] more c d valid none e = none.no_height n more valid e
+  no_look n [] (Comment text ∷ ds) more c d valid none e =
+      none.no_comment text (flat_map segment_bytes ds ++ (segment_bytes (NewLength n) ++ more)) d.legal.0
       (e ∙ append_assoc (segment_bytes (Comment text)) (flat_map segment_bytes ds) (segment_bytes (NewLength n) ++ more))
-  no_look k n [] (s ∷ ds) last more c l d m valid no_height no_comment e = true≢false (sym d.0)
-  no_look k n (Comment text ∷ cs) [] last more c l d m valid no_height no_comment e = let s = second e in omega (arith, s)
-  no_look k n (Comment text ∷ cs) (Comment text' ∷ ds) last more c l d m valid no_height no_comment e =
-      let first = one_segment ok (Comment text) (Comment text') (flat_map segment_bytes cs ++ last) (flat_map segment_bytes ds ++ (segment_bytes (NewLength n) ++ more)) l.0 m.0
+  no_look n [] (s ∷ ds) more c d valid none e = true≢false (sym d.comments.0)
+  no_look n (Comment text ∷ cs) [] more c d valid none e = let s = second e in omega (arith, s)
+  no_look {last} n (Comment text ∷ cs) (Comment text' ∷ ds) more c d valid none e =
+      let first = one_segment ok (Comment text) (Comment text') (flat_map segment_bytes cs ++ last) (flat_map segment_bytes ds ++ (segment_bytes (NewLength n) ++ more)) c.legal.0 d.legal.0
       (sym (append_assoc (segment_bytes (Comment text)) (flat_map segment_bytes cs) last) ∙ e
       ∙ append_assoc (segment_bytes (Comment text')) (flat_map segment_bytes ds) (segment_bytes (NewLength n) ++ more)) in
-      no_look k n cs ds last more c.1 l.1 d.1 m.1 valid no_height no_comment first.1
-  no_look k n (Comment text ∷ cs) (s ∷ ds) last more c l d m valid no_height no_comment e = true≢false (sym d.0)
-  no_look k n (s ∷ cs) ds last more c l d m valid no_height no_comment e = true≢false (sym c.0)
+      no_look n cs ds more (tail_of c) (tail_of d) valid none first.1
+  no_look n (Comment text ∷ cs) (s ∷ ds) more c d valid none e = true≢false (sym d.comments.0)
+  no_look n (s ∷ cs) ds more c d valid none e = true≢false (sym c.comments.0)
 
   -- ---- the height
 
@@ -163,12 +180,9 @@ module _ {h : Fields} (ok : IsAccepted h) where
   header_height body never = (h.yd, inr (refl, never))
 
   -- No height is given where the look after the last stripe ended.
-  pub never_behind : {body rest : List ℕ} {n : ℕ} (ss : List Stripe) (cs : List Segment) (last : List ℕ) → length ss ≡ stripe_count h.yd h.l0 → AreStripes h ss →
-      GiveOnly 0 0 (all_segments ss) →
-      body ≡ flat_map stripe_bytes ss ++ rest → AllByRecursion (λ s. IsTrue (is_comment s)) cs → AllByRecursion (IsLegal h) cs →
-      ((n : ℕ) (more : List ℕ) → is_valid_length h (length ss) n ≡ true → last ≡ segment_bytes (NewLength n) ++ more → ⊥) →
-      ((text more : List ℕ) → length text < 2 ^ 32 → last ≡ segment_bytes (Comment text) ++ more → ⊥) → rest ≡ flat_map segment_bytes cs ++ last → GivesHeight h body n → ⊥
-  never_behind {body} {rest} {n} ss cs last many each gives is c l no_height no_comment e g = by (cases_lt (length g.stripes) (length ss)) where
+  pub never_behind : {body rest : List ℕ} {n : ℕ} (ss : List Stripe) → length ss ≡ stripe_count h.yd h.l0 → AreStripes h ss →
+      GiveOnly 0 0 (all_segments ss) → body ≡ flat_map stripe_bytes ss ++ rest → LookEnds h (length ss) rest → GivesHeight h body n → ⊥
+  never_behind {body} {rest} {n} ss many each gives is l g = by (cases_lt (length g.stripes) (length ss)) where
     by : (length g.stripes < length ss) ⊎ (length ss ≤ length g.stripes) → ⊥
     by (inl less) =
         parts_or_fault ok 0 (length ss) (never_suits h (length ss)) ss g.stripes rest each g.each gives
@@ -176,24 +190,17 @@ module _ {h : Fields} (ok : IsAccepted h) where
     by (inr more) =
         let same : length ss ≡ length g.stripes = omega arith in
         let front = one_front ok ss g.stripes rest (flat_map segment_bytes g.segments ++ (segment_bytes (NewLength n) ++ g.rest)) each g.each same (sym is ∙ g.body_is) in
-        no_look (length ss) n cs g.segments last g.rest c l (g.behind (sym same ∙ many)) g.begun.legal (rw same g.valid) no_height no_comment (sym e ∙ front.1)
+        no_look n l.segments g.segments g.rest l.are (record { comments = g.behind (sym same ∙ many); legal = g.begun.legal }) (rw same g.valid)
+        (record { no_height = l.no_height; no_comment = l.no_comment }) (sym l.rest_is ∙ front.1)
 
   -- and the header's is that of the image
-  pub height_of_ended : {body rest : List ℕ} (ss : List Stripe) (cs : List Segment) (last : List ℕ) → length ss ≡ stripe_count h.yd h.l0 → AreStripes h ss →
-      GiveOnly 0 0 (all_segments ss) →
-      body ≡ flat_map stripe_bytes ss ++ rest → AllByRecursion (λ s. IsTrue (is_comment s)) cs → AllByRecursion (IsLegal h) cs →
-      ((n : ℕ) (more : List ℕ) → is_valid_length h (length ss) n ≡ true → last ≡ segment_bytes (NewLength n) ++ more → ⊥) →
-      ((text more : List ℕ) → length text < 2 ^ 32 → last ≡ segment_bytes (Comment text) ++ more → ⊥) → rest ≡ flat_map segment_bytes cs ++ last → IsHeight h body h.yd
-  height_of_ended ss cs last many each gives is c l no_height no_comment e = inr (refl, λ other. never_behind ss cs last many each gives is c l no_height no_comment e)
+  pub height_of_ended : {body rest : List ℕ} (ss : List Stripe) → length ss ≡ stripe_count h.yd h.l0 → AreStripes h ss →
+      GiveOnly 0 0 (all_segments ss) → body ≡ flat_map stripe_bytes ss ++ rest → LookEnds h (length ss) rest → IsHeight h body h.yd
+  height_of_ended ss many each gives is l = inr (refl, λ other. never_behind ss many each gives is l)
 
   -- At height 0, a body that breaks with another error than that of a valid height contains none.
   pub height_of_broken : {body : List ℕ} {f : Fault} → StripesFault h 0 (stripe_count h.yd h.l0) body f → (f ≡ Changed → ⊥) → IsHeight h body h.yd
-  height_of_broken {body} b other = inr (refl, never) where
-    never : (n : ℕ) → GivesHeight h body n → ⊥
-    never n g =
-        let cut = one_broken ok 0 (length b.stripes + length g.stripes) (never_suits h (length b.stripes + length g.stripes)) b.stripes g.stripes
-        b.each g.each b.gives (stripes_give_none ok body g) (omega arith) (omega arith) b.tail_has (given_breaks ok body n g) (sym b.bytes_are ∙ g.body_is) in
-        other cut.broken.fault
+  height_of_broken {body} b other = inr (refl, λ n g. let cut = given_where_broken ok body b g in other cut.broken.fault)
 
   module _ (body : List ℕ) (all : AreBytes body) (variable : is_variable h ≡ true) where
     enough_there : (ss : List Stripe) (rest : List ℕ) → length ss ≡ stripe_count h.yd h.l0 → AreStripes h ss → GiveOnly 0 0 (all_segments ss) →
@@ -201,7 +208,7 @@ module _ {h : Fields} (ok : IsAccepted h) where
         (n : ℕ) × IsHeight h body n
     enough_there ss rest many each gives is = went (look_at (length rest) (length ss) rest (omega arith) (all_right (λ x. x < 256) (flat_map stripe_bytes ss) rest (rw (← is) all))) where
       went : Look (length ss) rest → (n : ℕ) × IsHeight h body n
-      went (found cs n more c l v e) = (
+      went (found cs n more c v e) = (
         n,
         inl (record {
           variable = variable;
@@ -210,14 +217,14 @@ module _ {h : Fields} (ok : IsAccepted h) where
           rest = more;
           body_is = rw (is, e);
           each = each;
-          begun = record { legal = l; one_move = comments_make_none cs c; bytes = tt };
-          first = both_none ss cs each l gives (rw comments_give_none tt);
+          begun = record { legal = c.legal; one_move = comments_make_none cs c.comments; bytes = tt };
+          first = both_none ss cs each c.legal gives (rw (comments_give_none cs c.comments) tt);
           within = omega arith;
-          behind = λ _. c;
+          behind = λ _. c.comments;
           valid = v;
         }),
       )
-      went (ended cs last c l no_height no_comment e) = (h.yd, height_of_ended ss cs last many each gives is c l no_height no_comment e)
+      went (ended l) = (h.yd, height_of_ended ss many each gives is l)
 
     broken_there : (f : Fault) → StripesFault h 0 (stripe_count h.yd h.l0) body f → (n : ℕ) × IsHeight h body n
     broken_there f b = went (height_at (length b.stripes) b.tail_has.rest rest_bytes) (is_nil_or b.tail_has.code) where
@@ -233,8 +240,7 @@ module _ {h : Fields} (ok : IsAccepted h) where
       -- what is given must stand where the fault is
       same : (n : ℕ) (g : GivesHeight h body n) → (b.tail_has.code ≡ []) × (length b.stripes ≡ length g.stripes) × (b.tail_has.rest ≡ segment_bytes (NewLength n) ++ g.rest)
       same n g =
-          let cut = one_broken ok 0 (length b.stripes + length g.stripes) (never_suits h (length b.stripes + length g.stripes)) b.stripes g.stripes
-          b.each g.each b.gives (stripes_give_none ok body g) (omega arith) (omega arith) b.tail_has (given_breaks ok body n g) (sym b.bytes_are ∙ g.body_is) in
+          let cut = given_where_broken ok body b g in
           (cut.broken.code, ap length cut.stripes, cut.broken.rest)
 
       went : HeightAt (length b.stripes) b.tail_has.rest → (b.tail_has.code ≡ []) ⊎ (b.tail_has.code ≡ [] → ⊥) → (n : ℕ) × IsHeight h body n

@@ -133,8 +133,8 @@ five : IsAccepted (narrow 5 128)
 five = narrow_is 5 128 (lit≤ tt) (lit< tt) (lit≤ tt) (lit< tt)
 
 above : IsHeight (narrow 5 128) (black ++ length_to 9 ++ 255 ∷ 2 ∷ []) 5
-above = height_of_ended five (stripe_of [] 192 ∷ []) [] (length_to 9 ++ 255 ∷ 2 ∷ []) refl
-    (begun_192, tt) (none_given 0 0 (lit≤ tt)) refl tt tt too_high no_comment refl
+above = height_of_ended five {rest = length_to 9 ++ 255 ∷ 2 ∷ []} (stripe_of [] 192 ∷ []) refl (begun_192, tt) (none_given 0 0 (lit≤ tt)) refl
+    (record { segments = []; last = length_to 9 ++ 255 ∷ 2 ∷ []; are = record { comments = tt; legal = tt }; no_height = too_high; no_comment = no_comment; rest_is = refl })
   where
     too_high : (n : ℕ) (more : List ℕ) → is_valid_length (narrow 5 128) 1 n ≡ true → length_to 9 ++ 255 ∷ 2 ∷ [] ≡ segment_bytes (NewLength n) ++ more → ⊥
     too_high n more valid e =

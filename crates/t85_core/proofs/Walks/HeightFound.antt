@@ -16,9 +16,8 @@ use Rattle.t85_core.specs.Steps.Buffers.{reading}
 use Rattle.t85_core.proofs.Bytes.Streams.{Consumes-more, known_behind, longer_or_all}
 use Rattle.t85_core.proofs.Bytes.Lengths.{lengths_append, gives_none, valid_parts}
 use Rattle.t85_core.proofs.Walks.Segments.{unnamed_spot, length_whole}
-use Rattle.t85_core.proofs.Grammar.Cut.{one_broken}
 use Rattle.t85_core.proofs.Bytes.Known.{counted-other}
-use Rattle.t85_core.proofs.Grammar.Heights.{never_suits, given_breaks, stripes_give_none}
+use Rattle.t85_core.proofs.Grammar.Heights.{given_where_broken}
 use Rattle.t85_core.proofs.Grammar.SomeHeight.{height_of_ended, comments_give_none, comments_make_none, no_moves}
 use Rattle.t85_core.proofs.Walks.Found.{same_rest, skips_longer}
 
@@ -98,8 +97,7 @@ module _ {h : Fields} (ok : IsAccepted h) where
     never n g = none_some (sym whole ∙ has) where
       cut : (q.stripes ≡ g.stripes) × (q.tail_has.code ≡ []) × (q.tail_has.rest ≡ segment_bytes (NewLength n) ++ g.rest)
       cut =
-          let c = one_broken ok 0 (length b.stripes + length g.stripes) (never_suits h (length b.stripes + length g.stripes)) b.stripes g.stripes
-          b.each g.each b.gives (stripes_give_none ok body g) (omega arith) (omega arith) b.tail_has (given_breaks ok body n g) (sym b.bytes_are ∙ g.body_is) in
+          let c = given_where_broken ok body b g in
           (c.stripes, c.broken.code, c.broken.rest)
 
       at : length g.stripes ≡ 0 + length q.stripes
@@ -195,8 +193,8 @@ module _ {h : Fields} (ok : IsAccepted h) where
     none_behind looked = known_behind (λ body. IsHeight h body h.yd) (LookEnds h to.entities) old mid (flat_map stripe_bytes before.stripes) before.taken looked height where
       height : (rest : List ℕ) → LookEnds h to.entities rest → IsHeight h (flat_map stripe_bytes before.stripes ++ rest) h.yd
       height rest l =
-          height_of_ended ok before.stripes l.segments l.last (before.count_is ∙ many) before.each (gives_none 0 0 (all_segments before.stripes) (omega arith) before.none) refl l.are.comments
-          l.are.legal (λ n z valid e. l.no_height n z (subst (λ k. is_valid_length h k n ≡ true) before.count_is valid) e) l.no_comment l.rest_is
+          height_of_ended ok before.stripes (before.count_is ∙ many) before.each (gives_none 0 0 (all_segments before.stripes) (omega arith) before.none) refl
+          (subst (λ k. LookEnds h k rest) (sym before.count_is) l)
 
     -- the look answered
     pub found_looking : (new : Option (List ℕ)) (height : Option ℕ) → IfSome height (LooksTo h to.entities mid new) → (height ≡ None → IfSome mid (LookEnds h to.entities)) →

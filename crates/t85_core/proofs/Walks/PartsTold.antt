@@ -164,10 +164,17 @@ module _ {stream : List ℕ} {w : PartWalk} {h : Fields} {ss : List Stripe} {gs 
   never_before zero most l n =
       let u = ungiven_of zero in
       let all = all_of u most in
-      never_behind p.header_of.accepted ss (gs ++ l.segments) l.last all p.each (gives_none 0 0 (all_segments ss) (omega arith) (none_left (all_segments ss) gs u.none)) body_apart
-      (All-append (λ s. IsTrue (is_comment s)) gs l.segments (comments_of u all) l.are.comments) (All-append (IsLegal h) gs l.segments p.begun.legal l.are.legal)
-      (λ n z valid e. l.no_height n z (subst (λ k. is_valid_length h k n ≡ true) (sym p.entities_are) valid) e) l.no_comment
-      (rw (l.rest_is, flat_map-append, append_assoc))
+      never_behind p.header_of.accepted ss all p.each (gives_none 0 0 (all_segments ss) (omega arith) (none_left (all_segments ss) gs u.none)) body_apart (record {
+        segments = gs ++ l.segments;
+        last = l.last;
+        are = record {
+          comments = All-append (λ s. IsTrue (is_comment s)) gs l.segments (comments_of u all) l.are.comments;
+          legal = All-append (IsLegal h) gs l.segments p.begun.legal l.are.legal;
+        };
+        no_height = λ n z valid e. l.no_height n z (subst (λ k. is_valid_length h k n ≡ true) (sym p.entities_are) valid) e;
+        no_comment = l.no_comment;
+        rest_is = rw (l.rest_is, flat_map-append, append_assoc);
+      })
 
   -- a height was seen there
   pub comes_looked : w.late_height ≡ 0 → stripe_count h.yd h.l0 ≤ w.entities → (n : ℕ) (left : List ℕ) → LooksTo h w.entities (Some (drop w.offset stream)) (Some left) n →

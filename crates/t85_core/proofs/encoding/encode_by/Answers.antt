@@ -18,8 +18,8 @@ returns-clause-outcome g c =
     (held_of c.encode_buffered.new.buffer.bytes c.encode_buffered.new.buffer.at c.encode_buffered.new.buffer.end) c.code_denotes.ensures (are_settings c.args.options.now)
     (sym c.is_low.ensures ∙ c.if-is_low.false)
     (record { width_from = c.args.size.some_width; width_to = c.args.size.not_too_wide; height_from = c.args.size.some_height; height_to = search rules })
-    _ _ _ _ c.encode_buffered.ensures.ok c.encode_buffered.ensures.short c.encode_buffered.ensures.among c.encode_buffered.ensures.reads c.encode_buffered.ensures.writes.0
-    (rw (text_unheld buffer.bytes buffer.at buffer.end (g.W.Output.view buffer.output.now).contents c.new-buffer.ensures.empty) c.encode_buffered.ensures.writes.1) c.encode_buffered.ensures.begun)
+    c.encode_buffered.ensures.ok c.encode_buffered.ensures.short c.encode_buffered.ensures.among (c.encode_buffered.ensures.reads, c.encode_buffered.ensures.writes.0)
+    (rw (text_unheld buffer.bytes buffer.at buffer.end (g.W.Output.view buffer.output.now).contents c.new-buffer.ensures.empty) c.encode_buffered.ensures.writes.1, c.encode_buffered.ensures.begun))
 
 pub returns-then-is_low-clause-outcome : goal.returns-then-is_low-clause-outcome
 returns-then-is_low-clause-outcome g c = told_low c.args.form c.args.size.width c.args.size.height _ _ _ _ c.args.size.some_width (sym c.is_low.ensures ∙ c.if-is_low.true)

@@ -1,5 +1,5 @@
 use Rattle.std.specs.Prelude.{OnErr, List, Bool, ◌++◌, ◌∷◌, []}
-use Rattle.std.proofs.Common.{refl, sym, subst, arith, ◌∙◌}
+use Rattle.std.proofs.Common.{sym, subst, arith, ◌∙◌}
 use Rattle.raster_core.specs.Packed.{Held}
 use Rattle.raster_core.specs.Window.{held}
 use Rattle.t85_core.specs.Steps.EncodeRows.{IsCountedTo}
@@ -28,7 +28,7 @@ pub returns-clause-ok : goal.returns-clause-ok
 returns-clause-ok g c image rows row before origin below r =
     let is = c.counted-counted.ensures.is c.args.learning.now in
     row_coded row (held c.args.window.now) _ below c.requires.lined.1 r c.requires.ready.0 c.requires.ready.1.fewer c.requires.ready.1.able.few_rows c.code_row.new.learned c.count_row.new.tally
-    c.code_row.new.encoder refl refl
+    c.code_row.new.encoder
     (c.in_ok-code_row.ensures.row (row_start_in image.settings image.width r.at r.part).state.place r.pushed (lines_with (row_start_in image.settings image.width r.at r.part) row) r.running.codes
     (lines_are row (held c.args.window.now) (g.P.ByteTarget.view c.args.target.now).text below c.requires.lined.1 r)).ok
     (λ lines l few has counted. rw (← is) (c.count_row.ensures.counts lines l few has (subst (λ o. IsCountedTo c.args.self.now.size.width o c.args.learning.now.tally lines) (sym is) counted)))

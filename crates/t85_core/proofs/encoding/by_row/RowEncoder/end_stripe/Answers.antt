@@ -1,5 +1,4 @@
 use Rattle.std.specs.Prelude.{OnErr, List, Bool, []}
-use Rattle.std.proofs.Common.{refl}
 use Rattle.raster_core.specs.Window.{held}
 use Rattle.t85_core.specs.Steps.Written.{row_start_in}
 use Rattle.t85_core.specs.Steps.Sent.{Origin}
@@ -25,10 +24,10 @@ returns-in_err-end_entity-clause-cut g c =
 pub returns-clause-ok : goal.returns-clause-ok
 returns-clause-ok g c = always c.write_held.result (λ image rows origin r.
     let e = c.in_ok-end_entity.ensures.ended (row_start_in image.settings image.width r.at r.part).state.place r.pushed (rw c.replace-encoder.ensures.value r.running.codes) in
-    stripe_ended _ c.requires.some r c.writing_laws.ensures c.replace-encoder.new.dest c.next_stripe.new.kept c.next_stripe.new.learned _ _ refl
+    stripe_ended _ c.requires.some r c.writing_laws.ensures c.replace-encoder.new.dest
     (rw c.replace-encoder.ensures.after c.start.ensures.codes)
     (λ last is. rw (← c.requires.lined.1) (held_by_carried (c.next_stripe.ensures.next last (carried_by_held is))))
-    e.more e.is e.all e.ok c.write_held.ensures.text)
+    e e.ok c.write_held.ensures.text)
 
 pub returns-clause-cut : goal.returns-clause-cut
 returns-clause-cut g c = always_err c.write_held.result (λ image rows origin r.
