@@ -27,6 +27,7 @@ pub mod PieceWalk
 pub mod PieceGiven
 pub mod PieceHeights
 pub mod PieceBehind
+pub mod HeadParts
 pub mod PieceAhead
 pub mod PieceLate
 pub mod PieceInTime

@@ -13,9 +13,10 @@ use Rattle.t85_core.specs.declared.segments.Code.{Code}
 use Rattle.t85_core.specs.declared.segments.Move.{Move}
 use Rattle.t85_core.specs.declared.pieces.End.{End}
 use Rattle.t85_core.specs.declared.pieces.PieceDecoder.{PieceDecoder}
-use Rattle.t85_core.specs.declared.pieces.behind.Behind.{Behind}
-use Rattle.t85_core.specs.declared.pieces.walk.Stage.{Stage}
+use Rattle.t85_core.specs.declared.pieces.head.Head.{Head}
 use Rattle.t85_core.specs.declared.pieces.walk.Walk.{Walk}
+use Rattle.t85_core.specs.declared.pieces.code.InCode.{InCode}
+use Rattle.t85_core.specs.Stages.{Kind, stage_kind, code_kind, stage_move, stage_comment, stage_row, place_from, stage_place, stage_first, stage_marker}
 
 -- a window of the same width over the same memory
 abbrev pub KeepsWindow : Window → Window → Type 0
@@ -46,7 +47,7 @@ carried_by window kept learned = record { held = held window; kept = kept; learn
 pub record WalkView : Type 0 where
   pub carried : Carried
   pub decoder : Decoder
-  pub stage : Stage
+  pub stage : Kind
   pub entities : ℕ
   pub left : ℕ
   pub given : Bool
@@ -61,16 +62,16 @@ abbrev pub walk_view : Walk → Held → List Estimate → WalkView
 walk_view w rows learned = record {
   carried = record { held = rows; kept = w.kept; learned = learned };
   decoder = w.decoder;
-  stage = w.stage;
+  stage = stage_kind w.stage;
   entities = w.entities;
   left = w.left;
   given = w.given;
-  at = w.at;
-  comment = w.comment;
-  row = w.row;
-  place = w.place;
-  first = w.first;
-  marker = w.marker;
+  at = stage_move w.stage;
+  comment = stage_comment w.stage;
+  row = stage_row w.stage;
+  place = stage_place w.stage;
+  first = stage_first w.stage;
+  marker = stage_marker w.stage;
 }
 
 abbrev pub walk_over : Walk → Window → List Estimate → WalkView
@@ -79,6 +80,35 @@ walk_over w window learned = walk_view w (held window) learned
 abbrev pub walk_lent : Walk → Lent → WalkView
 walk_lent w lent = walk_over w lent.window.now lent.learned.now
 
+-- where a stripe is: how many stripe data entities are before it, how many rows are not in them, and whether there was a height
+pub record StripeAt : Type 0 where
+  pub entities : ℕ
+  pub left : ℕ
+  pub given : Bool
+
+-- how far a stream has been decoded, in the code of a stripe
+abbrev pub code_view : StripeAt → InCode → Kept → Decoder → Held → List Estimate → WalkView
+code_view s c kept decoder rows learned = record {
+  carried = record { held = rows; kept = kept; learned = learned };
+  decoder = decoder;
+  stage = code_kind c.begun;
+  entities = s.entities;
+  left = s.left;
+  given = s.given;
+  at = c.at;
+  comment = 0;
+  row = c.row;
+  place = place_from c.begun;
+  first = c.first;
+  marker = c.marker;
+}
+
+abbrev pub code_over : StripeAt → InCode → Kept → Decoder → Window → List Estimate → WalkView
+code_over s c kept decoder window learned = code_view s c kept decoder (held window) learned
+
+abbrev pub code_lent : StripeAt → InCode → Kept → Decoder → Lent → WalkView
+code_lent s c kept decoder lent = code_over s c kept decoder lent.window.now lent.learned.now
+
 -- a decoder in pieces, with these
 pub record PieceView : Type 0 where
   pub header : Header
@@ -86,7 +116,7 @@ pub record PieceView : Type 0 where
   pub walk : WalkView
   pub is_open : Bool
   pub waits : Bool
-  pub behind : Behind
+  pub behind : Head
   pub end : Option End
 
 -- whether it waits for the bytes behind an end marker, or for a height before the first stripe

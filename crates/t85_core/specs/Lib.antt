@@ -19,6 +19,7 @@ pub mod Info
 pub mod Parts
 pub mod Decode
 pub mod Outcomes
+pub mod Stages
 pub mod Lent
 pub mod Pieces
 pub mod Feeds

@@ -6,14 +6,14 @@ use Rattle.raster_core.specs.Row.{row_place_numbers}
 use Rattle.t85_core.specs.declared.pieces.PieceDecoder.{PieceDecoder}
 use Rattle.t85_core.specs.declared.pieces.numbers.MoveNumbers.{MoveNumbers}
 use Rattle.t85_core.specs.declared.pieces.numbers.PieceNumbers.{PieceNumbers}
-use Rattle.t85_core.specs.declared.pieces.walk.Stage.{Stage}
 use Rattle.t85_core.specs.declared.pieces.walk.Walk.{Walk}
-use Rattle.t85_core.specs.declared.pieces.walk.Stage.TheVariants as stage
+use Rattle.t85_core.specs.Stages.{Kind, stage_kind, stage_move, stage_comment, stage_row, stage_place, stage_first, stage_marker}
+use Rattle.t85_core.specs.Stages as stage
 use Rattle.t85_core.specs.declared.segments.Code.{Code}
 use Rattle.t85_core.specs.declared.segments.Code.TheVariants as code
 use Rattle.t85_core.specs.declared.segments.Move.{Move}
 
-abbrev pub stage_number : Stage → ℕ
+abbrev pub stage_number : Kind → ℕ
 stage_number stage.Head = 0
 stage_number stage.Comment = 1
 stage_number stage.Code = 2
@@ -48,16 +48,16 @@ piece_numbers d = record {
   move_behind = move_numbers d.behind.at;
   has_comment_behind = is_some d.behind.comment;
   comment_behind = unwrap_or d.behind.comment 0;
-  stage = stage_number d.walk.stage;
+  stage = stage_number (stage_kind d.walk.stage);
   entities = d.walk.entities;
   left = d.walk.left;
   is_given = d.walk.given;
-  move_here = move_numbers d.walk.at;
-  comment = d.walk.comment;
-  row = d.walk.row;
-  place = row_place_numbers d.walk.place;
-  ahead = code_number d.walk.first;
-  marker = marker_number d.walk.marker;
+  move_here = move_numbers (stage_move d.walk.stage);
+  comment = stage_comment d.walk.stage;
+  row = stage_row d.walk.stage;
+  place = row_place_numbers (stage_place d.walk.stage);
+  ahead = code_number (stage_first d.walk.stage);
+  marker = marker_number (stage_marker d.walk.stage);
   offset = d.walk.kept.offset;
   is_previous_typical = d.walk.kept.previous_typical;
   decoder = decoder_registers d.walk.decoder;

@@ -17,7 +17,7 @@ use Rattle.t85_core.specs.Consumed.{ConsumesImage}
 use Rattle.t85_core.specs.Height.{IsHeight, IsOpen}
 use Rattle.t85_core.specs.Denotes.{DenotesAt}
 use Rattle.t85_core.specs.Fixed.{Fixes}
-use Rattle.t85_core.specs.Outcomes.{end_told}
+use Rattle.t85_core.specs.Outcomes.{end_in, end_told}
 use Rattle.t85_core.specs.Steps.Pieces.{HasMarker}
 use Rattle.t85_core.specs.Steps.PieceStands.{DecoderStands, entities_behind}
 
@@ -110,8 +110,7 @@ is_last_piece more.None = true
 abbrev pub call_of : List ℕ → Bool → Progress → PieceView → Call
 call_of piece is_all progress new = record { piece = piece; is_all = is_all; taken = progress.taken; answer = progress.outcome; new = new }
 
--- ---- the effect, where `Before` and `After` say which bytes were consumed, and which rows returned, before the call and with
--- it
+-- ---- the effect, where `Before` and `After` say which bytes were consumed, and which rows returned, before and with the call
 
 -- one more row was returned
 abbrev pub GivesRow : (Before After : List ℕ → List ℕ → Type 0) → Call → Type 0
@@ -165,6 +164,8 @@ pub record IsCallBy (Before After : List ℕ → List ℕ → Type 0) (stored : 
   pub ends : call.is_all ≡ true → call.answer ≢ outcome.More
   -- the unconsumed bytes begin an escape code or a marker segment
   pub few_left : call.answer ≡ outcome.More → length call.piece ≤ call.taken + 7
+  -- an end is stored, for the next call
+  pub ended : call.new.end ≡ end_in call.answer
   pub again : EndsAgain old call
   pub row : GivesRow Before After call
   pub waits : RowsWait Before old call

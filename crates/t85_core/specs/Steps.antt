@@ -14,6 +14,7 @@ pub mod DecodeStripes
 pub mod PieceCode
 pub mod SizedImage
 pub mod Pieces
+pub mod StripeEnds
 pub mod InTime
 pub mod Reading
 pub mod Behind

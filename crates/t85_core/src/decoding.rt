@@ -17,7 +17,7 @@ ghost use Rattle.t85_core.specs.Steps.Reading.{HeldTurn, ReadTurn, RowsTurn, Sam
 ghost use Rattle.t85_core.specs.Failures.{CountsBoth, SameOutput};
 ghost use Rattle.t85_core.specs.declared.fault.Fault.{Fault};
 ghost use Rattle.t85_core.specs.declared.fault.Fault.TheVariants.{Read, Truncated, Write};
-ghost use Rattle.t85_core.specs.declared.pieces.walk.Stage.TheVariants as stage;
+ghost use Rattle.t85_core.specs.Stages as stage;
 
 pub mod rows;
 
@@ -219,7 +219,7 @@ fn next_row<S: HeldSource>(
 ) -> Result<bool, Fault>
     ensures turn { ReadTurn (sized_of image.now) (over walk.old lent.old)
         (over walk.new lent.new) (S.view stream.old) (S.view stream.new) result }
-    ensures code { result ≡ Ok true → walk.new.stage ≡ stage.Code }
+    ensures code { result ≡ Ok true → (over walk.new lent.new).stage ≡ stage.Code }
 {
     'turns: loop {
         match turn_held(image, walk, lent, stream) {
@@ -244,7 +244,7 @@ fn turn_held<S: HeldSource>(
     ensures still { still_left (S.view stream.new) (S.bytes stream.new) ≡
         still_left (S.view stream.old) (S.bytes stream.old) }
     ensures same { SameSource (S.view stream.old) (S.view stream.new) }
-    ensures code { result ≡ Ok true → walk.new.stage ≡ stage.Code }
+    ensures code { result ≡ Ok true → (over walk.new lent.new).stage ≡ stage.Code }
 {
     let mut piece = Piece {
         rest: stream.held(),

@@ -57,7 +57,8 @@ pub trait HeldSource {
             result };
 }
 
-/// A buffer in front of an input. The input is read only when a byte is needed and none is buffered.
+/// A buffer in front of an input. The input is read only when the buffer lacks a byte that the decoder needs, or the rest of
+/// an escape code or a marker segment.
 #[derive(Drop)]
 pub struct InputBuffer<'a, R: Input, const SIZE: usize> {
     input: &'a mut R,

@@ -6,8 +6,8 @@ ghost use Rattle.raster_core.specs.Packed.{Held};
 ghost use Rattle.raster_core.specs.Window.{width_of};
 ghost use Rattle.t85_core.specs.Outcomes.{end_in};
 
-pub mod behind;
 pub mod code;
+pub mod head;
 pub mod held;
 pub mod numbers;
 pub mod piece;
@@ -19,7 +19,7 @@ pub mod walk;
 use crate::fault::Fault;
 use crate::header::{Header, SizedImage};
 use crate::lent::Lent;
-use crate::pieces::behind::Behind;
+use crate::pieces::head::Head;
 use crate::pieces::piece::Piece;
 use crate::pieces::walk::Walk;
 use qm_core::Learned;
@@ -79,9 +79,10 @@ pub struct PieceDecoder {
     walk: Walk,
     /// Whether a height may still arrive.
     is_open: bool,
-    /// Whether the walk is waiting for the bytes behind an end marker, which `behind` parses.
+    /// Whether the walk is waiting for the bytes behind an end marker, or before the first stripe.
     waits: bool,
-    behind: Behind,
+    /// The marker segments of the next stripe that have arrived there.
+    behind: Head,
     /// How the stream has ended, if it has.
     end: Option<End>,
     ghost from: { 1 ≤ height },
@@ -111,7 +112,7 @@ impl PieceDecoder {
             walk: Walk::start(&image, &mut lent),
             is_open,
             waits: is_open,
-            behind: Behind::start(),
+            behind: Head::start(),
             end: None,
         }
     }

@@ -4,14 +4,14 @@ use Rattle.std.specs.Prelude.{IfSome, IsTrue, flat_map, is_some}
 use Rattle.std.specs.List.{AllByRecursion}
 use Rattle.std.proofs.lemmas.List.{length-replicate}
 use Rattle.byteorder.specs.Endian.{big_bytes}
-use Rattle.t85_core.specs.declared.pieces.behind.Behind.{Behind}
+use Rattle.t85_core.specs.declared.pieces.head.Head.{Head}
 use Rattle.t85_core.specs.declared.segments.Move as move
 use Rattle.t85_core.specs.declared.segments.Place.{Place}
 use Rattle.t85_core.specs.Header.{Fields}
 use Rattle.t85_core.specs.Consumed.{AreComments}
 use Rattle.t85_core.specs.Grammar.{Move, Comment, ESC, COMMENT, is_comment, segment_bytes, IsLegal}
 use Rattle.t85_core.specs.Steps.Segments.{HasPassed, segments_so_far}
-use Rattle.t85_core.specs.Steps.Behind.{BehindStands, BehindOn, CommentBegun, move_came, behind_at}
+use Rattle.t85_core.specs.Steps.Behind.{BehindPlace, BehindStands, BehindOn, CommentBegun, move_came, behind_at, place_at_head}
 use Rattle.t85_core.proofs.Walks.Passed.{passed_none, passed_move, passed_comment}
 use Rattle.t85_core.proofs.Decodings.PieceHead.{passed_ext, whole_segment}
 
@@ -24,26 +24,26 @@ or_false true = refl
 or_false false = refl
 
 -- nothing came yet
-pub behind_first : (h : Fields) (place : Place) (last : Bool) (b : Behind) → place.given ≡ false → b.at ≡ None → b.comment ≡ None → BehindStands h (behind_at place last) b []
-behind_first h place last b fresh at comment = record {
+pub behind_first : (h : Fields) (place : Place) (last : Bool) (b : Head) → b.at ≡ None → b.comment ≡ None → BehindStands h (behind_at place last) b []
+behind_first h place last b at comment = record {
   front = [];
   comments = 0;
-  passed = subst (λ z. HasPassed h place last (Some []) (Some []) (segments_so_far z (move_came last z) false 0)) (sym at) (subst (λ m. HasPassed h place last (Some []) (Some []) (segments_so_far None m false 0)) (sym (or_false last))
-      (subst (λ g. HasPassed h place last (Some []) (Some []) (segments_so_far None last g 0)) fresh (passed_none h place last (Some []))));
+  passed = subst (λ z. HasPassed h place last (Some []) (Some []) (segments_so_far z (move_came last z) place.given 0)) (sym at)
+      (subst (λ m. HasPassed h place last (Some []) (Some []) (segments_so_far None m place.given 0)) (sym (or_false last)) (passed_none h place last (Some [])));
   at_is = subst (λ z. IfSome z (λ to. to.offset ≤ 127)) (sym at) tt;
   begun = subst (λ z. CommentBegun z [] []) (sym comment) refl;
 }
 
 -- nothing was taken
-pub behind_stays : (h : Fields) (place : Place) (last : Bool) (b : Behind) (p : List ℕ) → BehindOn h (behind_at place last) b b p p
-behind_stays h place last b p back s = ([], refl, subst (BehindStands h (behind_at place last) b) (sym (append-nil back)) s)
+pub behind_stays : (h : Fields) (here : BehindPlace) (b : Head) (p : List ℕ) → BehindOn h here b b p p
+behind_stays h here b p back s = ([], refl, subst (BehindStands h here b) (sym (append-nil back)) s)
 
-pub behind_then : (h : Fields) (place : Place) (last : Bool) (b b1 b2 : Behind) (p p1 p2 : List ℕ) → BehindOn h (behind_at place last) b b1 p p1 → BehindOn h (behind_at place last) b1 b2 p1 p2 → BehindOn h (behind_at place last) b b2 p p2
-behind_then h place last b b1 b2 p p1 p2 on next back s =
+pub behind_then : {h : Fields} {here : BehindPlace} {b b1 b2 : Head} {p p1 : List ℕ} (p2 : List ℕ) → BehindOn h here b b1 p p1 → BehindOn h here b1 b2 p1 p2 → BehindOn h here b b2 p p2
+behind_then {h} {here} {b2 = b2} p2 on next back s =
     let a = on back s in
-    let k = next (back ++ a.0) a.2 in (a.0 ++ k.0, a.1 ∙ ap (λ z. a.0 ++ z) k.1 ∙ sym (append_assoc a.0 k.0 p2), subst (BehindStands h (behind_at place last) b2) (append_assoc back a.0 k.0) k.2)
+    let k = next (back ++ a.0) a.2 in (a.0 ++ k.0, a.1 ∙ ap (λ z. a.0 ++ z) k.1 ∙ sym (append_assoc a.0 k.0 p2), subst (BehindStands h here b2) (append_assoc back a.0 k.0) k.2)
 
-module _ {h : Fields} {place : Place} {last : Bool} {b : Behind} {back : List ℕ} (s : BehindStands h (behind_at place last) b back) where
+module _ {h : Fields} {here : BehindPlace} {b : Head} {back : List ℕ} (s : BehindStands h here b back) where
   -- ---- a comment
 
   abbrev pub Part : ℕ → Type 0
@@ -82,7 +82,7 @@ module _ {h : Fields} {place : Place} {last : Bool} {b : Behind} {back : List �
       ∙ ap (λ z. s.front ++ (ESC ∷ COMMENT ∷ z)) (append_assoc (big_bytes 4 (length k.0 + left)) k.0 more)
 
   -- more of it came
-  pub behind_more : (left : ℕ) → b.comment ≡ Some left → (more : List ℕ) (left' : ℕ) → length more + left' ≡ left → BehindStands h (behind_at place last) (record { at = b.at; comment = Some left' }) (back ++ more)
+  pub behind_more : (left : ℕ) → b.comment ≡ Some left → (more : List ℕ) (left' : ℕ) → length more + left' ≡ left → BehindStands h here (record { at = b.at; comment = Some left' }) (back ++ more)
   behind_more left is more left' e =
       let k = part_of left is in
       let long = length-append k.0 more in
@@ -96,7 +96,7 @@ module _ {h : Fields} {place : Place} {last : Bool} {b : Behind} {back : List �
       }
 
   -- its rest came
-  pub behind_ends : (left : ℕ) → b.comment ≡ Some left → (more : List ℕ) → length more ≡ left → BehindStands h (behind_at place last) (record { at = b.at; comment = None }) (back ++ more)
+  pub behind_ends : (left : ℕ) → b.comment ≡ Some left → (more : List ℕ) → length more ≡ left → BehindStands h here (record { at = b.at; comment = None }) (back ++ more)
   behind_ends left is more e =
       let k = part_of left is in
       let long = length-append k.0 more in
@@ -116,7 +116,7 @@ module _ {h : Fields} {place : Place} {last : Bool} {b : Behind} {back : List �
     front_is = subst (λ z. CommentBegun z s.front back) between s.begun
 
     -- the length of a comment was read
-    pub behind_enters : (n : ℕ) → n < 2 ^ 32 → BehindStands h (behind_at place last) (record { at = b.at; comment = Some n }) (back ++ (ESC ∷ COMMENT ∷ big_bytes 4 n))
+    pub behind_enters : (n : ℕ) → n < 2 ^ 32 → BehindStands h here (record { at = b.at; comment = Some n }) (back ++ (ESC ∷ COMMENT ∷ big_bytes 4 n))
     behind_enters n small = record {
       front = s.front;
       comments = s.comments;
@@ -130,18 +130,18 @@ module _ {h : Fields} {place : Place} {last : Bool} {b : Behind} {back : List �
     }
 
     -- a move
-    pub behind_move : (to : move.Move) → move_came last b.at ≡ false → IsLegal h (Move to.row to.offset) → to.offset ≤ 127 → BehindStands h (behind_at place last) (record { at = Some to; comment = b.comment }) (back ++ segment_bytes (Move to.row to.offset))
+    pub behind_move : (to : move.Move) → move_came here.last b.at ≡ false → IsLegal h (Move to.row to.offset) → to.offset ≤ 127 → BehindStands h here (record { at = Some to; comment = b.comment }) (back ++ segment_bytes (Move to.row to.offset))
     behind_move to none legal low = record {
       front = s.front ++ segment_bytes (Move to.row to.offset);
       comments = s.comments;
-      passed = subst (λ m. HasPassed h place last (Some (s.front ++ segment_bytes (Move to.row to.offset))) (Some []) (segments_so_far (Some to) m false s.comments)) (sym (or_true last))
+      passed = subst (λ m. HasPassed h (place_at_head here) here.last (Some (s.front ++ segment_bytes (Move to.row to.offset))) (Some []) (segments_so_far (Some to) m here.place.given s.comments)) (sym (or_true here.last))
           (passed_move (passed_ext s.passed (segment_bytes (Move to.row to.offset))) to none (whole_segment (Move to.row to.offset) legal));
       at_is = low;
       begun = subst (λ z. CommentBegun z (s.front ++ segment_bytes (Move to.row to.offset)) (back ++ segment_bytes (Move to.row to.offset))) (sym between) (ap (λ z. z ++ segment_bytes (Move to.row to.offset)) front_is);
     }
 
     -- a comment
-    pub behind_comment : (x : List ℕ) → length x < 2 ^ 32 → BehindStands h (behind_at place last) b (back ++ segment_bytes (Comment x))
+    pub behind_comment : (x : List ℕ) → length x < 2 ^ 32 → BehindStands h here b (back ++ segment_bytes (Comment x))
     behind_comment x legal = record {
       front = s.front ++ segment_bytes (Comment x);
       comments = min (s.comments + 1) (2 ^ 64 - 1);

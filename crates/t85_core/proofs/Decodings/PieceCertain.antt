@@ -9,8 +9,8 @@ use Rattle.qm_core.specs.Code.{stuffed}
 use Rattle.qm_core.specs.Source.{bytes_of}
 use Rattle.qm_core.specs.declared.source.Pulled.{Pulled}
 use Rattle.t85_core.specs.Lent.{PieceView, WalkView, Carried}
-use Rattle.t85_core.specs.declared.pieces.behind.Behind.{Behind}
-use Rattle.t85_core.specs.declared.pieces.walk.Stage.TheVariants as stage
+use Rattle.t85_core.specs.declared.pieces.head.Head.{Head}
+use Rattle.t85_core.specs.Stages as stage
 use Rattle.t85_core.specs.declared.segments.Code as code_type
 use Rattle.t85_core.specs.declared.segments.Code.TheVariants as code
 use Rattle.t85_core.specs.declared.segments.Move as move
@@ -23,7 +23,7 @@ use Rattle.t85_core.specs.Pieces.{IsLeastHeight}
 use Rattle.t85_core.specs.Steps.State.{image_start}
 use Rattle.t85_core.specs.Steps.Segments.{HasPassed, segments_so_far}
 use Rattle.t85_core.specs.Steps.PieceCode.{CodeText}
-use Rattle.t85_core.specs.Steps.Pieces.{HeadStands, WalkStands, IsInCode, HasMarker, CodeStands, InRowStands, head_place, code_place}
+use Rattle.t85_core.specs.Steps.Pieces.{HeadStands, IsInCode, HasMarker, CodeStands, InRowStands, head_place, code_place}
 use Rattle.t85_core.specs.Steps.SizedImage.{sized}
 use Rattle.t85_core.specs.Steps.PieceStands.{DecoderStands, HeightKnown, CodeWalks, WalkWaits, IsAtMarker, entities_behind, is_last, place_behind, last_behind}
 use Rattle.t85_core.specs.Steps.Behind.{BehindStands, behind_at}
@@ -40,7 +40,7 @@ use Rattle.t85_core.proofs.Decodings.PieceGiven.{height_known}
 use Rattle.t85_core.proofs.Decodings.PieceHeights.{stripes_of, at_height}
 use Rattle.t85_core.proofs.Decodings.PieceLook.{only_comments, comments_behind}
 use Rattle.t85_core.proofs.Decodings.PieceSteps.{nil_of, some_row, at_stage}
-use Rattle.t85_core.proofs.Decodings.PieceStood.{own_height, place_at, code_of, waits_of, head_walk, in_code_entities}
+use Rattle.t85_core.proofs.Decodings.PieceStood.{own_height, place_at, code_of, waits_of, head_segments, in_code_entities}
 
 -- ---- the code of a stripe that has begun
 
@@ -274,9 +274,9 @@ module _ {h : Fields} {entities : ℕ} {text : List ℕ} (ok : IsAccepted h) (s 
 -- ---- a decoder
 
 -- what is left of a comment
-comment_ends : {h : Fields} {place : Place} {last : Bool} (b : Behind) (back : List ℕ) → BehindStands h (behind_at place last) b back → (more : List ℕ) × (ends : Behind) × (ends.comment ≡ None) × BehindStands h (behind_at place last) ends (back ++ more)
+comment_ends : {h : Fields} {place : Place} {last : Bool} (b : Head) (back : List ℕ) → BehindStands h (behind_at place last) b back → (more : List ℕ) × (ends : Head) × (ends.comment ≡ None) × BehindStands h (behind_at place last) ends (back ++ more)
 comment_ends {h} {place} {last} b back s = by b.comment refl where
-  by : (o : Option ℕ) → b.comment ≡ o → (more : List ℕ) × (ends : Behind) × (ends.comment ≡ None) × BehindStands h (behind_at place last) ends (back ++ more)
+  by : (o : Option ℕ) → b.comment ≡ o → (more : List ℕ) × (ends : Head) × (ends.comment ≡ None) × BehindStands h (behind_at place last) ends (back ++ more)
   by None between = ([], b, between, subst (BehindStands h (behind_at place last) b) (sym (append-nil back)) s)
   by (Some left) inside = (replicate left 0, record { at = b.at; comment = None }, refl, behind_ends s left inside (replicate left 0) (length-replicate left 0))
 
@@ -292,8 +292,8 @@ module _ (h : Fields) (ok : IsAccepted h) (variable : IsTrue (is_variable h)) (w
         let s : InRowStands (sized h h.yd) (head_place w.entities false w.at w.carried) (code_place w.row w.first w.marker w.decoder) w.place text out = subst (λ g. InRowStands (sized h h.yd) (head_place w.entities g w.at w.carried) (code_place w.row w.first w.marker w.decoder) w.place text out) c.ungiven (at_stage e c.walk) in
         subst (λ z. IsLeastHeight h z (w.entities * h.l0 + 1)) (sym s.text_is) (least_within ok (code_begins s.head) variable s.code (entity_begun w.first w.marker (s.begun.read.answers ++ s.begun.since) [] s.code s.code_is))
 
-  module _ (b : Behind) (text out : List ℕ) (s : WalkWaits h w b text out) where
-    ends : (more : List ℕ) × (ends : Behind) × (ends.comment ≡ None) × BehindStands h (behind_at (place_behind h w.stage w.entities) (last_behind h w.stage w.left)) ends (s.back ++ more)
+  module _ (b : Head) (text out : List ℕ) (s : WalkWaits h w b text out) where
+    ends : (more : List ℕ) × (ends : Head) × (ends.comment ≡ None) × BehindStands h (behind_at (place_behind h w.stage w.entities) (last_behind h w.stage w.left)) ends (s.back ++ more)
     ends = comment_ends b s.back s.behind
 
     whole : IsLeastHeight h (s.done ++ s.back) (w.entities * h.l0 + 1) → IsLeastHeight h text (w.entities * h.l0 + 1)
@@ -317,11 +317,8 @@ module _ (h : Fields) (ok : IsAccepted h) (variable : IsTrue (is_variable h)) (w
       there : BehindStands h (behind_at (place_behind h w.stage w.entities) false) ends.1 (s.back ++ ends.0)
       there = subst (λ l. BehindStands h (behind_at (place_behind h w.stage w.entities) l) ends.1 (s.back ++ ends.0)) (ap (λ k. is_last k (nat_le w.left h.l0)) is) ends.3
 
-      walk : WalkStands (sized h h.yd) (record w { at = ends.1.at }) (s.done ++ (s.back ++ ends.0)) out
-      walk = head_walk h w ends.1 (place_behind h w.stage w.entities) s.done (s.back ++ ends.0) out s.walk is none s.ungiven place_is there ends.2
-
       head : HeadStands (sized h h.yd) (head_place w.entities false ends.1.at w.carried) (s.done ++ (s.back ++ ends.0)) out
-      head = subst (λ g. HeadStands (sized h h.yd) (head_place w.entities g ends.1.at w.carried) (s.done ++ (s.back ++ ends.0)) out) s.ungiven (at_stage is walk)
+      head = subst (λ z. HeadStands (sized h h.yd) (head_place w.entities false ends.1.at w.carried) (s.done ++ z) out) (sym (front_is there ends.2)) (head_segments h w ends.1 (place_behind h w.stage w.entities) s.done (s.back ++ ends.0) out s.walk is none s.ungiven place_is there)
 
       valid : is_valid_length h w.entities (w.entities * h.l0 + 1) ≡ true
       valid = valid_in_use h (w.entities * h.l0 + 1) w.entities ok.stripe_from (omega arith) (let y = ok.height_from in omega (arith, zero, y)) (omega (arith, first))

@@ -11,7 +11,7 @@ use Rattle.t85_core.specs.declared.pieces.Outcome.TheVariants as outcome
 use Rattle.t85_core.specs.declared.pieces.Progress.{Progress}
 use Rattle.t85_core.specs.Height.{IsHeight}
 use Rattle.t85_core.specs.Lent.{PieceView, waits_behind}
-use Rattle.t85_core.specs.Outcomes.{end_told}
+use Rattle.t85_core.specs.Outcomes.{end_in, end_told}
 use Rattle.t85_core.specs.Pieces.{AwaitsHeight, HasDecoded, HandsOut, HoldsImage, IsCall, MayFollow, call_of, row_held, stream_of, stripes_ended}
 use Rattle.t85_core.specs.Consumed.{ConsumesImage}
 use Rattle.t85_core.specs.Feeds.{HasFed, IsFeed}
@@ -150,6 +150,7 @@ module _ (old new : PieceView) (held left front back joined : List ℕ) (is_end 
       bound = (let sum = length-append front back in omega (arith, within, sum));
       ends = ends is_end refl;
       few_left = λ e. (let k = all e in omega (arith, k));
+      ended = is.ended ∙ ap end_in (sym settled.outcome_is);
       again = λ end at. let a = is.again end at in (settled.outcome_is ∙ a.0, (none end at).1, a.2);
       row = λ e text out k. fed k (is.row (told_by e) k.decoded out k.has);
       waits = λ e open_ marked text out more n k f i. is.waits (told_by e) open_ marked k.decoded out (back ++ more) n k.has (follows f) (subst (λ z. IsHeight (stream_of old) z n) (sym (all_text k more)) i);
@@ -247,6 +248,7 @@ module _ (old mid new : PieceView) (held left front back joined rest : List ℕ)
       bound = (let bound = next.fed.bound in omega (arith, few, sum, left_long, bound));
       ends = next.fed.ends;
       few_left = λ e. (let all = next.all e in omega (arith, few, sum, left_long, all));
+      ended = next.fed.ended;
       again = λ end at. absurd (never end at);
       row = λ e text out k. subst (λ z. HasFed new left z (out ++ row_held new)) (taken_text k) (next.fed.row e (decoded k) out (mid_fed k));
       waits = λ e open_ marked text out more n k f i.

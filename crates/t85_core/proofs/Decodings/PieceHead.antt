@@ -1,5 +1,5 @@
 -- The head of a stripe that comes in pieces.
-use Rattle.std.proofs.Common.{cond, ◌≡◌, ◌≢◌, ◌<◌, ◌+◌, ◌-◌, ◌^◌, ℕ, Bool, true, false, List, [], ◌∷◌, ◌++◌, length, min, nat_lt, Option, None, Some, refl, sym, ap, ◌∙◌, subst, append_assoc, append-nil, length-append, arith}
+use Rattle.std.proofs.Common.{cond, ◌≡◌, ◌≢◌, ◌<◌, ◌+◌, ◌^◌, ℕ, Bool, true, false, List, [], ◌∷◌, ◌++◌, length, nat_lt, Option, None, Some, refl, sym, ap, ◌∙◌, subst, append_assoc, append-nil, length-append, arith}
 use Rattle.std.specs.Prelude.{flat_map, is_some}
 use Rattle.std.proofs.lemmas.Bool.Decides.{nat_tests}
 use Rattle.byteorder.specs.Endian.{big_bytes, big_number}
@@ -17,7 +17,7 @@ use Rattle.t85_core.specs.declared.segments.Next.TheVariants as next
 use Rattle.t85_core.specs.declared.segments.Place.{Place}
 use Rattle.t85_core.specs.Lent.{Carried}
 use Rattle.t85_core.specs.Header.{Fields}
-use Rattle.t85_core.specs.Grammar.{NewLength, Move, Comment, ESC, COMMENT, segment_bytes, stripe_bytes, IsLegal, is_valid_length}
+use Rattle.t85_core.specs.Grammar.{NewLength, ESC, COMMENT, segment_bytes, stripe_bytes, IsLegal, is_valid_length}
 use Rattle.t85_core.specs.Coding.{mode_of}
 use Rattle.t85_core.specs.Refusal.{Spot, rest_fault}
 use Rattle.t85_core.specs.Failures.{Ends, counted_as, reads_after}
@@ -32,7 +32,7 @@ use Rattle.t85_core.specs.Steps.SizedImage.{sized}
 use Rattle.t85_core.specs.Steps.Passage.{passage}
 use Rattle.t85_core.proofs.Bytes.Ends.{Ends-after}
 use Rattle.t85_core.proofs.Bytes.Known.{counted-other}
-use Rattle.t85_core.proofs.Walks.Passed.{passed_length, passed_move, passed_comment, segments_passed, cut_segments, cut_head, head_changed}
+use Rattle.t85_core.proofs.Walks.Passed.{passed_length, segments_passed, cut_segments, cut_head, head_changed}
 use Rattle.t85_core.proofs.Walks.Segments.{comment_cut}
 use Rattle.t85_core.proofs.Decodings.ImagePut.{image_cut}
 use Rattle.t85_core.proofs.Decodings.RowPut.{rows_begin}
@@ -102,40 +102,6 @@ module _ {h : Fields} {height entities : ℕ} {given : Bool} {at : Option move.M
     comments = s.comments;
     passed = passed_length (passed_ext s.passed (segment_bytes (NewLength n))) n none same (whole_segment (NewLength n) legal);
     fewer = s.fewer;
-  }
-
-  pub head_move : (to : move.Move) → is_some at ≡ false → IsLegal h (Move to.row to.offset) → HeadStands (sized h height) (head_place entities given (Some to) carried) (text ++ segment_bytes (Move to.row to.offset)) out
-  head_move to none legal = record {
-    before = s.before;
-    front = s.front;
-    back = s.back ++ segment_bytes (Move to.row to.offset);
-    text_is = ap (λ z. z ++ segment_bytes (Move to.row to.offset)) s.text_is ∙ append_assoc s.front s.back (segment_bytes (Move to.row to.offset));
-    stripes = s.stripes;
-    comments = s.comments;
-    passed = passed_move (passed_ext s.passed (segment_bytes (Move to.row to.offset))) to none (whole_segment (Move to.row to.offset) legal);
-    fewer = s.fewer;
-  }
-
-  pub head_comment : (x : List ℕ) → length x < 2 ^ 32 → HeadStands (sized h height) (head_place entities given at carried) (text ++ segment_bytes (Comment x)) out
-  head_comment x legal = record {
-    before = s.before;
-    front = s.front;
-    back = s.back ++ segment_bytes (Comment x);
-    text_is = ap (λ z. z ++ segment_bytes (Comment x)) s.text_is ∙ append_assoc s.front s.back (segment_bytes (Comment x));
-    stripes = s.stripes;
-    comments = min (s.comments + 1) (2 ^ 64 - 1);
-    passed = passed_comment (passed_ext s.passed (segment_bytes (Comment x))) (min (s.comments + 1) (2 ^ 64 - 1)) x (whole_segment (Comment x) legal) refl;
-    fewer = s.fewer;
-  }
-
-  -- the length of a comment was read
-  pub head_enters : (n : ℕ) → n < 2 ^ 32 → CommentStands (sized h height) (head_place entities given at carried) n (text ++ (ESC ∷ COMMENT ∷ big_bytes 4 n)) out
-  head_enters n small = record {
-    before = text;
-    head = s;
-    part = [];
-    small = (let z : length {A = ℕ} [] ≡ 0 = refl in omega (arith, small, z));
-    text_is = (let z : 0 + n ≡ n = omega arith in ap (λ z. text ++ (ESC ∷ COMMENT ∷ z)) (sym (append-nil (big_bytes 4 n)) ∙ ap (λ m. big_bytes 4 m ++ []) (sym z)));
   }
 
   -- the code begins
@@ -215,27 +181,6 @@ module _ {h : Fields} {height entities : ℕ} {given : Bool} {at : Option move.M
       ap (λ z. z ++ more) s.text_is
       ∙ append_assoc s.before (ESC ∷ COMMENT ∷ (big_bytes 4 (length s.part + left) ++ s.part)) more
       ∙ ap (λ z. s.before ++ (ESC ∷ COMMENT ∷ z)) (append_assoc (big_bytes 4 (length s.part + left)) s.part more)
-
-  -- more of it came
-  pub comment_more : (more : List ℕ) (left' : ℕ) → length more + left' ≡ left → CommentStands (sized h height) (head_place entities given at carried) left' (text ++ more) out
-  comment_more more left' e =
-      let long = length-append s.part more in
-      let same : length s.part + left ≡ length (s.part ++ more) + left' = omega (arith, e, long) in
-      record {
-        before = s.before;
-        head = s.head;
-        part = s.part ++ more;
-        small = (let small = s.small in omega (arith, small, same));
-        text_is = comment_text more ∙ ap (λ n. s.before ++ (ESC ∷ COMMENT ∷ (big_bytes 4 n ++ (s.part ++ more)))) same;
-      }
-
-  -- its rest came
-  pub comment_ends : (more : List ℕ) → length more ≡ left → HeadStands (sized h height) (head_place entities given at carried) (text ++ more) out
-  comment_ends more e =
-      let long = length-append s.part more in
-      let same : length s.part + left ≡ length (s.part ++ more) = omega (arith, e, long) in
-      subst (λ z. HeadStands (sized h height) (head_place entities given at carried) z out) (ap (λ n. s.before ++ (ESC ∷ COMMENT ∷ (big_bytes 4 n ++ (s.part ++ more)))) (sym same) ∙ sym (comment_text more))
-      (head_comment s.head (s.part ++ more) (let small = s.small in omega (arith, small, same)))
 
   -- the piece ends in it
   pub comment_off : CoderLaws → IsInUse h height → (p : List ℕ) → length p < left → CutOff (sized h height) (text ++ p) out Truncated

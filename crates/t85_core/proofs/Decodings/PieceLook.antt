@@ -9,8 +9,9 @@ use Rattle.byteorder.specs.Endian.{big_bytes}
 use Rattle.t85_core.specs.declared.fault.Fault.{Fault}
 use Rattle.t85_core.specs.declared.fault.Fault.TheVariants.{Truncated, Read}
 use Rattle.t85_core.specs.Lent.{PieceView, WalkView, waits_behind}
-use Rattle.t85_core.specs.declared.pieces.behind.Behind.{Behind}
-use Rattle.t85_core.specs.declared.pieces.walk.Stage.TheVariants as stage
+use Rattle.t85_core.specs.declared.pieces.head.Head.{Head}
+use Rattle.t85_core.specs.Stages.{head_kind}
+use Rattle.t85_core.specs.Stages as stage
 use Rattle.t85_core.specs.declared.segments.Code as code_type
 use Rattle.t85_core.specs.declared.segments.Move as move
 use Rattle.t85_core.specs.declared.segments.Place.{Place}
@@ -28,7 +29,7 @@ use Rattle.t85_core.specs.Steps.Behind.{BehindStands, BehindOn, BreaksBehind, St
 use Rattle.t85_core.specs.Steps.Pieces.{HeadStands, WalkStands, IsInCode, CodeStands, InRowStands, head_place, code_place}
 use Rattle.t85_core.specs.Steps.SizedImage.{sized}
 use Rattle.t85_core.specs.Steps.PieceStands.{DecoderStands, HeightKnown, WalkWaits, IsAtMarker, place_behind, last_behind, entities_behind, is_last}
-use Rattle.t85_core.specs.Steps.PieceSteps.{SomeStand, DecoderOn, EndsConsumed, EndsWhole, HeadEntered, HeightComes, head_stage}
+use Rattle.t85_core.specs.Steps.PieceSteps.{SomeStand, DecoderOn, EndsConsumed, EndsWhole, HeadEntered, HeightComes}
 use Rattle.t85_core.proofs.Bytes.Lengths.{valid_over}
 use Rattle.t85_core.proofs.Grammar.Heights.{one_height_of}
 use Rattle.t85_core.proofs.Walks.Looked.{HasLooked, looked_fault, looked_code}
@@ -48,7 +49,7 @@ only_comments (NewLength n ∷ segments) none empty = absurd (let bot : ⊥ = cc
 only_comments (Move row offset ∷ segments) none empty = absurd (let e = sum_by-append (λ y. cond (is_move y) 1 0) (Move row offset ∷ []) segments in omega (arith, none, e))
 only_comments (Comment text ∷ segments) none empty = (refl, only_comments segments (let e = sum_by-append (λ y. cond (is_move y) 1 0) (Comment text ∷ []) segments in omega (arith, none, e)) empty)
 
-module _ {h : Fields} {place : Place} {b : Behind} {back : List ℕ} (fresh : place.given ≡ false) (s : BehindStands h (behind_at place true) b back) where
+module _ {h : Fields} {place : Place} {b : Head} {back : List ℕ} (fresh : place.given ≡ false) (s : BehindStands h (behind_at place true) b back) where
   pub are_comments : AllByRecursion (λ s. IsTrue (is_comment s)) s.passed.segments
   are_comments = only_comments s.passed.segments (let e = s.passed.counted in omega (arith, e)) (nil_of (lengths s.passed.segments) (let e = s.passed.given_is in let z : cond {A = ℕ} place.given 1 0 ≡ 0 = ap (λ (t : Bool). cond {A = ℕ} t 1 0) fresh in omega (arith, e, z)))
 
@@ -103,7 +104,7 @@ pub in_last : (h : Fields) (w : WalkView) → IsAtMarker w → last_behind h w.s
 in_last h w (inl head) last = absurd (true≢false (sym last ∙ ap (λ z. is_last z (nat_le w.left h.l0)) head.0))
 in_last h w (inr k) last = k.0
 
-module _ (h : Fields) (w : WalkView) (b : Behind) (text out : List ℕ) (q : CoderLaws) (s : WalkWaits h w b text out) (in_code : IsInCode w.stage) where
+module _ (h : Fields) (w : WalkView) (b : Head) (text out : List ℕ) (q : CoderLaws) (s : WalkWaits h w b text out) (in_code : IsInCode w.stage) where
   -- its rows
   pub rows_held : RowsHeld h w.entities w.row s.done out
   rows_held = by in_code where
@@ -236,7 +237,7 @@ raised_on d e d' n p rest late waits head between comes over header height close
   there = head.stands text out (waits_of d text out late waits s)
 
   is_head : e.walk.stage ≡ stage.Head
-  is_head = head.stage ∙ ap head_stage between
+  is_head = head.stage ∙ ap head_kind between
 
   in_head : HeadStands (sized (fields_of d.header) d.header.yd) (head_place e.walk.entities false e.walk.at e.walk.carried) text out
   in_head = subst (λ g. HeadStands (sized (fields_of d.header) d.header.yd) (head_place e.walk.entities g e.walk.at e.walk.carried) text out) head.given (at_stage is_head there)
@@ -269,7 +270,7 @@ raised_on d e d' n p rest late waits head between comes over header height close
 
 -- ---- what came behind the marker
 
-pub passed_on : (d d1 : PieceView) (b : Behind) (p p1 : List ℕ) → d.is_open ≡ true → d.waits ≡ true → d1.header ≡ d.header → d1.height ≡ d.height → d1.is_open ≡ d.is_open → d1.waits ≡ d.waits → d1.walk ≡ d.walk → d1.behind ≡ b →
+pub passed_on : (d d1 : PieceView) (b : Head) (p p1 : List ℕ) → d.is_open ≡ true → d.waits ≡ true → d1.header ≡ d.header → d1.height ≡ d.height → d1.is_open ≡ d.is_open → d1.waits ≡ d.waits → d1.walk ≡ d.walk → d1.behind ≡ b →
     BehindOn (fields_of d.header) (behind_at (place_behind (fields_of d.header) d.walk.stage d.walk.entities) (last_behind (fields_of d.header) d.walk.stage d.walk.left)) d.behind b p p1 → DecoderOn d d1 p p1 []
 passed_on d d1 b p p1 late waits header height is_open same_waits walk behind on text out s =
     let w = waits_of d text out late waits s in

@@ -16,7 +16,7 @@ use Rattle.t85_core.specs.Steps.Segments.{IsByteOrMarker, RestFault}
 use Rattle.t85_core.specs.Steps.PieceCode.{ahead_bytes, CodeOpen, EntityEnded, CodeText, SkipsSome, SkipBreaks, MarkerFound, MarkerMissing, CodeKept, FindsMarker, MissesMarker, KeepsCode}
 use Rattle.t85_core.proofs.Bytes.Known.{counted-other}
 use Rattle.t85_core.proofs.Bytes.Lists.{All-append}
-use Rattle.t85_core.specs.Steps.Pieces.{MarkerRead}
+use Rattle.t85_core.specs.Steps.Pieces.{MarkerIs, MarkerRead}
 use Rattle.t85_core.proofs.Bytes.Stuffing.{stuffed_append, stuffed_cons}
 use Rattle.t85_core.proofs.Grammar.Cut.{marker_no_code}
 
@@ -56,6 +56,11 @@ pub record Ahead (first : Option Code) : Type 0 where
   pub is : ahead_bytes first ≡ stuffed bs
   pub small : IfSome first IsByteOrMarker → AllByRecursion (λ b. b < 256) bs
   pub some : (first ≡ None) ⊎ (1 ≤ length bs)
+
+pub found_marker : (first : Option Code) (marker : Option Bool) (p : List ℕ) (reset : Bool) → MarkerIs reset marker first → IfSome marker (λ _. first ≡ None) → FindsMarker first marker p p reset
+found_marker first marker p reset (inl e) behind = found_before first marker p reset e
+found_marker first None p reset (inr e) behind = found_ahead first None p reset refl e
+found_marker first (Some r) p reset (inr e) behind = absurd (let z : None ≡ Some (code.Marker reset) = sym behind ∙ e in let bot : ⊥ = cc in bot)
 
 pub none_ahead : (first : Option Code) → first ≡ None → Ahead first
 none_ahead first e = record { bs = []; is = ap ahead_bytes e; small = λ _. tt; some = inl e }

@@ -11,7 +11,8 @@ use Rattle.t85_core.specs.Lent.{PieceView, WalkView, walk_view, decoder_view}
 use Rattle.t85_core.specs.declared.pieces.PieceDecoder.{PieceDecoder}
 use Rattle.t85_core.specs.declared.pieces.walk.Walk.{Walk}
 use Rattle.t85_core.specs.declared.pieces.walk.Stage.{Stage}
-use Rattle.t85_core.specs.declared.pieces.walk.Stage.TheVariants as stage
+use Rattle.t85_core.specs.Stages.{Kind, stage_kind}
+use Rattle.t85_core.specs.Stages as stage
 use Rattle.t85_core.specs.declared.segments.Code as code_type
 use Rattle.t85_core.specs.declared.segments.Code.TheVariants as code
 use Rattle.t85_core.specs.declared.segments.Move as move
@@ -34,21 +35,8 @@ byte_back n (Some (code.Marker true)) low e zero one two = absurd (two e)
 byte_back n (Some (code.Byte b)) low e zero one two = ap (λ z. Some (code.Byte z)) (let same : n % 256 ≡ b = omega (arith, low, e) in same)
 
 -- a walk of these fields
-abbrev pub walk_of : Kept → Decoder → Stage → ℕ → ℕ → Bool → Option move.Move → ℕ → ℕ → RowPlace → Option code_type.Code → Option Bool → Walk
-walk_of kept decoder stage entities left given at comment row place first marker = record {
-  kept = kept;
-  decoder = decoder;
-  stage = stage;
-  entities = entities;
-  left = left;
-  given = given;
-  at = at;
-  comment = comment;
-  row = row;
-  place = place;
-  first = first;
-  marker = marker;
-}
+abbrev pub walk_of : Kept → Decoder → Stage → ℕ → ℕ → Bool → Walk
+walk_of kept decoder stage entities left given = record { kept = kept; decoder = decoder; stage = stage; entities = entities; left = left; given = given }
 
 -- ---- the same, but for a decoder that has stopped
 
@@ -69,13 +57,13 @@ module _ {w w' : Walk} (k : IsWalkAs w w') (rows : Held) (learned : List Estimat
   in_row_as {h} {height} {entities} {given} {at} {row} {first} {marker} {place} {text} {out} s =
       subst (λ z. InRowStands (sized h height) (head_place entities given at before.carried) (code_place row first marker z) place text out) (sym (k.decoder_is (in_row_going s))) s
 
-  stage_as : (h : Fields) (height : ℕ) (text out : List ℕ) (s : Stage) → StageStands s (sized h height) before text out → StageStands s (sized h height) there text out
+  stage_as : (h : Fields) (height : ℕ) (text out : List ℕ) (s : Kind) → StageStands s (sized h height) before text out → StageStands s (sized h height) there text out
   stage_as h height text out stage.Code s = code_as s
   stage_as h height text out stage.Row s = in_row_as s
   stage_as h height text out k s = s
 
   walk_there : {h : Fields} {height : ℕ} {text out : List ℕ} → WalkStands (sized h height) before text out → WalkStands (sized h height) there text out
-  walk_there {h} {height} {text} {out} s = walk_at s s.at_is s.code_is s.behind (stage_as h height text out w.stage s.stands)
+  walk_there {h} {height} {text} {out} s = walk_at s s.at_is s.code_is s.behind (stage_as h height text out (stage_kind w.stage) s.stands)
 
   walk_as : {h : Fields} {height : ℕ} {text out : List ℕ} → WalkStands (sized h height) before text out → WalkStands (sized h height) (walk_view w' rows learned) text out
   walk_as {h} {height} {text} {out} s = subst (λ z. WalkStands (sized h height) (walk_view z rows learned) text out) (sym k.same) (walk_there s)

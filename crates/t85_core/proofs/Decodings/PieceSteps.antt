@@ -9,9 +9,10 @@ use Rattle.std.proofs.Math.Nat.{mul-le-mul_right}
 use Rattle.qm_core.specs.declared.decoder.Decoder.{Decoder}
 use Rattle.t85_core.specs.declared.fault.Fault.{Fault}
 use Rattle.t85_core.specs.declared.fault.Fault.TheVariants.{Truncated, Changed}
+use Rattle.raster_core.specs.declared.place.RowPlace.{RowPlace}
 use Rattle.t85_core.specs.Lent.{WalkView, Carried}
-use Rattle.t85_core.specs.declared.pieces.walk.Stage.{Stage}
-use Rattle.t85_core.specs.declared.pieces.walk.Stage.TheVariants as stage
+use Rattle.t85_core.specs.Stages.{Kind, code_kind}
+use Rattle.t85_core.specs.Stages as stage
 use Rattle.t85_core.specs.Header.{Fields}
 use Rattle.t85_core.specs.Steps.State.{RowStart, image_start, first_row_start, next_stripe_start}
 use Rattle.t85_core.specs.Steps.DecodeRows.{IsCarried}
@@ -19,8 +20,8 @@ use Rattle.t85_core.specs.declared.segments.Code.{Code}
 use Rattle.t85_core.specs.declared.segments.Code.TheVariants as code
 use Rattle.t85_core.specs.declared.segments.Move.{Move}
 use Rattle.t85_core.specs.Steps.Segments.{IsByteOrMarker}
-use Rattle.t85_core.specs.Steps.PieceCode.{EndsInNoEscape}
-use Rattle.t85_core.specs.Steps.Pieces.{CutOff, HeadStands, WalkStands, StageStands, StepsOn, StepsOff, StepsToEnd, Step, RowStep, RowLeaves, KeepsPlace, HasMarker, Turn, IsOver, CodeStands, IsInCode, rows_in, head_place, code_place}
+use Rattle.t85_core.specs.Steps.Pieces.{CutOff, HeadStands, WalkStands, StageStands, StepsOn, StepsOff, StepsToEnd, Step, RowStep, RowLeaves, KeepsPlace, Turn, IsOver, CodeStands, IsInCode, rows_in, head_place, code_place}
+use Rattle.t85_core.specs.Steps.StripeEnds.{StripeEnds}
 use Rattle.t85_core.specs.Steps.SizedImage.{SizedImage, sized}
 use Rattle.t85_core.proofs.Walks.Passed.{passed_none}
 use Rattle.t85_core.proofs.Decodings.ImagePut.{stripes_start}
@@ -36,28 +37,35 @@ pub stays : (h : Fields) (height : ℕ) (w : WalkView) (p : List ℕ) → StepsO
 stays h height w p text out s = on_same h height w text out p p [] refl (subst (λ z. WalkStands (sized h height) w z out) (sym (append-nil text)) s)
 
 -- the stage is this
-pub at_stage : {h : Fields} {height : ℕ} {w : WalkView} {text out : List ℕ} {k : Stage} → w.stage ≡ k → WalkStands (sized h height) w text out → StageStands k (sized h height) w text out
+pub at_stage : {h : Fields} {height : ℕ} {w : WalkView} {text out : List ℕ} {k : Kind} → w.stage ≡ k → WalkStands (sized h height) w text out → StageStands k (sized h height) w text out
 at_stage {h} {height} {w} {text} {out} e s = subst (λ z. StageStands z (sized h height) w text out) e s.stands
 
 -- it is that of the walk
-pub put_stage : (h : Fields) (height : ℕ) (w : WalkView) (text out : List ℕ) (k : Stage) → w.stage ≡ k → StageStands k (sized h height) w text out → StageStands w.stage (sized h height) w text out
+pub put_stage : (h : Fields) (height : ℕ) (w : WalkView) (text out : List ℕ) (k : Kind) → w.stage ≡ k → StageStands k (sized h height) w text out → StageStands w.stage (sized h height) w text out
 put_stage h height w text out k e s = subst (λ z. StageStands z (sized h height) w text out) (sym e) s
 
 -- a walk that carries the same, at another stage or of another text
-pub walk_at : {h : Fields} {height : ℕ} {w : WalkView} {text out text' out' : List ℕ} {decoder : Decoder} {stage' : Stage} {given : Bool} {at : Option Move} {comment row : ℕ} {first : Option Code} {marker : Option Bool} →
-    WalkStands (sized h height) w text out → IfSome at (λ to. to.offset ≤ 127) → IfSome first IsByteOrMarker → IfSome marker (λ _. first ≡ None) →
-    StageStands stage' (sized h height) (record w { decoder = decoder; stage = stage'; given = given; at = at; comment = comment; row = row; first = first; marker = marker }) text' out' →
-    WalkStands (sized h height) (record w { decoder = decoder; stage = stage'; given = given; at = at; comment = comment; row = row; first = first; marker = marker }) text' out'
-walk_at s at_is code_is behind stands = record {
+pub walk_with : {h : Fields} {height : ℕ} {w : WalkView} {text out text' out' : List ℕ} {decoder : Decoder} {stage' : Kind} {given : Bool} {at : Option Move} {comment row : ℕ} {place : RowPlace} {first : Option Code} {marker : Option Bool} →
+    WalkStands (sized h height) w text out → IfSome at (λ to. to.offset ≤ 127) → IfSome first IsByteOrMarker → IfSome marker (λ _. first ≡ None) → place.done < h.xd →
+    StageStands stage' (sized h height) (record w { decoder = decoder; stage = stage'; given = given; at = at; comment = comment; row = row; place = place; first = first; marker = marker }) text' out' →
+    WalkStands (sized h height) (record w { decoder = decoder; stage = stage'; given = given; at = at; comment = comment; row = row; place = place; first = first; marker = marker }) text' out'
+walk_with s at_is code_is behind within stands = record {
   left_is = s.left_is;
   width_is = s.width_is;
   offset_is = s.offset_is;
   at_is = at_is;
   code_is = code_is;
   behind = behind;
-  within = s.within;
+  within = within;
   stands = stands;
 }
+
+-- as far in its row
+pub walk_at : {h : Fields} {height : ℕ} {w : WalkView} {text out text' out' : List ℕ} {decoder : Decoder} {stage' : Kind} {given : Bool} {at : Option Move} {comment row : ℕ} {first : Option Code} {marker : Option Bool} →
+    WalkStands (sized h height) w text out → IfSome at (λ to. to.offset ≤ 127) → IfSome first IsByteOrMarker → IfSome marker (λ _. first ≡ None) →
+    StageStands stage' (sized h height) (record w { decoder = decoder; stage = stage'; given = given; at = at; comment = comment; row = row; first = first; marker = marker }) text' out' →
+    WalkStands (sized h height) (record w { decoder = decoder; stage = stage'; given = given; at = at; comment = comment; row = row; first = first; marker = marker }) text' out'
+walk_at s at_is code_is behind stands = walk_with s at_is code_is behind s.within stands
 
 pub nil_of : (xs : List ℕ) → length xs ≡ 0 → xs ≡ []
 nil_of [] e = refl
@@ -138,34 +146,17 @@ head_first h height width carried one some wide first = record {
 -- ---- exits
 
 -- a step went well
-pub step_ok : {image : SizedImage} {w w' : WalkView} {p p' : List ℕ} {u : Unit {0}} → StepsOn image w w' p p' [] → Step image w w' p p' (Ok u)
+pub step_ok : {A : Type 0} {image : SizedImage} {w w' : WalkView} {p p' : List ℕ} {u : A} → StepsOn image w w' p p' [] → Step image w w' p p' (Ok u)
 step_ok on = record { ok = on; err = tt; more = λ e. absurd (let bot : ⊥ = cc in bot) }
 
-pub step_exit : (h : Fields) (height : ℕ) (w w' : WalkView) (p p' : List ℕ) (r : Result (Unit {0}) Fault) (e : Fault) → IsErrAnd r (λ y. y ≡ e) → StepsOff (sized h height) w p e → (e ≡ Truncated → StepsToEnd (sized h height) w w' p p') → Step (sized h height) w w' p p' r
+pub step_exit : {A : Type 0} (h : Fields) (height : ℕ) (w w' : WalkView) (p p' : List ℕ) (r : Result A Fault) (e : Fault) → IsErrAnd r (λ y. y ≡ e) → StepsOff (sized h height) w p e → (e ≡ Truncated → StepsToEnd (sized h height) w w' p p') → Step (sized h height) w w' p p' r
 step_exit h height w w' p p' (Ok x) e a off on = absurd a
 step_exit h height w w' p p' (Err y) e a off on = record { ok = tt; err = subst (StepsOff (sized h height) w p) (sym a) off; more = λ is. on (sym a ∙ (let same : y ≡ Truncated = cc in same)) }
 
-pub row_exit : (h : Fields) (height : ℕ) (w w' : WalkView) (p p' : List ℕ) (r : Result (Unit {0}) Fault) (e : Fault) → IsErrAnd r (λ y. y ≡ e) → StepsOff (sized h height) w p e → (e ≡ Truncated → StepsToEnd (sized h height) w w' p p') → RowStep (sized h height) w w' p p' r
-row_exit h height w w' p p' (Ok x) e a off on = absurd a
-row_exit h height w w' p p' (Err y) e a off on = record { ok = tt; err = subst (StepsOff (sized h height) w p) (sym a) off; more = λ is. on (sym a ∙ (let same : y ≡ Truncated = cc in same)) }
-
 -- a fault that is another
-pub other_exit : (r : Result (Unit {0}) Fault) (e : Fault) → IsErrAnd r (λ y. y ≡ e) → e ≢ Changed → IfErr r (λ f. f ≢ Changed)
+pub other_exit : {A : Type 0} (r : Result A Fault) (e : Fault) → IsErrAnd r (λ y. y ≡ e) → e ≢ Changed → IfErr r (λ f. f ≢ Changed)
 other_exit (Ok x) e a other = tt
 other_exit (Err y) e a other = λ is. other (sym a ∙ is)
-
--- a row breaks, or waits
-pub leaves_exit : (w w' : WalkView) (p p' : List ℕ) (r : Result (Unit {0}) Fault) (e : Fault) → IsErrAnd r (λ y. y ≡ e) → KeepsPlace w w' → (w'.row ≡ w.row) × (w'.stage ≡ stage.Row) × (w'.first ≡ None) × (w'.marker ≡ w.marker) →
-    (HasMarker w → ⊥) → (EndsInNoEscape p → p' ≡ []) → e ≢ Changed → RowLeaves w w' p p' r
-leaves_exit w w' p p' (Ok x) e a keeps same never drained other = absurd a
-leaves_exit w w' p p' (Err y) e a keeps same never drained other = record {
-  place = keeps;
-  row = tt;
-  same_row = same;
-  whole = λ m. absurd (never m);
-  drained = drained;
-  other = λ is. other (sym a ∙ is);
-}
 
 -- a row was entered before
 pub leaves_then : (w w1 w2 : WalkView) (p p' : List ℕ) (r : Result (Unit {0}) Fault) → KeepsPlace w w1 → (w1.row ≡ w.row) × (w1.first ≡ w.first) × (w1.marker ≡ w.marker) → RowLeaves w1 w2 p p' r → RowLeaves w w2 p p' r
@@ -203,10 +194,6 @@ row_then h height w w1 w2 p p1 p2 on (Err f) s = record { ok = tt; err = off_the
 pub turn_row : (h : Fields) (height : ℕ) (w w' : WalkView) (p p' : List ℕ) → StepsOn (sized h height) w w' p p' w'.carried.held.current → Turn (sized h height) w w' p p' (Ok true)
 turn_row h height w w' p p' on = record { row = λ _. on; done = λ e. absurd (let bot : ⊥ = cc in bot); err = tt; more = λ e. absurd (let bot : ⊥ = cc in bot) }
 
--- the image is whole
-pub turn_done : (h : Fields) (height : ℕ) (w w' : WalkView) (p p' : List ℕ) → StepsOn (sized h height) w w' p p' [] → IsOver w'.stage → Turn (sized h height) w w' p p' (Ok false)
-turn_done h height w w' p p' on is = record { row = λ e. absurd (let bot : ⊥ = cc in bot); done = λ _. (on, is); err = tt; more = λ e. absurd (let bot : ⊥ = cc in bot) }
-
 pub turn_exit : (h : Fields) (height : ℕ) (w w' : WalkView) (p p' : List ℕ) (r : Result Bool Fault) (e : Fault) → IsErrAnd r (λ y. y ≡ e) → StepsOff (sized h height) w p e → (e ≡ Truncated → StepsToEnd (sized h height) w w' p p') → Turn (sized h height) w w' p p' r
 turn_exit h height w w' p p' (Ok x) e a off on = absurd a
 turn_exit h height w w' p p' (Err y) e a off on = record {
@@ -216,28 +203,10 @@ turn_exit h height w w' p p' (Err y) e a off on = record {
   more = λ is. on (sym a ∙ (let same : y ≡ Truncated = cc in same));
 }
 
--- a step, and then a turn
-pub turn_then : (h : Fields) (height : ℕ) (w w1 w2 : WalkView) (p p1 p2 : List ℕ) → StepsOn (sized h height) w w1 p p1 [] → (r : Result Bool Fault) → Turn (sized h height) w1 w2 p1 p2 r → Turn (sized h height) w w2 p p2 r
-turn_then h height w w1 w2 p p1 p2 on (Ok x) t = record {
-  row = λ e. on_then h height w w1 p p1 on w2 p2 w2.carried.held.current (t.row e);
-  done = λ e. (on_then h height w w1 p p1 on w2 p2 [] (t.done e).0, (t.done e).1);
-  err = tt;
-  more = λ e. absurd (let bot : ⊥ = cc in bot);
-}
-turn_then h height w w1 w2 p p1 p2 on (Err f) t = record {
-  row = λ e. absurd (let bot : ⊥ = cc in bot);
-  done = λ e. absurd (let bot : ⊥ = cc in bot);
-  err = off_then h height w w1 p p1 on f t.err;
-  more = λ e. (on_then h height w w1 p p1 on w2 p2 [] (t.more e).0, (t.more e).1);
-}
-
 -- which stage it is
-pub over_done : (k : Stage) → IsOver k → k ≡ stage.Done
+pub over_done : (k : Kind) → IsOver k → k ≡ stage.Done
 over_done stage.Done o = refl
 over_done k o = absurd o
-
-pub is_over : (k : Stage) → k ≡ stage.Done → IsOver k
-is_over k e = subst IsOver (sym e) tt
 
 -- of four, not the last two
 pub first_two : {A B C D : Type 0} → A ⊎ (B ⊎ (C ⊎ D)) → (C → ⊥) → (D → ⊥) → A ⊎ B
@@ -262,3 +231,12 @@ walk_few h height w text out some (inr row) s = few_before height h.l0 w.entitie
 pub kept_wide : (wide width : ℕ) (reset : Bool) (carried next : Carried) → wide ≡ width → ((last : RowStart) → IsCarried last carried → IsCarried (first_row_start (next_stripe_start wide reset last)) next)
     → (last : RowStart) → IsCarried last carried → IsCarried (first_row_start (next_stripe_start width reset last)) next
 kept_wide wide width reset carried next e kept last is = subst (λ w. IsCarried (first_row_start (next_stripe_start w reset last)) next) e (kept last is)
+
+-- a stripe ended, and no byte was taken
+pub ends_on : {h : Fields} {height : ℕ} {w w' : WalkView} (p : List ℕ) → StripeEnds (sized h height) w w' → StepsOn (sized h height) w w' p p []
+ends_on {h} {height} {w} {w'} p ends text out s = on_same h height w' text out p p [] refl (subst (λ z. WalkStands (sized h height) w' z out) (sym (append-nil text)) (ends.on text out s))
+
+-- the code has begun
+pub in_code_of : (begun : Option RowPlace) → IsInCode (code_kind begun)
+in_code_of None = inl refl
+in_code_of (Some place) = inr refl

@@ -1,5 +1,5 @@
 -- The position of a decoder before and after a step.
-use Rattle.std.proofs.Common.{cond, ◌≡◌, ◌≢◌, ◌<◌, ◌≤◌, ◌+◌, ◌-◌, ◌*◌, ◌⊎◌, inl, inr, ℕ, Bool, true, false, List, [], ◌∷◌, ◌++◌, length, min, take, drop, slice_index, nat_le, Option, None, Some, Result, Ok, Err, refl, sym, ap, ◌∙◌, subst, append_assoc, append-nil, length-append, arith, true≢false}
+use Rattle.std.proofs.Common.{cond, ◌≡◌, ◌≢◌, ◌<◌, ◌≤◌, ◌+◌, ◌-◌, ◌*◌, ◌⊎◌, inl, inr, ℕ, Bool, true, false, List, [], ◌∷◌, ◌++◌, length, take, drop, slice_index, nat_le, Option, None, Some, Result, Ok, Err, refl, sym, ap, ◌∙◌, subst, append_assoc, append-nil, length-append, arith, true≢false}
 use Rattle.std.specs.Prelude.{IsOk, OnOk, IfSome, is_some, ◌&&◌}
 use Rattle.std.proofs.lemmas.Bool.Decides.{nat_tests}
 use Rattle.std.proofs.Math.Seq.{drop-append_seam, take-append_seam}
@@ -9,26 +9,25 @@ use Rattle.byteorder.specs.Endian.{big_bytes}
 use Rattle.t85_core.proofs.Decodings.PieceHeights.{head_behind}
 use Rattle.t85_core.specs.Grammar.{ESC, COMMENT, marker_bytes}
 use Rattle.t85_core.specs.declared.segments.Code.TheVariants as code
-use Rattle.t85_core.proofs.Decodings.PieceSteps.{walk_at, at_stage, put_stage, walk_few}
+use Rattle.t85_core.proofs.Decodings.PieceSteps.{walk_at, walk_with, at_stage, put_stage, walk_few}
 use Rattle.t85_core.proofs.Decodings.PieceWalk.{code_ahead, row_ahead}
 use Rattle.t85_core.specs.declared.segments.Place.{Place}
-use Rattle.t85_core.specs.Steps.DecodeStripes.{StripesRead}
 use Rattle.t85_core.specs.declared.segments.Code as code_type
 use Rattle.qm_core.specs.Place.{start}
 use Rattle.qm_core.specs.Decoder.{DecoderIsAt}
 use Rattle.qm_core.specs.declared.decoder.Decoder.{Decoder}
 use Rattle.t85_core.specs.Failures.{Ends}
 use Rattle.t85_core.specs.Steps.CoderLaws.{CoderLaws}
-use Rattle.t85_core.specs.Steps.Segments.{IsByteOrMarker, PieceFault, code_bytes}
+use Rattle.t85_core.specs.Steps.Segments.{HasPassed, IsByteOrMarker, PieceFault, code_bytes, segments_so_far}
 use Rattle.t85_core.specs.declared.fault.Fault.{Fault}
 use Rattle.t85_core.specs.declared.fault.Fault.TheVariants.{Truncated, Changed}
 use Rattle.t85_core.specs.declared.header.Header.{Header}
 use Rattle.t85_core.specs.Lent.{PieceView, WalkView, waits_behind}
 use Rattle.t85_core.specs.declared.pieces.Outcome.{Outcome}
 use Rattle.t85_core.specs.declared.pieces.Outcome.TheVariants as outcome
-use Rattle.t85_core.specs.declared.pieces.behind.Behind.{Behind}
-use Rattle.t85_core.specs.declared.pieces.walk.Stage.{Stage}
-use Rattle.t85_core.specs.declared.pieces.walk.Stage.TheVariants as stage
+use Rattle.t85_core.specs.declared.pieces.head.Head.{Head}
+use Rattle.t85_core.specs.Stages.{Kind, comment_left, head_kind, place_from}
+use Rattle.t85_core.specs.Stages as stage
 use Rattle.t85_core.specs.Header.{Fields, is_variable}
 use Rattle.t85_core.specs.Options.{fields_of}
 use Rattle.t85_core.specs.Height.{GivesHeight, IsHeight}
@@ -37,11 +36,11 @@ use Rattle.t85_core.specs.Pieces.{AwaitsHeight, HasDecoded, HasHeight, HandsOut,
 use Rattle.t85_core.specs.Consumed.{ConsumesImage}
 use Rattle.t85_core.specs.Steps.Behind.{BehindStands, BreaksBehind, StopsBehind, behind_at}
 use Rattle.t85_core.specs.Steps.InTime.{MarkerAfterRows}
-use Rattle.t85_core.specs.Steps.Pieces.{HeadStands, CommentStands, InRowStands, IsFirstWalk, WalkStands, CutOff, SomeStands, StepsOn, StepsOff, Step, RowStep, RowLeaves, StripesOn, StageStands, KeepsPlace, HasMarker, IsInCode, head_place, code_place}
+use Rattle.t85_core.specs.Steps.Pieces.{HeadStands, CommentStands, IsFirstWalk, SomeStands, WalkStands, CutOff, StepsOn, StepsOff, RowStep, RowLeaves, StageStands, KeepsPlace, HasMarker, IsInCode, head_place}
+use Rattle.t85_core.specs.Steps.StripeEnds.{StripeEnds}
 use Rattle.t85_core.specs.Steps.SizedImage.{sized}
 use Rattle.t85_core.specs.Steps.PieceStands.{DecoderStands, HeightKnown, StandsAs, CodeWalks, WalkWaits, IsAtMarker, entities_behind, is_last, place_behind, last_behind}
-use Rattle.t85_core.specs.Steps.PieceSteps.{SomeStand, DecoderOn, DecoderOnAfterRows, EndsConsumed, EndsWhole, EndsBroken, NoHeightBelow, StaysOpen, StepLeaves, KeepsDecoder, StripeLeft, StripeClosed, HeadEntered, RowsAreGiven, head_stage, steps_left}
-use Rattle.t85_core.specs.Steps.Passage.{passage}
+use Rattle.t85_core.specs.Steps.PieceSteps.{SomeStand, DecoderOn, DecoderOnAfterRows, EndsConsumed, EndsWhole, EndsBroken, NoHeightBelow, StaysOpen, StepLeaves, KeepsDecoder, StripeLeft, StripeClosed, HeadEntered, steps_left}
 use Rattle.t85_core.proofs.Decodings.ImagePut.{in_use}
 use Rattle.t85_core.proofs.Decodings.PieceBehind.{behind_first, front_is, part_of}
 use Rattle.t85_core.proofs.Decodings.PieceGiven.{cut_hands, cut_hands_first, piece_other, height_known, read_consumes, read_holds}
@@ -81,7 +80,7 @@ module _ (d : PieceView) (text out : List ℕ) where
   put_waits late waits k s = record { height = k; stands = subst (λ b. StandsAs b d.waits d text out) (sym late) (subst (λ b. StandsAs true b d text out) (sym waits) s) }
 
 -- a walk begins to wait
-pub waits_first : (h : Fields) (w : WalkView) (b : Behind) (text out : List ℕ) → WalkStands (sized h h.yd) w text out → IsAtMarker w → w.given ≡ false → (IsInCode w.stage → MarkerAfterRows (sized h h.yd) text out) → b.at ≡ None → b.comment ≡ None → WalkWaits h w b text out
+pub waits_first : (h : Fields) (w : WalkView) (b : Head) (text out : List ℕ) → WalkStands (sized h h.yd) w text out → IsAtMarker w → w.given ≡ false → (IsInCode w.stage → MarkerAfterRows (sized h h.yd) text out) → b.at ≡ None → b.comment ≡ None → WalkWaits h w b text out
 waits_first h w b text out s at ungiven in_time none empty = record {
   done = text;
   back = [];
@@ -90,7 +89,7 @@ waits_first h w b text out s at ungiven in_time none empty = record {
   at = at;
   ungiven = ungiven;
   in_time = in_time;
-  behind = behind_first h (place_behind h w.stage w.entities) (last_behind h w.stage w.left) b refl none empty;
+  behind = behind_first h (place_behind h w.stage w.entities) (last_behind h w.stage w.left) b none empty;
 }
 
 -- ---- how many steps are left
@@ -177,11 +176,11 @@ code_broken d p fault late going off other is_all all text out rest s follows =
 
 -- ---- behind an end marker
 
-pub in_code_entities : (s : Stage) (e : ℕ) → IsInCode s → entities_behind s e ≡ e + 1
+pub in_code_entities : (s : Kind) (e : ℕ) → IsInCode s → entities_behind s e ≡ e + 1
 in_code_entities s e (inl k) = ap (λ z. entities_behind z e) k
 in_code_entities s e (inr k) = ap (λ z. entities_behind z e) k
 
-pub in_code_last : (s : Stage) (b : Bool) → IsInCode s → is_last s b ≡ b
+pub in_code_last : (s : Kind) (b : Bool) → IsInCode s → is_last s b ≡ b
 in_code_last s b (inl k) = ap (λ z. is_last z b) k
 in_code_last s b (inr k) = ap (λ z. is_last z b) k
 
@@ -189,7 +188,7 @@ in_code_last s b (inr k) = ap (λ z. is_last z b) k
 abbrev pub place_at : ℕ → ℕ → Place
 place_at height entities = record { height = height; entities = entities; given = false }
 
-not_head : (s : Stage) → s ≡ stage.Head → IsInCode s → ⊥
+not_head : (s : Kind) → s ≡ stage.Head → IsInCode s → ⊥
 not_head s e (inl k) = let z : stage.Head ≡ stage.Code = sym e ∙ k in cc
 not_head s e (inr k) = let z : stage.Head ≡ stage.Row = sym e ∙ k in cc
 
@@ -202,7 +201,7 @@ head_of w (inl head) outside = head
 head_of w (inr k) outside = absurd (outside k.0)
 
 -- what came stays behind the same marker
-pub behind_same : (h : Fields) (w w' : WalkView) (b : Behind) (back : List ℕ) → IsInCode w.stage → IsInCode w'.stage → KeepsPlace w w' → BehindStands h (behind_at (place_behind h w.stage w.entities) (last_behind h w.stage w.left)) b back → BehindStands h (behind_at (place_behind h w'.stage w'.entities) (last_behind h w'.stage w'.left)) b back
+pub behind_same : (h : Fields) (w w' : WalkView) (b : Head) (back : List ℕ) → IsInCode w.stage → IsInCode w'.stage → KeepsPlace w w' → BehindStands h (behind_at (place_behind h w.stage w.entities) (last_behind h w.stage w.left)) b back → BehindStands h (behind_at (place_behind h w'.stage w'.entities) (last_behind h w'.stage w'.left)) b back
 behind_same h w w' b back code code' keeps s =
     subst (λ p. BehindStands h (behind_at p (last_behind h w'.stage w'.left)) b back) (ap (place_at h.yd) entities) (subst (λ l. BehindStands h (behind_at (place_behind h w.stage w.entities) l) b back) last s)
   where
@@ -269,28 +268,10 @@ pub row_after : (d : PieceView) (w : WalkView) → d.is_open ≡ true → d.wait
 row_after d w late waits some code p' r leaves = (on_ok r _ (leaves.whole (marker_of d.walk (waits_of d some.0 some.1 late waits some.2).at code)).0 leaves.row).0
 
 -- a stripe ended
-pub stripe_ended : (d d' : PieceView) → d.is_open ≡ true → d.waits ≡ true → SomeStand d → IsInCode d.walk.stage → KeepsDecoder d d' → (p' : List ℕ) (r : Result (Unit {0}) Fault) → Step (sized (fields_of d.header) d.header.yd) d.walk d'.walk [] p' r → (HasMarker d.walk → IsOk r) →
-    OnOk r (StripesOn (sized (fields_of d.header) d.header.yd) d.walk d'.walk [] p') → OnOk r (d.header.l0 < d.walk.left → d'.walk.stage ≡ stage.Head) →
-    OnOk r ((d'.walk.left ≡ d.walk.left - d.header.l0) × (d'.walk.given ≡ d.walk.given) × (d'.walk.at ≡ None)) → (SomeStands (sized (fields_of d.header) d.header.yd) d.walk → OnOk r (d'.walk.entities ≡ d.walk.entities + 1)) → StripeLeft d d'
-stripe_ended d d' late waits some code keeps p' r step whole read left next entities = record {
-  keeps = keeps;
-  entities = on_ok r _ ok (entities (here.done, some.1, here.walk));
-  given = there.1;
-  at = there.2;
-  stage = on_ok r _ ok left;
-  stands = λ text out s. subst (WalkStands (sized (fields_of d.header) d.header.yd) d'.walk text) (append-nil out) (step_none (fields_of d.header) d.header.yd d.walk d'.walk p' [] (on_ok r _ ok step.ok) text out s);
-  read = λ text out s.
-      let k = on_ok r _ ok read text out s in
-      subst (λ z. StripesRead (fields_of d.header) d.header.yd (passage (Some z) (Some []) (Some []) (Some out)) (d.walk.entities + 1) (cond d.walk.given 1 0) d'.walk.carried) (ap (λ z. text ++ z) (no_bytes k.0 p' k.1) ∙ append-nil text) k.2;
-} where
-  here : WalkWaits (fields_of d.header) d.walk d.behind some.0 some.1
-  here = waits_of d some.0 some.1 late waits some.2
-
-  ok : IsOk r
-  ok = whole (marker_of d.walk here.at code)
-
-  there : (d'.walk.left ≡ d.walk.left - d.header.l0) × (d'.walk.given ≡ d.walk.given) × (d'.walk.at ≡ None)
-  there = on_ok r _ ok next
+pub stripe_ended : {d d' : PieceView} → d.is_open ≡ true → d.waits ≡ true → SomeStand d → KeepsDecoder d d' → StripeEnds (sized (fields_of d.header) d.header.yd) d.walk d'.walk → StripeLeft d d'
+stripe_ended {d} late waits some keeps ends =
+    let here = waits_of d some.0 some.1 late waits some.2 in
+    record { keeps = keeps; entities = ends.entities (here.done, some.1, here.walk); given = ends.next.1; at = ends.next.2; stage = ends.left; stands = ends.on; read = ends.read }
 
 -- ---- steps one after another
 
@@ -472,24 +453,24 @@ same_left e = cc
 
 -- ---- the head of the next stripe
 
-module _ (h : Fields) (w : WalkView) (b : Behind) (place : Place) (done back out : List ℕ) (s : WalkStands (sized h h.yd) w done out) (is : w.stage ≡ stage.Head) (none : w.at ≡ None) (ungiven : w.given ≡ false) (entities : place ≡ record { height = h.yd; entities = w.entities; given = false })
+module _ (h : Fields) (w : WalkView) (b : Head) (place : Place) (done back out : List ℕ) (s : WalkStands (sized h h.yd) w done out) (is : w.stage ≡ stage.Head) (none : w.at ≡ None) (ungiven : w.given ≡ false) (entities : place ≡ record { height = h.yd; entities = w.entities; given = false })
     (bs : BehindStands h (behind_at place false) b back) where
   bare : HeadStands (sized h h.yd) (head_place w.entities false None w.carried) done out
   bare = subst (λ a. HeadStands (sized h h.yd) (head_place w.entities false a w.carried) done out) none (subst (λ g. HeadStands (sized h h.yd) (head_place w.entities g w.at w.carried) done out) ungiven (at_stage is s))
 
   pub head_segments : HeadStands (sized h h.yd) (head_place w.entities false b.at w.carried) (done ++ bs.front) out
-  head_segments = head_behind entities bare bs.passed
+  head_segments = head_behind refl bare (subst (λ p. HasPassed h p false (Some bs.front) (Some []) (segments_so_far b.at (is_some b.at) p.given bs.comments)) entities bs.passed)
 
   full : HeadStands (sized h h.yd) (head_place w.entities w.given b.at w.carried) (done ++ bs.front) out
   full = subst (λ g. HeadStands (sized h h.yd) (head_place w.entities g b.at w.carried) (done ++ bs.front) out) (sym ungiven) head_segments
 
-  pub head_walk : b.comment ≡ None → WalkStands (sized h h.yd) (record w { at = b.at }) (done ++ back) out
-  head_walk between = walk_at s bs.at_is s.code_is s.behind (put_stage _ _ _ _ _ _ is (subst (λ z. HeadStands (sized h h.yd) (head_place w.entities w.given b.at w.carried) (done ++ z) out) (sym (front_is bs between)) full))
-
-  pub comment_walk : (left : ℕ) → b.comment ≡ Some left → WalkStands (sized h h.yd) (record w { at = b.at; comment = left; stage = stage.Comment }) (done ++ back) out
-  comment_walk left inside =
+  -- a walk there
+  pub entered_walk : (comment : Option ℕ) → b.comment ≡ comment →
+      WalkStands (sized h h.yd) (record w { stage = head_kind comment; at = b.at; comment = comment_left comment; row = 0; place = place_from None; first = None; marker = None }) (done ++ back) out
+  entered_walk None between = walk_with s bs.at_is tt tt (omega (arith, s.within)) (subst (λ z. HeadStands (sized h h.yd) (head_place w.entities w.given b.at w.carried) (done ++ z) out) (sym (front_is bs between)) full)
+  entered_walk (Some left) inside =
       let k = part_of bs left inside in
-      walk_at s bs.at_is s.code_is s.behind (record {
+      walk_with s bs.at_is tt tt (omega (arith, s.within)) (record {
         before = done ++ bs.front;
         head = full;
         part = k.0;
@@ -514,35 +495,24 @@ module _ (d e d' : PieceView) (closed : StripeClosed d e) (keeps : KeepsDecoder 
   there : {text out : List ℕ} (w : WalkWaits (fields_of d.header) d.walk d.behind text out) → BehindStands (fields_of d.header) (behind_at (place_behind (fields_of d.header) d.walk.stage d.walk.entities) false) d.behind w.back
   there w = subst (λ l. BehindStands (fields_of d.header) (behind_at (place_behind (fields_of d.header) d.walk.stage d.walk.entities) l) d.behind w.back) more w.behind
 
-  pub entered_none : d.behind.comment ≡ None → d'.walk ≡ record e.walk { at = d.behind.at } → HeadEntered d d'
-  entered_none between walk = record {
+  pub entered : d'.walk ≡ record e.walk { stage = head_kind d.behind.comment; at = d.behind.at; comment = comment_left d.behind.comment; row = 0; place = place_from None; first = None; marker = None } → HeadEntered d d'
+  entered walk = record {
     keeps = all_keeps;
-    stage = ap (λ w. w.stage) walk ∙ closed.stage ∙ sym (ap head_stage between);
-    comment = λ n is. absurd (none_some (sym between ∙ is));
+    stage = ap (λ w. w.stage) walk;
+    comment = λ n is. ap (λ w. w.comment) walk ∙ ap comment_left is;
     entities = ap (λ w. w.entities) walk ∙ closed.entities;
     given = ap (λ w. w.given) walk ∙ closed.given;
     at = ap (λ w. w.at) walk;
-    stands = λ text out w. subst (λ z. WalkStands (sized (fields_of d.header) d.header.yd) z text out) (sym walk) (subst (λ z. WalkStands (sized (fields_of d.header) d.header.yd) (record e.walk { at = d.behind.at }) z out) (sym w.text_is)
-        (head_walk (fields_of d.header) e.walk d.behind (place_behind (fields_of d.header) d.walk.stage d.walk.entities) w.done w.back out (closed.stands text out w) closed.stage closed.at closed.given place_is (there w) between));
-  }
-
-  pub entered_some : (left : ℕ) → d.behind.comment ≡ Some left → d'.walk ≡ record e.walk { at = d.behind.at; comment = left; stage = stage.Comment } → HeadEntered d d'
-  entered_some left inside walk = record {
-    keeps = all_keeps;
-    stage = ap (λ w. w.stage) walk ∙ sym (ap head_stage inside);
-    comment = λ n is. ap (λ w. w.comment) walk ∙ same_left (sym inside ∙ is);
-    entities = ap (λ w. w.entities) walk ∙ closed.entities;
-    given = ap (λ w. w.given) walk ∙ closed.given;
-    at = ap (λ w. w.at) walk;
-    stands = λ text out w. subst (λ z. WalkStands (sized (fields_of d.header) d.header.yd) z text out) (sym walk) (subst (λ z. WalkStands (sized (fields_of d.header) d.header.yd) (record e.walk { at = d.behind.at; comment = left; stage = stage.Comment }) z out) (sym w.text_is)
-        (comment_walk (fields_of d.header) e.walk d.behind (place_behind (fields_of d.header) d.walk.stage d.walk.entities) w.done w.back out (closed.stands text out w) closed.stage closed.at closed.given place_is (there w) left inside));
+    stands = λ text out w. subst (λ z. WalkStands (sized (fields_of d.header) d.header.yd) z text out) (sym walk) (subst (λ z. WalkStands (sized (fields_of d.header) d.header.yd)
+        (record e.walk { stage = head_kind d.behind.comment; at = d.behind.at; comment = comment_left d.behind.comment; row = 0; place = place_from None; first = None; marker = None }) z out) (sym w.text_is)
+        (entered_walk (fields_of d.header) e.walk d.behind (place_behind (fields_of d.header) d.walk.stage d.walk.entities) w.done w.back out (closed.stands text out w) closed.stage closed.at closed.given place_is (there w) d.behind.comment refl));
   }
 
 -- ---- what comes behind
 
 -- a code begins
 pub code_entered : (q : CoderLaws) (d e d' : PieceView) (c : code_type.Code) (dec : Decoder) (p rest : List ℕ) → d.is_open ≡ true → d.waits ≡ true → HeadEntered d e → d.behind.comment ≡ None → IsByteOrMarker c → DecoderIsAt dec start [] → p ≡ code_bytes c ++ rest →
-    d'.header ≡ e.header → d'.height ≡ e.height → d'.is_open ≡ e.is_open → d'.waits ≡ false → d'.walk ≡ record e.walk { decoder = dec; stage = stage.Code; row = 0; first = Some c; marker = None } → DecoderOn d d' p rest []
+    d'.header ≡ e.header → d'.height ≡ e.height → d'.is_open ≡ e.is_open → d'.waits ≡ false → d'.walk ≡ record e.walk { decoder = dec; stage = stage.Code; comment = 0; row = 0; place = place_from None; first = Some c; marker = None } → DecoderOn d d' p rest []
 code_entered q d e d' c dec p rest late waits head between is at p_is header height is_open going walk text out s = (
   code_bytes c,
   p_is,
@@ -555,11 +525,11 @@ code_entered q d e d' c dec p rest late waits head between is at p_is header hei
   there = head.stands text out (waits_of d text out late waits s)
 
   in_head : HeadStands (sized (fields_of d.header) d.header.yd) (head_place e.walk.entities e.walk.given e.walk.at e.walk.carried) text out
-  in_head = at_stage (head.stage ∙ ap head_stage between) there
+  in_head = at_stage (head.stage ∙ ap head_kind between) there
 
-  now : CodeWalks (fields_of d.header) (record e.walk { decoder = dec; stage = stage.Code; row = 0; first = Some c; marker = None }) (text ++ code_bytes c) (out ++ [])
+  now : CodeWalks (fields_of d.header) (record e.walk { decoder = dec; stage = stage.Code; comment = 0; row = 0; place = place_from None; first = Some c; marker = None }) (text ++ code_bytes c) (out ++ [])
   now = record {
-    walk = subst (WalkStands (sized (fields_of d.header) d.header.yd) (record e.walk { decoder = dec; stage = stage.Code; row = 0; first = Some c; marker = None }) (text ++ code_bytes c)) (sym (append-nil out)) (walk_at there there.at_is is tt (head_code in_head c is dec at));
+    walk = subst (WalkStands (sized (fields_of d.header) d.header.yd) (record e.walk { decoder = dec; stage = stage.Code; comment = 0; row = 0; place = place_from None; first = Some c; marker = None }) (text ++ code_bytes c)) (sym (append-nil out)) (walk_with there there.at_is is tt (omega (arith, there.within)) (head_code in_head c is dec at));
     in_code = inl refl;
     ungiven = head.given;
     in_time = in_time_empty q (own_height d.header) in_head c;
@@ -574,7 +544,7 @@ module _ (d e : PieceView) (q : CoderLaws) (late : d.is_open ≡ true) (waits : 
 
     by : (o : Option ℕ) → d.behind.comment ≡ o → BreaksBehind (fields_of d.header) (behind_at (place_behind (fields_of d.header) d.walk.stage d.walk.entities) false) d.behind o p f → CutOff (sized (fields_of d.header) d.header.yd) (text ++ p) out f × (f ≢ Changed)
     by None is (unread, ends) =
-        let k : HeadStands (sized (fields_of d.header) d.header.yd) (head_place e.walk.entities e.walk.given e.walk.at e.walk.carried) text out = at_stage (head.stage ∙ ap head_stage is) there in (
+        let k : HeadStands (sized (fields_of d.header) d.header.yd) (head_place e.walk.entities e.walk.given e.walk.at e.walk.carried) text out = at_stage (head.stage ∙ ap head_kind is) there in (
           head_cut k q (own_height d.header) p unread f stops.counted
               (subst (λ a. Ends Truncated (Some p) (Some unread) (PieceFault (fields_of d.header) (record { height = d.header.yd; entities = e.walk.entities; given = e.walk.given }) (is_some a)) f) (sym head.at)
               (subst (λ g. Ends Truncated (Some p) (Some unread) (PieceFault (fields_of d.header) (record { height = d.header.yd; entities = e.walk.entities; given = g }) (is_some d.behind.at)) f) (sym head.given)
@@ -582,7 +552,7 @@ module _ (d e : PieceView) (q : CoderLaws) (late : d.is_open ≡ true) (waits : 
           piece_other (fields_of d.header) (place_behind (fields_of d.header) d.walk.stage d.walk.entities) (is_some d.behind.at) refl ends.given f (subst (PieceFault (fields_of d.header) (place_behind (fields_of d.header) d.walk.stage d.walk.entities) (is_some d.behind.at) ends.given) stops.counted ends.has_fault),
         )
     by (Some left) is (short, ended) =
-        let k : CommentStands (sized (fields_of d.header) d.header.yd) (head_place e.walk.entities e.walk.given e.walk.at e.walk.carried) e.walk.comment text out = at_stage (head.stage ∙ ap head_stage is) there in (
+        let k : CommentStands (sized (fields_of d.header) d.header.yd) (head_place e.walk.entities e.walk.given e.walk.at e.walk.carried) e.walk.comment text out = at_stage (head.stage ∙ ap head_kind is) there in (
           subst (CutOff (sized (fields_of d.header) d.header.yd) (text ++ p) out) (sym ended) (comment_off k q (own_height d.header) p (subst (λ n. length p < n) (sym (head.comment left is)) short)),
           (λ t. let z : Truncated ≡ Changed = sym ended ∙ t in cc),
         )
@@ -725,16 +695,6 @@ module _ (is_all : Bool) (d d' : PieceView) (p p' : List ℕ) (header : d'.heade
   -- no decoder at some position reaches this
   pub leaves_nowhere : (f : Fault) → (SomeStand d → ⊥) → StepLeaves is_all d d' p p' (Some (outcome.Broken f))
   leaves_nowhere f never = broken_where f (λ some. absurd (never some))
-
--- where all rows of the stripe before are given none has begun
-pub no_row_left : (d : PieceView) → d.is_open ≡ true → d.waits ≡ true → RowsAreGiven d → IsInCode d.walk.stage → (d.walk.stage ≡ stage.Code → ⊥) → SomeStand d → ⊥
-no_row_left d late waits all (inl code) not_code some = not_code code
-no_row_left d late waits all (inr row) not_code some =
-    let w = waits_of d some.0 some.1 late waits some.2 in
-    let k : InRowStands (sized (fields_of d.header) d.header.yd) (head_place d.walk.entities d.walk.given d.walk.at d.walk.carried) (code_place d.walk.row d.walk.first d.walk.marker d.walk.decoder) d.walk.place w.done some.1 = at_stage row w.walk in
-    let few : d.walk.row < min d.walk.left d.header.l0 = subst (λ z. d.walk.row < min z d.header.l0) (sym w.walk.left_is) k.few in
-    let given = all (inr row) in
-    omega (arith, few, given)
 
 -- there are fewer stripes behind than a height has rows
 pub waits_few : (d : PieceView) → d.is_open ≡ true → d.waits ≡ true → SomeStand d → d.walk.entities < d.header.yd

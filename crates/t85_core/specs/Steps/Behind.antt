@@ -1,9 +1,10 @@
--- The state behind an end marker, while a height may still follow.
+-- The marker segments of a stripe that arrive in pieces: those before its code, and those behind an end marker, while a height may
+-- still follow.
 use Rattle.std.specs.Prelude.{ℕ, ◌+◌, ◌^◌, ◌≡◌, ◌≤◌, ◌<◌, Bool, true, false, ◌||◌, List, [], ◌∷◌, ◌++◌, length, Option, Some, None, IfSome, is_some}
 use Rattle.byteorder.specs.Endian.{big_bytes}
 use Rattle.t85_core.specs.declared.fault.Fault.{Fault}
 use Rattle.t85_core.specs.declared.fault.Fault.TheVariants.{Truncated}
-use Rattle.t85_core.specs.declared.pieces.behind.Behind.{Behind}
+use Rattle.t85_core.specs.declared.pieces.head.Head.{Head}
 use Rattle.t85_core.specs.declared.segments.Move as move
 use Rattle.t85_core.specs.declared.segments.Next.{Next}
 use Rattle.t85_core.specs.declared.segments.Next.TheVariants as next
@@ -13,13 +14,18 @@ use Rattle.t85_core.specs.Grammar.{NewLength, ESC, COMMENT, segment_bytes, IsLeg
 use Rattle.t85_core.specs.Failures.{Ends, counted_as}
 use Rattle.t85_core.specs.Steps.Segments.{HasPassed, segments_so_far, PieceFault, IsByteOrMarker, code_bytes}
 
--- The position behind an end marker, and whether the last stripe is over.
+-- The position behind marker segments, whether the last stripe is over, and whether there was a height before them.
 pub record BehindPlace : Type 0 where
   pub place : Place
   pub last : Bool
+  pub before : Bool
 
+abbrev pub head_at : Place → (last before : Bool) → BehindPlace
+head_at place last before = record { place = place; last = last; before = before }
+
+-- no height is among them
 abbrev pub behind_at : Place → Bool → BehindPlace
-behind_at place last = record { place = place; last = last }
+behind_at place last = head_at place last place.given
 
 -- whether a move may not follow
 abbrev pub move_came : Bool → Option move.Move → Bool
@@ -30,30 +36,34 @@ abbrev pub CommentBegun : Option ℕ → List ℕ → List ℕ → Type 0
 CommentBegun None front back = back ≡ front
 CommentBegun (Some left) front back = (part : List ℕ) × (length part + left < 2 ^ 32) × (back ≡ front ++ (ESC ∷ COMMENT ∷ (big_bytes 4 (length part + left) ++ part)))
 
--- These bytes followed a marker: whole segments, and the start of a comment.
-pub record BehindStands (h : Fields) (here : BehindPlace) (b : Behind) (back : List ℕ) : Type 0 where
+-- the position before them
+abbrev pub place_at_head : BehindPlace → Place
+place_at_head here = record { height = here.place.height; entities = here.place.entities; given = here.before }
+
+-- These bytes came: whole segments, and the start of a comment.
+pub record BehindStands (h : Fields) (here : BehindPlace) (b : Head) (back : List ℕ) : Type 0 where
   pub front : List ℕ
   pub comments : ℕ
-  pub passed : HasPassed h here.place here.last (Some front) (Some []) (segments_so_far b.at (move_came here.last b.at) false comments)
+  pub passed : HasPassed h (place_at_head here) here.last (Some front) (Some []) (segments_so_far b.at (move_came here.last b.at) here.place.given comments)
   pub at_is : IfSome b.at (λ to. to.offset ≤ 127)
   pub begun : CommentBegun b.comment front back
 
 -- More bytes followed.
-abbrev pub BehindOn : Fields → BehindPlace → Behind → Behind → List ℕ → List ℕ → Type 0
+abbrev pub BehindOn : Fields → BehindPlace → Head → Head → List ℕ → List ℕ → Type 0
 BehindOn h here b b' piece piece' = (back : List ℕ) → BehindStands h here b back → (given : List ℕ) × (piece ≡ given ++ piece') × BehindStands h here b' (back ++ given)
 
 -- the next bytes are a valid height or the start of a code
 abbrev pub ComesBehind : Fields → Place → Next → List ℕ → List ℕ → Type 0
-ComesBehind h place (next.Height n) piece rest = (is_valid_length h place.entities n ≡ true) × IsLegal h (NewLength n) × (piece ≡ segment_bytes (NewLength n) ++ rest)
+ComesBehind h place (next.Height n) piece rest = (is_valid_length h place.entities n ≡ true) × IsLegal h (NewLength n) × (piece ≡ segment_bytes (NewLength n) ++ rest) × (place.given ≡ false)
 ComesBehind h place (next.Code c) piece rest = IsByteOrMarker c × (piece ≡ code_bytes c ++ rest)
 
 -- the rest of the piece is broken, or ends too early: before a segment, or in a comment
-abbrev pub BreaksBehind : Fields → BehindPlace → Behind → Option ℕ → List ℕ → Fault → Type 0
+abbrev pub BreaksBehind : Fields → BehindPlace → Head → Option ℕ → List ℕ → Fault → Type 0
 BreaksBehind h here b None piece fault = (unread : List ℕ) × Ends Truncated (Some piece) (Some unread) (PieceFault h here.place (move_came here.last b.at)) fault
 BreaksBehind h here b (Some left) piece fault = (length piece < left) × (fault ≡ Truncated)
 
 -- How a step behind an end marker stops: the few bytes that it leaves if more may follow, and why it cannot continue.
-pub record StopsBehind (h : Fields) (here : BehindPlace) (b : Behind) (piece : List ℕ) (fault : Fault) : Type 0 where
+pub record StopsBehind (h : Fields) (here : BehindPlace) (b : Head) (piece : List ℕ) (fault : Fault) : Type 0 where
   pub counted : counted_as Truncated fault ≡ fault
   pub few : fault ≡ Truncated → length piece ≤ 7
   pub breaks : BreaksBehind h here b b.comment piece fault

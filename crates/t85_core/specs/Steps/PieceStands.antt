@@ -1,9 +1,9 @@
 -- The position of a decoder of a stream in pieces, while a height may still follow, and after.
 use Rattle.std.specs.Prelude.{ℕ, ◌+◌, ◌≡◌, ◌⊎◌, Bool, true, false, nat_le, List, ◌++◌, None}
 use Rattle.t85_core.specs.Lent.{PieceView, WalkView}
-use Rattle.t85_core.specs.declared.pieces.behind.Behind.{Behind}
-use Rattle.t85_core.specs.declared.pieces.walk.Stage.{Stage}
-use Rattle.t85_core.specs.declared.pieces.walk.Stage.TheVariants as stage
+use Rattle.t85_core.specs.declared.pieces.head.Head.{Head}
+use Rattle.t85_core.specs.Stages.{Kind}
+use Rattle.t85_core.specs.Stages as stage
 use Rattle.t85_core.specs.declared.segments.Place.{Place}
 use Rattle.t85_core.specs.Header.{Fields, is_variable}
 use Rattle.t85_core.specs.Options.{fields_of}
@@ -21,7 +21,7 @@ pub record HeightKnown (h : Fields) (height : ℕ) (is_open : Bool) (text : List
   pub fixed : is_open ≡ false → is_variable h ≡ false → height ≡ h.yd
 
 -- the number of stripe data entities before the bytes behind a walk
-abbrev pub entities_behind : Stage → ℕ → ℕ
+abbrev pub entities_behind : Kind → ℕ → ℕ
 entities_behind stage.Head entities = entities
 entities_behind stage.Comment entities = entities
 entities_behind stage.Code entities = entities + 1
@@ -29,17 +29,17 @@ entities_behind stage.Row entities = entities + 1
 entities_behind stage.Done entities = entities
 
 -- whether the last stripe is over there
-abbrev pub is_last : Stage → Bool → Bool
+abbrev pub is_last : Kind → Bool → Bool
 is_last stage.Head no_more = false
 is_last stage.Comment no_more = false
 is_last stage.Code no_more = no_more
 is_last stage.Row no_more = no_more
 is_last stage.Done no_more = true
 
-abbrev pub place_behind : Fields → Stage → ℕ → Place
+abbrev pub place_behind : Fields → Kind → ℕ → Place
 place_behind h s entities = record { height = h.yd; entities = entities_behind s entities; given = false }
 
-abbrev pub last_behind : Fields → Stage → ℕ → Bool
+abbrev pub last_behind : Fields → Kind → ℕ → Bool
 last_behind h s left = is_last s (nat_le left h.l0)
 
 -- A walk is in the code of a stripe, and no height came.
@@ -55,7 +55,7 @@ abbrev pub IsAtMarker : WalkView → Type 0
 IsAtMarker w = ((w.stage ≡ stage.Head) × (w.at ≡ None) × (w.entities ≡ 0)) ⊎ (IsInCode w.stage × HasMarker w)
 
 -- A walk waits for what comes behind it, of which this came.
-pub record WalkWaits (h : Fields) (w : WalkView) (b : Behind) (text out : List ℕ) : Type 0 where
+pub record WalkWaits (h : Fields) (w : WalkView) (b : Head) (text out : List ℕ) : Type 0 where
   pub done : List ℕ
   pub back : List ℕ
   pub text_is : text ≡ done ++ back

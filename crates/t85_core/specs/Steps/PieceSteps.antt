@@ -8,8 +8,8 @@ use Rattle.t85_core.specs.declared.pieces.PieceDecoder.{PieceDecoder}
 use Rattle.t85_core.specs.declared.pieces.Outcome.TheVariants as outcome
 use Rattle.t85_core.specs.Options.{fields_of}
 use Rattle.t85_core.specs.Steps.PieceStands.{DecoderStands, WalkWaits, last_behind, place_behind}
-use Rattle.t85_core.specs.declared.pieces.walk.Stage.{Stage}
-use Rattle.t85_core.specs.declared.pieces.walk.Stage.TheVariants as stage
+use Rattle.t85_core.specs.Stages.{stage_kind, head_kind}
+use Rattle.t85_core.specs.Stages as stage
 use Rattle.t85_core.specs.declared.segments.Place.{Place}
 use Rattle.t85_core.specs.Header.{Fields}
 use Rattle.t85_core.specs.Grammar.{NewLength, segment_bytes, is_valid_length, IsLegal}
@@ -124,15 +124,10 @@ pub record StripeClosed (d d' : PieceView) : Type 0 where
   pub at : d'.walk.at ≡ None
   pub stands : (text out : List ℕ) → (w : WalkWaits (fields_of d.header) d.walk d.behind text out) → WalkStands (sized (fields_of d.header) d.header.yd) d'.walk w.done out
 
--- where a head is
-abbrev pub head_stage : Option ℕ → Stage
-head_stage None = stage.Head
-head_stage (Some left) = stage.Comment
-
 -- The stripe before was ended: what came behind it is the head of the next.
 pub record HeadEntered (d d' : PieceView) : Type 0 where
   pub keeps : KeepsDecoder d d'
-  pub stage : d'.walk.stage ≡ head_stage d.behind.comment
+  pub stage : d'.walk.stage ≡ head_kind d.behind.comment
   pub comment : (left : ℕ) → d.behind.comment ≡ Some left → d'.walk.comment ≡ left
   pub entities : d'.walk.entities ≡ (place_behind (fields_of d.header) d.walk.stage d.walk.entities).entities
   pub given : d'.walk.given ≡ false
@@ -153,11 +148,11 @@ LookIsOver is_all d piece =
 
 -- whether the last stripe is over there that the header's height makes
 abbrev pub is_last_of : PieceDecoder → Bool
-is_last_of d = last_behind (fields_of d.header) d.walk.stage d.walk.left
+is_last_of d = last_behind (fields_of d.header) (stage_kind d.walk.stage) d.walk.left
 
 -- where what comes behind stands
 abbrev pub place_after : PieceDecoder → Place
-place_after d = place_behind (fields_of d.header) d.walk.stage d.walk.entities
+place_after d = place_behind (fields_of d.header) (stage_kind d.walk.stage) d.walk.entities
 
 -- how many steps may be left: each takes bytes, or is the one that begins to wait
 abbrev pub steps_left : Bool → List ℕ → ℕ

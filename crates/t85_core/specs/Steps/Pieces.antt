@@ -12,9 +12,11 @@ use Rattle.t85_core.specs.declared.segments.Code.{Code}
 use Rattle.t85_core.specs.declared.segments.Code.TheVariants as code
 use Rattle.t85_core.specs.declared.segments.Move as move
 use Rattle.t85_core.specs.declared.pieces.walk.Walk.{Walk}
-use Rattle.t85_core.specs.Lent.{Carried, WalkView, walk_view}
-use Rattle.t85_core.specs.declared.pieces.walk.Stage.{Stage}
-use Rattle.t85_core.specs.declared.pieces.walk.Stage.TheVariants as stage
+use Rattle.t85_core.specs.declared.pieces.code.InCode.{InCode}
+use Rattle.raster_core.specs.declared.shape.Kept.{Kept}
+use Rattle.t85_core.specs.Lent.{Carried, StripeAt, WalkView, code_view, walk_view}
+use Rattle.t85_core.specs.Stages.{Kind, stage_kind, stage_row}
+use Rattle.t85_core.specs.Stages as stage
 use Rattle.t85_core.specs.Steps.SizedImage.{SizedImage}
 use Rattle.t85_core.specs.Header.{Fields}
 use Rattle.t85_core.specs.Grammar.{stripe_count, ESC, COMMENT}
@@ -113,14 +115,14 @@ pub record InRowStands (image : SizedImage) (here : HeadPlace) (in_code : CodePl
   pub text_is : text ≡ before ++ code
 
 -- whether the image is whole
-abbrev pub IsOver : Stage → Type 0
+abbrev pub IsOver : Kind → Type 0
 IsOver stage.Head = ⊥
 IsOver stage.Comment = ⊥
 IsOver stage.Code = ⊥
 IsOver stage.Row = ⊥
 IsOver stage.Done = ⊤
 
-abbrev pub StageStands : Stage → SizedImage → WalkView → List ℕ → List ℕ → Type 0
+abbrev pub StageStands : Kind → SizedImage → WalkView → List ℕ → List ℕ → Type 0
 StageStands stage.Head image w text out = HeadStands image (head_place_of w) text out
 StageStands stage.Comment image w text out = CommentStands image (head_place_of w) w.comment text out
 StageStands stage.Code image w text out = CodeStands image (head_place_of w) (code_place_of w) text out
@@ -156,7 +158,7 @@ abbrev pub StepsOff : SizedImage → WalkView → List ℕ → Fault → Type 0
 StepsOff image w piece fault = (text out : List ℕ) → WalkStands image w text out → CutOff image (text ++ piece) out fault
 
 -- The effect of a step that returns no row.
-pub record Step (image : SizedImage) (w w' : WalkView) (piece piece' : List ℕ) (answer : Result (Unit {0}) Fault) : Type 0 where
+pub record Step {A : Type 0} (image : SizedImage) (w w' : WalkView) (piece piece' : List ℕ) (answer : Result A Fault) : Type 0 where
   pub ok : OnOk answer (StepsOn image w w' piece piece' [])
   pub err : IfErr answer (λ f. StepsOff image w piece f)
   pub more : IsErrOf answer Truncated → StepsToEnd image w w' piece piece'
@@ -178,21 +180,29 @@ pub record IsFirstWalk (w : WalkView) : Type 0 where
   pub entities : w.entities ≡ 0
   pub given : w.given ≡ false
 
--- the end marker of the code was read
+-- what a step leaves of a code, all rows of which are decoded, whatever the rest of the decoder is
+abbrev pub AfterRows : ℕ → (WalkView → WalkView → Type 0) → InCode → InCode → Type 0
+AfterRows l0 Leaves c c' =
+    (s : StripeAt) (kept : Kept) (d : Decoder) (rows : Held) (learned : List Estimate) → min s.left l0 ≤ c.row → Leaves (code_view s c kept d rows learned) (code_view s c' kept d rows learned)
+
+-- the end marker of the code was read: one that resets, or one that does not
+abbrev pub MarkerIs : Bool → Option Bool → Option Code → Type 0
+MarkerIs reset marker first = (marker ≡ Some reset) ⊎ (first ≡ Some (code.Marker reset))
+
 abbrev pub MarkerRead : Option Bool → Option Code → Type 0
-MarkerRead marker first = (reset : Bool) × ((marker ≡ Some reset) ⊎ (first ≡ Some (code.Marker reset)))
+MarkerRead marker first = (reset : Bool) × MarkerIs reset marker first
 
 abbrev pub HasMarker : WalkView → Type 0
 HasMarker w = MarkerRead w.marker w.first
 
--- The numbers of a walk are such that a row of this width can be decoded. Any that a walk has left are.
-pub record RowFits (width : ℕ) (w : Walk) (rows : Held) : Type 0 where
+-- A row of this width can be decoded from here.
+pub record RowFits (width : ℕ) (c : InCode) (kept : Kept) (rows : Held) : Type 0 where
   pub width_is : rows.width ≡ width
-  pub within : w.place.done < width
-  pub offset_is : w.kept.offset ≤ 127
-  pub at_is : IfSome w.at (λ to. to.offset ≤ 127)
-  pub code_is : IfSome w.first IsByteOrMarker
-  pub behind : IfSome w.marker (λ _. w.first ≡ None)
+  pub within : IfSome c.begun (λ place. place.done < width)
+  pub offset_is : kept.offset ≤ 127
+  pub at_is : IfSome c.at (λ to. to.offset ≤ 127)
+  pub code_is : IfSome c.first IsByteOrMarker
+  pub behind : IfSome c.marker (λ _. c.first ≡ None)
 
 -- the stripe stays the same
 pub record KeepsPlace (w w' : WalkView) : Type 0 where
@@ -202,25 +212,16 @@ pub record KeepsPlace (w w' : WalkView) : Type 0 where
   pub at : w'.at ≡ w.at
 
 -- the code of a stripe has begun
-abbrev pub IsInCode : Stage → Type 0
+abbrev pub IsInCode : Kind → Type 0
 IsInCode s = (s ≡ stage.Code) ⊎ (s ≡ stage.Row)
 
--- another row of the stripe is to come; or all of them came
-abbrev pub WantsRow : ℕ → Walk → Type 0
-WantsRow l0 w = (w.stage ≡ stage.Code) × (w.row < min w.left l0)
-
-abbrev pub HasAllRows : ℕ → Walk → Type 0
-HasAllRows l0 w = (w.stage ≡ stage.Code) × (min w.left l0 ≤ w.row)
-
 -- a row has begun, or is still to come
-abbrev pub RowIsLeft : ℕ → Walk → Type 0
-RowIsLeft l0 w = (w.stage ≡ stage.Row) ⊎ WantsRow l0 w
+abbrev pub RowIsLeft : ℕ → WalkView → Type 0
+RowIsLeft l0 w = IsInCode w.stage × (w.row < min w.left l0)
 
--- A stripe ended: so many were decoded, and handed out.
-abbrev pub StripesOn : SizedImage → WalkView → WalkView → List ℕ → List ℕ → Type 0
-StripesOn image w w' piece piece' =
-    (text out : List ℕ) → WalkStands image w text out →
-    (given : List ℕ) × (piece ≡ given ++ piece') × StripesRead image.fields image.height (passage (Some (text ++ given)) (Some []) (Some []) (Some out)) (w.entities + 1) (if w.given then 1 else 0) w'.carried
+-- all rows of the stripe are decoded
+abbrev pub HasAllRows : ℕ → Walk → Type 0
+HasAllRows l0 w = IsInCode (stage_kind w.stage) × (min w.left l0 ≤ stage_row w.stage)
 
 -- The effect of a step to a row, besides the row.
 pub record RowLeaves (w w' : WalkView) (piece piece' : List ℕ) (answer : Result (Unit {0}) Fault) : Type 0 where

@@ -4,7 +4,7 @@ use Rattle.std.specs.Io.KnownBytes.{Appends, Consumes, Keeps, IsAtEnd}
 use Rattle.raster_core.specs.Packed.{packed_row, row_bytes}
 use Rattle.t85_core.specs.declared.fault.Fault.{Fault}
 use Rattle.t85_core.specs.declared.fault.Fault.TheVariants.{Truncated}
-use Rattle.t85_core.specs.declared.pieces.walk.Stage.TheVariants as stage
+use Rattle.t85_core.specs.Stages as stage
 use Rattle.t85_core.specs.Lent.{WalkView}
 use Rattle.t85_core.specs.Fixed.{Fixes}
 use Rattle.t85_core.specs.Failures.{Ends, counted_as, reads_after}

@@ -1,14 +1,129 @@
-//! Skips the rest of a code after the last row of its stripe.
+//! The code of a stripe that arrives in pieces.
 
-ghost use Rattle.std.specs.Prelude.{◌≡◌, ◌≤◌, ◌⊎◌, Bool, length, None, IfErr, IfOk, IsErrOf, IsOk, Some};
+ghost use Rattle.std.specs.Prelude.{◌≡◌, ◌≢◌, ◌≤◌, ◌<◌, ◌+◌, ◌⊎◌, ◌++◌, Bool, List, ℕ, length, min, None, Option, IfErr, IfOk, IsErrOf, IsOk, OnOk, Some, false, true};
+ghost use Rattle.qm_core.specs.Place.{Estimate};
+ghost use Rattle.raster_core.specs.Window.{held};
 ghost use Rattle.t85_core.specs.declared.segments.Code.TheVariants as code;
-ghost use Rattle.t85_core.specs.declared.fault.Fault.TheVariants.{Truncated};
+ghost use Rattle.t85_core.specs.declared.fault.Fault.TheVariants.{Truncated, Changed};
+ghost use Rattle.t85_core.specs.Lent.{KeepsLent, StripeAt, code_lent};
+ghost use Rattle.t85_core.specs.Stages.{code_start};
+ghost use Rattle.t85_core.specs.Steps.Buffers.{copies};
+ghost use Rattle.t85_core.specs.Steps.InTime.{ReachesMarker};
 ghost use Rattle.t85_core.specs.Steps.PieceCode.{FindsMarker, MissesMarker, KeepsCode, SkipsSome, SkipBreaks};
+ghost use Rattle.t85_core.specs.Steps.Pieces.{AfterRows, MarkerIs, MarkerRead, SomeStands, Step, WalkStands};
+ghost use Rattle.t85_core.specs.Steps.SizedImage.{sized_of};
 
+mod row;
+
+use crate::decoding::rows::{is_settled, skip_many};
 use crate::fault::Fault;
+use crate::header::SizedImage;
 use crate::input_buffer::ByteSource;
+use crate::laws::coder_laws;
+use crate::lent::Lent;
 use crate::pieces::piece::Piece;
-use crate::segments::{Code, next_code};
+use crate::segments::{Code, Move, next_code};
+use qm_core::Decoder;
+use raster_core::{Kept, RowPlace};
+
+/// The state in the code of a stripe.
+#[derive(Clone, Copy, Drop)]
+pub struct InCode {
+    /// The move of the stripe.
+    pub at: Option<Move>,
+    /// The number of rows of the stripe that are decoded.
+    pub row: u32,
+    /// How far the next row is decoded, if it has begun.
+    pub begun: Option<RowPlace>,
+    /// The byte or marker that was read ahead of the rows.
+    pub first: Option<Code>,
+    /// Whether the end marker resets, once a row has read it.
+    pub marker: Option<bool>,
+}
+
+impl InCode {
+    /// Before the first row of a stripe with this move. The first element of its code has been read.
+    pub fn start(at: Option<Move>, first: Code) -> InCode
+        ensures { result ≡ code_start at first }
+    {
+        InCode {
+            at,
+            row: 0,
+            begun: None,
+            first: Some(first),
+            marker: None,
+        }
+    }
+
+    /// Whether the end marker resets, once it has been read.
+    pub fn end_marker(&self) -> Option<bool>
+        ensures some { (reset : Bool) → result ≡ Some reset →
+            MarkerIs reset self.now.marker self.now.first }
+        ensures none { result ≡ None → MarkerRead self.now.marker self.now.first → ⊥ }
+    {
+        match self.first {
+            Some(Code::Marker(reset)) => Some(reset),
+            _ => self.marker,
+        }
+    }
+
+    /// Decodes rows that equal the one before, if the bits already read determine them, and returns how many. The
+    /// stripe has `rows` rows. The window contains the last of them.
+    #[inline(always)]
+    pub fn repeat(
+        &mut self,
+        image: &SizedImage,
+        rows: u32,
+        kept: Kept,
+        decoder: &mut Decoder,
+        lent: &mut Lent<'_, '_>,
+    ) -> u32
+        ensures on { (s : StripeAt) (text out : List ℕ) → rows ≡ min s.left image.now.header.l0 →
+            WalkStands (sized_of image.now) (code_lent s self.old kept decoder.old lent.old) text
+            out → WalkStands (sized_of image.now) (code_lent s self.new kept decoder.new lent.new)
+            text (out ++ copies result (held lent.new.window.now).current) }
+        ensures begun { 0 < result → self.new.begun ≡ None }
+        ensures lent { KeepsLent lent.old lent.new }
+    {
+        if self.begun.is_some() || !is_settled(self.at, self.row) {
+            return 0;
+        }
+        let left = rows.saturating_sub(self.row);
+        let count = skip_many(image.header.shape(), kept, lent.learned, decoder, left);
+        if count == 0 {
+            return 0;
+        }
+        lent.window.repeat();
+        self.row = self.row.saturating_add(count);
+        count
+    }
+
+    /// Skips the rest of the code, after the last row, up to its end marker, and returns whether that resets. Reads the
+    /// marker ahead. If it has not arrived yet, skips the bytes that have.
+    pub fn find_end(&mut self, image: &SizedImage, piece: &mut Piece<'_>) -> Result<bool, Fault>
+        ensures step { AfterRows image.now.header.l0 (λ w w'. Step (sized_of image.now) w w'
+            piece.old.rest.now piece.new.rest.now result) self.old self.new }
+        ensures in_time { (MarkerRead self.old.marker self.old.first → ⊥) → AfterRows
+            image.now.header.l0 (λ w w'. OnOk result (ReachesMarker (sized_of image.now) w
+            piece.old.rest.now piece.new.rest.now)) self.old self.new }
+        ensures other { AfterRows image.now.header.l0 (λ w w'. SomeStands (sized_of image.now) w →
+            IfErr result (λ f. f ≢ Changed)) self.old self.new }
+        ensures same { (self.new.at ≡ self.old.at) × (self.new.row ≡ self.old.row) ×
+            (self.new.begun ≡ self.old.begun) × (self.new.marker ≡ self.old.marker) }
+        ensures marked { IfOk result (λ reset. MarkerIs reset self.new.marker self.new.first) }
+        ensures none { IfErr result (λ _. (self.new.first ≡ None) × (self.new.marker ≡ None)) }
+        ensures no_more { length piece.new.rest.now ≤ length piece.old.rest.now }
+    {
+        // The proof uses these laws of the coder.
+        coder_laws();
+        if let Some(reset) = self.end_marker() {
+            return Ok(reset);
+        }
+        let reset = find_marker(&mut self.first, self.marker, piece)?;
+        self.first = Some(Code::Marker(reset));
+        Ok(reset)
+    }
+}
 
 /// Skips the rest of a code, and returns whether its end marker resets. If the marker has not arrived yet, skips what
 /// has.

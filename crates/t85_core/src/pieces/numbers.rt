@@ -5,14 +5,15 @@ ghost use Rattle.qm_core.specs.Place.{Estimate};
 ghost use Rattle.raster_core.specs.Packed.{Held};
 ghost use Rattle.t85_core.specs.Options.{fields_of};
 ghost use Rattle.t85_core.specs.Steps.Segments.{IsByteOrMarker};
-ghost use Rattle.t85_core.specs.Numbers.{stage_number, code_number, marker_number, move_numbers, piece_numbers};
-ghost use Rattle.t85_core.specs.declared.pieces.walk.Stage.{Stage};
+ghost use Rattle.t85_core.specs.Numbers.{code_number, marker_number, move_numbers, piece_numbers, stage_number};
+ghost use Rattle.t85_core.specs.Stages.{stage_first, stage_kind};
 ghost use Rattle.t85_core.specs.declared.segments.Code.{Code};
 ghost use Rattle.t85_core.specs.declared.segments.Move.{Move};
 
 use crate::header::Header;
 use crate::pieces::PieceDecoder;
-use crate::pieces::behind::Behind;
+use crate::pieces::code::InCode;
+use crate::pieces::head::Head;
 use crate::pieces::walk::{Stage, Walk};
 use crate::segments::{Code, Move};
 use qm_core::{Decoder, DecoderRegisters};
@@ -28,6 +29,20 @@ pub struct MoveNumbers {
     /// Its offset, or 0.
     pub offset: u8,
 }
+
+const NO_MOVE: MoveNumbers = MoveNumbers {
+    is_there: false,
+    row: 0,
+    offset: 0,
+};
+
+/// The place in a row that has not begun.
+const NO_PLACE: RowPlaceNumbers = RowPlaceNumbers {
+    is_begun: false,
+    done: 0,
+    past_high: 0,
+    past_low: 0,
+};
 
 /// The state of a decoder in pieces that has not ended, as numbers that anyone may store. To continue, it also needs
 /// its header, and for each call the window and the contexts.
@@ -73,27 +88,13 @@ pub struct PieceNumbers {
     pub decoder: DecoderRegisters,
 }
 
-fn number_of_stage(stage: Stage) -> u8
-    ensures { result ≡ stage_number stage }
+fn number_of_stage(stage: &Stage) -> u8
+    ensures { result ≡ stage_number (stage_kind stage.now) }
 {
     match stage {
-        Stage::Head => 0,
-        Stage::Comment => 1,
-        Stage::Code => 2,
-        Stage::Row => 3,
+        Stage::Head(head) => u8::from(head.comment.is_some()),
+        Stage::Code(code) => 2 + u8::from(code.begun.is_some()),
         Stage::Done => 4,
-    }
-}
-
-fn stage_of(number: u8) -> Stage
-    ensures { (stage : Stage) → number ≡ stage_number stage → result ≡ stage }
-{
-    match number {
-        0 => Stage::Head,
-        1 => Stage::Comment,
-        2 => Stage::Code,
-        3 => Stage::Row,
-        _ => Stage::Done,
     }
 }
 
@@ -171,31 +172,49 @@ fn move_of(numbers: MoveNumbers) -> Option<Move>
 
 impl PieceDecoder {
     /// The state as numbers. They do not include how the stream has ended.
+    #[inline(always)]
     pub fn numbers(&self) -> PieceNumbers
         ensures { result ≡ piece_numbers self.now }
     {
         let walk = &self.walk;
-        PieceNumbers {
+        let mut numbers = PieceNumbers {
             height: self.height,
             is_open: self.is_open,
             waits: self.waits,
             move_behind: numbers_of_move(self.behind.at),
             has_comment_behind: self.behind.comment.is_some(),
             comment_behind: self.behind.comment.unwrap_or(0),
-            stage: number_of_stage(walk.stage),
+            stage: number_of_stage(&walk.stage),
             entities: walk.entities,
             left: walk.left,
             is_given: walk.given,
-            move_here: numbers_of_move(walk.at),
-            comment: walk.comment,
-            row: walk.row,
-            place: walk.place.numbers(),
-            ahead: number_of_code(walk.first),
-            marker: number_of_marker(walk.marker),
+            move_here: NO_MOVE,
+            comment: 0,
+            row: 0,
+            place: NO_PLACE,
+            ahead: 0,
+            marker: 0,
             offset: walk.kept.offset,
             is_previous_typical: walk.kept.previous_typical,
             decoder: walk.decoder.registers(),
+        };
+        match &walk.stage {
+            Stage::Head(head) => {
+                numbers.move_here = numbers_of_move(head.at);
+                numbers.comment = head.comment.unwrap_or(0);
+            }
+            Stage::Code(code) => {
+                numbers.move_here = numbers_of_move(code.at);
+                numbers.row = code.row;
+                numbers.ahead = number_of_code(code.first);
+                numbers.marker = number_of_marker(code.marker);
+                if let Some(place) = code.begun {
+                    numbers.place = place.numbers();
+                }
+            }
+            Stage::Done => {}
         }
+        numbers
     }
 }
 
@@ -204,9 +223,10 @@ impl PieceNumbers {
     ghost use Rattle.t85_core.specs.declared.pieces.PieceDecoder.{PieceDecoder};
 
     /// The position in the stream.
+    #[inline(always)]
     fn walk(&self) -> Walk
         ensures { (d : PieceDecoder) → self.now ≡ piece_numbers d →
-            IfSome d.walk.first IsByteOrMarker → IsWalkAs d.walk result }
+            IfSome (stage_first d.walk.stage) IsByteOrMarker → IsWalkAs d.walk result }
     {
         Walk {
             kept: Kept {
@@ -214,24 +234,66 @@ impl PieceNumbers {
                 previous_typical: self.is_previous_typical,
             },
             decoder: Decoder::from_registers(self.decoder).unwrap_or(Decoder::start()),
-            stage: stage_of(self.stage),
+            stage: self.stage(),
             entities: self.entities,
             left: self.left,
             given: self.is_given,
+        }
+    }
+
+    /// The next item in the stream.
+    #[inline(always)]
+    fn stage(&self) -> Stage
+        ensures { (d : PieceDecoder) → self.now ≡ piece_numbers d →
+            IfSome (stage_first d.walk.stage) IsByteOrMarker → result ≡ d.walk.stage }
+    {
+        match self.stage {
+            0 => Stage::Head(self.head(None)),
+            1 => Stage::Head(self.head(Some(self.comment))),
+            2 => Stage::Code(self.code(None)),
+            3 => Stage::Code(self.code(Some(RowPlace::from_numbers(self.place)))),
+            _ => Stage::Done,
+        }
+    }
+
+    /// The marker segments of the current stripe, with this many bytes of a comment still to come.
+    #[inline(always)]
+    fn head(&self, comment: Option<u32>) -> Head
+        ensures at { (at : Option Move) → self.now.move_here ≡ move_numbers at → result.at ≡ at }
+        ensures comment { result.comment ≡ comment }
+    {
+        Head {
             at: move_of(self.move_here),
-            comment: self.comment,
+            comment,
+        }
+    }
+
+    /// The code of the current stripe, the next row of which is decoded so far.
+    #[inline(always)]
+    fn code(&self, begun: Option<RowPlace>) -> InCode
+        ensures at { (at : Option Move) → self.now.move_here ≡ move_numbers at → result.at ≡ at }
+        ensures row { result.row ≡ self.now.row }
+        ensures begun { result.begun ≡ begun }
+        ensures first { (code : Option Code) → IfSome code IsByteOrMarker → self.now.ahead ≡
+            code_number code → result.first ≡ code }
+        ensures marker { (marker : Option Bool) → self.now.marker ≡ marker_number marker →
+            result.marker ≡ marker }
+    {
+        InCode {
+            at: move_of(self.move_here),
             row: self.row,
-            place: RowPlace::from_numbers(self.place),
+            begun,
             first: code_of(self.ahead),
             marker: marker_of(self.marker),
         }
     }
 
-    /// The bytes that arrived after an end marker.
-    fn behind(&self) -> Behind
+    /// The marker segments that arrived after an end marker.
+    #[inline(always)]
+    fn behind(&self) -> Head
         ensures { (d : PieceDecoder) → self.now ≡ piece_numbers d → result ≡ d.behind }
     {
-        Behind {
+        Head {
             at: move_of(self.move_behind),
             comment: self.has_comment_behind.then_some(self.comment_behind),
         }
@@ -245,6 +307,7 @@ impl PieceDecoder {
 
     /// The decoder with this header and these numbers, which has not ended. For numbers that no decoder exported, the
     /// result is safe but otherwise unspecified.
+    #[inline(always)]
     pub fn resume(header: Header, numbers: &PieceNumbers) -> PieceDecoder
         ensures stream { result.header ≡ header }
         ensures resumes { (d : PieceDecoder) (rows : Held) (learned : List Estimate)

@@ -8,23 +8,23 @@ ghost use Rattle.t85_core.specs.declared.fault.Fault.{Fault};
 ghost use Rattle.t85_core.specs.declared.fault.Fault.TheVariants.{Truncated};
 ghost use Rattle.qm_core.specs.Place.{Estimate};
 ghost use Rattle.raster_core.specs.Packed.{Held};
-ghost use Rattle.t85_core.specs.Lent.{KeepsLent, decoder_lent as over, decoder_view};
+ghost use Rattle.t85_core.specs.Lent.{KeepsLent, decoder_lent as over, decoder_view, walk_lent};
 
 use crate::fault::Fault;
 use crate::header::SizedImage;
 use crate::input_buffer::ESCAPE;
 use crate::lent::Lent;
-use crate::pieces::behind::Behind;
+use crate::pieces::head::Head;
 use crate::pieces::piece::Piece;
 use crate::pieces::{Outcome, PieceDecoder};
-use crate::segments::{Code, SDNORM, SDRST, STUFF};
+use crate::segments::{SDNORM, SDRST, STUFF};
 
 /// The greatest number of code bytes that are searched for the end marker.
 const AHEAD: usize = 256;
 
 impl PieceDecoder {
-    ghost use Rattle.t85_core.specs.declared.pieces.walk.Stage.TheVariants as stage;
-    ghost use Rattle.t85_core.specs.Steps.Pieces.{MarkerRead, IsInCode, RowIsLeft};
+    ghost use Rattle.t85_core.specs.Stages.{stage_kind, stage_first, stage_marker};
+    ghost use Rattle.t85_core.specs.Steps.Pieces.{HasAllRows, IsInCode, MarkerRead, RowIsLeft};
     ghost use Rattle.t85_core.specs.Steps.PieceSteps.{DecodesCode, DecoderOnAfterRows, Lowers, StepLeaves};
 
     /// Continues up to the next row or the end, or as far as the bytes allow.
@@ -101,12 +101,12 @@ impl PieceDecoder {
         if !self.is_in_code() {
             return Some(Outcome::Broken(Fault::Truncated));
         }
-        if self.walk.has_marker() {
+        if self.walk.end_marker().is_some() {
             self.waits = true;
-            self.behind = Behind::start();
+            self.behind = Head::start();
             return None;
         }
-        if self.walk.wants_row(&self.header) {
+        if self.walk.wants_row(self.walk.left.min(self.header.l0)) {
             self.step_in_rows(lent, piece, is_all)
         } else {
             self.step_to_marker(piece, is_all)
@@ -116,9 +116,9 @@ impl PieceDecoder {
     /// Continues after the last row of a stripe, to the end marker.
     fn step_to_marker(&mut self, piece: &mut Piece<'_>, is_all: bool) -> Option<Outcome>
         requires in_code { DecodesCode self.old }
-        requires unmarked { MarkerRead self.old.walk.marker self.old.walk.first → ⊥ }
-        requires stage { self.old.walk.stage ≡ stage.Code }
-        requires all { min self.old.walk.left self.old.header.l0 ≤ self.old.walk.row }
+        requires unmarked { MarkerRead (stage_marker self.old.walk.stage) (stage_first
+            self.old.walk.stage) → ⊥ }
+        requires all { HasAllRows self.old.header.l0 self.old.walk }
         ensures leaves { (rows : Held) (learned : List Estimate) → StepLeaves is_all (decoder_view
             self.old rows learned) (decoder_view self.new rows learned) piece.old.rest.now
             piece.new.rest.now result }
@@ -129,9 +129,9 @@ impl PieceDecoder {
             height: self.header.yd,
         };
         match self.walk.find_end(&image, piece) {
-            Ok(()) => {
+            Ok(_) => {
                 self.waits = true;
-                self.behind = Behind::start();
+                self.behind = Head::start();
                 None
             }
             Err(fault) => Some(outcome_of(fault, is_all)),
@@ -146,9 +146,9 @@ impl PieceDecoder {
         is_all: bool,
     ) -> Option<Outcome>
         requires in_code { DecodesCode self.old }
-        requires unmarked { self.old.walk.marker ≡ None }
-        requires ahead { MarkerRead self.old.walk.marker self.old.walk.first → ⊥ }
-        requires wants { RowIsLeft self.old.header.l0 self.old.walk }
+        requires unmarked { MarkerRead (stage_marker self.old.walk.stage) (stage_first
+            self.old.walk.stage) → ⊥ }
+        requires wants { RowIsLeft self.old.header.l0 (walk_lent self.old.walk lent.old) }
         ensures leaves { StepLeaves is_all (over self.old lent.old) (over self.new
             lent.new) piece.old.rest.now piece.new.rest.now result }
         ensures lowers { Lowers self.old self.new piece.old.rest.now piece.new.rest.now result }
@@ -161,7 +161,7 @@ impl PieceDecoder {
             header: self.header,
             height: self.header.yd,
         };
-        match self.walk.give_row(&image, lent, &mut part) {
+        match self.walk.next_row(&image, lent, &mut part) {
             Ok(()) => {
                 let (_, rest) = bytes.split_at(front.len().saturating_sub(part.rest.len()));
                 piece.rest = rest;
@@ -189,10 +189,11 @@ impl PieceDecoder {
         requires in_code { DecodesCode self.old }
         ensures header { self.new.header ≡ self.old.header }
         ensures end { self.new.end ≡ self.old.end }
-        ensures on { self.old.walk.first ≡ None → self.old.walk.marker ≡ None → IsInCode
-            self.old.walk.stage → (rows : Held) (learned : List Estimate) → DecoderOnAfterRows
-            (decoder_view self.old rows learned) (decoder_view self.new rows learned)
-            piece.old.rest.now piece.new.rest.now }
+        ensures on { stage_first self.old.walk.stage ≡ None →
+            stage_marker self.old.walk.stage ≡ None → IsInCode (stage_kind self.old.walk.stage) →
+            (rows : Held) (learned : List Estimate) → DecoderOnAfterRows (decoder_view self.old
+            rows learned) (decoder_view self.new rows learned) piece.old.rest.now
+            piece.new.rest.now }
         ensures stays { ((reset : Bool) (rest : List ℕ) →
             piece.old.rest.now ≡ marker_bytes reset ++ rest → ⊥) → self.new.waits ≡ false }
         ensures no_more { length piece.new.rest.now ≤ length piece.old.rest.now }
@@ -202,9 +203,9 @@ impl PieceDecoder {
         if let Some(reset) = marker_at(piece.rest) {
             let (_, rest) = piece.rest.split_at(2);
             piece.rest = rest;
-            self.walk.first = Some(Code::Marker(reset));
+            self.walk.read_ahead(reset);
             self.waits = true;
-            self.behind = Behind::start();
+            self.behind = Head::start();
         }
     }
 }

@@ -10,7 +10,8 @@ mod before;
 use crate::fault::Fault;
 use crate::laws::coder_laws;
 use crate::lent::Lent;
-use crate::pieces::behind::Coming;
+use crate::pieces::code::InCode;
+use crate::pieces::head::Coming;
 use crate::pieces::piece::Piece;
 use crate::pieces::walk::Stage;
 use crate::pieces::{Outcome, PieceDecoder};
@@ -18,7 +19,6 @@ use crate::segments::{Code, Next};
 use qm_core::Decoder;
 
 impl PieceDecoder {
-    ghost use Rattle.t85_core.specs.declared.pieces.walk.Stage.TheVariants as stage;
     ghost use Rattle.t85_core.specs.Options.{fields_of};
     ghost use Rattle.t85_core.specs.Steps.Behind.{ComesBehind, StopsBehind, behind_at};
     ghost use Rattle.t85_core.specs.Steps.Segments.{IsByteOrMarker, code_bytes};
@@ -172,11 +172,8 @@ impl PieceDecoder {
         }
         self.enter_head(lent);
         piece.rest = rest;
-        self.walk.stage = Stage::Code;
+        self.walk.stage = Stage::Code(InCode::start(self.behind.at, code));
         self.walk.decoder = Decoder::start();
-        self.walk.row = 0;
-        self.walk.first = Some(code);
-        self.walk.marker = None;
         self.waits = false;
         None
     }

@@ -1,38 +1,41 @@
 //! The position and state of decoding in a stream that arrives in pieces.
 
-ghost use Rattle.std.specs.Prelude.{◌≡◌, false, ◌≤◌, ◌<◌, ◌-◌, ◌⊎◌, ◌∷◌, [], ℕ, List, None, Ok, true};
-ghost use Rattle.raster_core.specs.Window.{width_of};
-ghost use Rattle.t85_core.specs.declared.fault.Fault.TheVariants.{Truncated};
-ghost use Rattle.t85_core.specs.declared.pieces.walk.Stage.TheVariants as stage;
-ghost use Rattle.t85_core.specs.Lent.{KeepsLent, walk_lent as over};
-ghost use Rattle.t85_core.specs.Steps.Pieces.{WalkStands, HasAllRows, IsFirstWalk, Turn};
+ghost use Rattle.std.specs.Prelude.{◌≡◌, ◌≢◌, ◌≤◌, ◌<◌, ◌⊎◌, ◌++◌, [], ℕ, Bool, List, None, Ok, Some, length, min, true, false, IfErr, IfOk, OnOk};
+ghost use Rattle.qm_core.specs.Place.{Estimate};
+ghost use Rattle.raster_core.specs.Packed.{Held};
+ghost use Rattle.raster_core.specs.Window.{held, width_of};
+ghost use Rattle.t85_core.specs.Stages as stage;
+ghost use Rattle.t85_core.specs.declared.pieces.head.Head.{Head};
+ghost use Rattle.t85_core.specs.declared.pieces.walk.Stage.TheVariants as stage_type;
+ghost use Rattle.t85_core.specs.Lent.{KeepsLent, walk_view, walk_lent as over};
+ghost use Rattle.t85_core.specs.Steps.Buffers.{copies};
+ghost use Rattle.t85_core.specs.Steps.Pieces.{WalkStands, IsFirstWalk, Alone, HasAllRows, IsInCode, KeepsPlace, LeavesRow, MarkerIs, MarkerRead, RowIsLeft, RowStep, SomeStands, Step, Turn};
+ghost use Rattle.t85_core.specs.Steps.InTime.{ReachesMarker};
+ghost use Rattle.t85_core.specs.Stages.{stage_first, stage_kind, stage_marker, stage_row};
+ghost use Rattle.t85_core.specs.declared.fault.Fault.TheVariants.{Changed};
+ghost use Rattle.t85_core.specs.declared.segments.Code.TheVariants as code;
 ghost use Rattle.t85_core.specs.Steps.SizedImage.{sized_of};
-
-mod head;
-mod row;
-mod stripe;
+ghost use Rattle.t85_core.specs.Steps.StripeEnds.{EndsAtMarker};
 
 use crate::fault::Fault;
 use crate::header::SizedImage;
-use crate::input_buffer::ESCAPE;
+use crate::laws::coder_laws;
 use crate::lent::Lent;
+use crate::pieces::code::InCode;
+use crate::pieces::head::Head;
 use crate::pieces::piece::Piece;
-use crate::segments::{COMMENT, Code, Move};
-use crate::state::{START, restart};
+use crate::segments::{Code, Next, Place};
+use crate::state::{START, next_stripe, restart};
 use qm_core::Decoder;
-use raster_core::{Kept, RowPlace};
+use raster_core::Kept;
 
-/// The next item in a stream.
-#[derive(Clone, Copy)]
+/// The next item in a stream, and what has been read of it.
+#[derive(Clone, Copy, Drop)]
 pub enum Stage {
-    /// A marker segment of a stripe, or its code.
-    Head,
-    /// The rest of a comment.
-    Comment,
+    /// The marker segments of a stripe, or its code.
+    Head(Head),
     /// A row of a stripe, or the rest of its code.
-    Code,
-    /// The rest of a row that has begun.
-    Row,
+    Code(InCode),
     /// Nothing: the image is complete.
     Done,
 }
@@ -49,18 +52,6 @@ pub struct Walk {
     pub left: u32,
     /// Whether a NEWLEN gave a height.
     pub given: bool,
-    /// The move of the current stripe.
-    pub at: Option<Move>,
-    /// The number of bytes of a comment still to come.
-    pub comment: u32,
-    /// The number of rows of the stripe that are decoded.
-    pub row: u32,
-    /// How far the next row is decoded.
-    pub place: RowPlace,
-    /// The byte or marker read ahead to find the start of the code.
-    pub first: Option<Code>,
-    /// Whether the end marker resets, once it has been read.
-    pub marker: Option<bool>,
 }
 
 impl Walk {
@@ -78,64 +69,11 @@ impl Walk {
         Walk {
             kept,
             decoder: Decoder::start(),
-            stage: Stage::Head,
+            stage: Stage::Head(Head::start()),
             entities: 0,
             left: image.height,
             given: false,
-            at: None,
-            comment: 0,
-            row: 0,
-            place: RowPlace::start(),
-            first: None,
-            marker: None,
         }
-    }
-
-    /// Reads the head of a stripe, and decodes its first row, if there is one. Returns whether there is.
-    fn begin_stripe(
-        &mut self,
-        image: &SizedImage,
-        lent: &mut Lent<'_, '_>,
-        piece: &mut Piece<'_>,
-    ) -> Result<bool, Fault>
-        requires stage { (self.old.stage ≡ stage.Head) ⊎ (self.old.stage ≡ stage.Comment) }
-        ensures step { Turn (sized_of image.now) (over self.old lent.old)
-            (over self.new lent.new) piece.old.rest.now piece.new.rest.now result }
-        ensures code { result ≡ Ok true → self.new.stage ≡ stage.Code }
-        ensures lent { KeepsLent lent.old lent.new }
-    {
-        // The proof uses this value to show that a stripe has rows.
-        let _rows = image.header.l0;
-        self.read_head(image, piece)?;
-        if let Stage::Code = self.stage {
-            if !self.wants_row(&image.header) {
-                piece.rest = &[];
-                return Err(Fault::Truncated);
-            }
-            self.give_row(image, lent, piece)?;
-            return Ok(true);
-        }
-        Ok(false)
-    }
-
-    /// Continues after the last row of a stripe. Returns whether a row was decoded.
-    fn go_on(
-        &mut self,
-        image: &SizedImage,
-        lent: &mut Lent<'_, '_>,
-        piece: &mut Piece<'_>,
-    ) -> Result<bool, Fault>
-        requires rows { HasAllRows image.now.header.l0 self.old }
-        ensures step { Turn (sized_of image.now) (over self.old lent.old)
-            (over self.new lent.new) piece.old.rest.now piece.new.rest.now result }
-        ensures code { result ≡ Ok true → self.new.stage ≡ stage.Code }
-        ensures lent { KeepsLent lent.old lent.new }
-    {
-        self.finish_stripe(image, lent, piece)?;
-        if let Stage::Done = self.stage {
-            return Ok(false);
-        }
-        self.begin_stripe(image, lent, piece)
     }
 
     /// Decodes the next row. Returns false if the image is complete.
@@ -147,28 +85,184 @@ impl Walk {
     ) -> Result<bool, Fault>
         ensures step { Turn (sized_of image.now) (over self.old lent.old)
             (over self.new lent.new) piece.old.rest.now piece.new.rest.now result }
-        ensures code { result ≡ Ok true → self.new.stage ≡ stage.Code }
+        ensures code { result ≡ Ok true → (over self.new lent.new).stage ≡ stage.Code }
         ensures lent { KeepsLent lent.old lent.new }
     {
-        match self.stage {
-            Stage::Head | Stage::Comment => self.begin_stripe(image, lent, piece),
-            Stage::Code | Stage::Row => {
-                if self.wants_row(&image.header) {
-                    self.give_row(image, lent, piece)?;
-                    Ok(true)
-                } else {
-                    self.go_on(image, lent, piece)
+        'steps: loop {
+            match self.stage {
+                Stage::Head(head) => self.read_head(image, head, piece)?,
+                Stage::Code(code) => {
+                    if code.row < self.left.min(image.header.l0) {
+                        self.next_row(image, lent, piece)?;
+                        return Ok(true);
+                    }
+                    let reset = self.find_end(image, piece)?;
+                    self.end_stripe(image, reset, lent);
                 }
+                Stage::Done => return Ok(false),
             }
-            Stage::Done => Ok(false),
         }
     }
-}
 
-/// Whether a COMMENT segment comes next.
-pub fn is_comment(bytes: &[u8]) -> bool
-    ensures yes { result ≡ true → (rest : List ℕ) × (bytes.now ≡ 255 ∷ 7 ∷ rest) }
-    ensures no { result ≡ false → (rest : List ℕ) → bytes.now ≡ 255 ∷ 7 ∷ rest → ⊥ }
-{
-    bytes.len() >= 2 && bytes[0] == ESCAPE && bytes[1] == COMMENT
+    /// Reads the marker segments of a stripe, of which these have arrived, and the height or the first element of the
+    /// code that follows them.
+    fn read_head(
+        &mut self,
+        image: &SizedImage,
+        head: Head,
+        piece: &mut Piece<'_>,
+    ) -> Result<(), Fault>
+        ensures step { self.old.stage ≡ stage_type.Head head → Alone (λ w w'. Step (sized_of
+            image.now) w w' piece.old.rest.now piece.new.rest.now result) self.old self.new }
+        ensures lowers { OnOk result (length piece.new.rest.now < length piece.old.rest.now) }
+    {
+        // The proof uses these laws of the coder.
+        coder_laws();
+        let place = Place {
+            height: image.height,
+            entities: self.entities,
+            given: self.given,
+        };
+        let mut head = head;
+        let found = head.pass(&image.header, place, false, piece);
+        self.stage = Stage::Head(head);
+        let coming = found?;
+        match coming.next {
+            Next::Height(height) => {
+                if height != image.height {
+                    return Err(Fault::Changed);
+                }
+                self.given = true;
+            }
+            Next::Code(code) => {
+                self.decoder = Decoder::start();
+                self.stage = Stage::Code(InCode::start(head.at, code));
+            }
+        }
+        piece.rest = coming.rest;
+        Ok(())
+    }
+
+    /// Whether one of the first `rows` rows of the stripe whose code has begun is still to be decoded, or to be finished.
+    pub fn wants_row(&self, rows: u32) -> bool
+        ensures wants { result ≡ true → IsInCode (stage_kind self.now.stage) ×
+            (stage_row self.now.stage < rows) }
+        ensures all { result ≡ false → IsInCode (stage_kind self.now.stage) →
+            rows ≤ stage_row self.now.stage }
+    {
+        match &self.stage {
+            Stage::Code(code) => code.row < rows,
+            _ => false,
+        }
+    }
+
+    /// Whether the end marker of the code that has begun resets, once it has been read.
+    pub fn end_marker(&self) -> Option<bool>
+        ensures some { (reset : Bool) → result ≡ Some reset → IsInCode (stage_kind self.now.stage) ×
+            MarkerIs reset (stage_marker self.now.stage) (stage_first self.now.stage) }
+        ensures none { result ≡ None → MarkerRead (stage_marker self.now.stage) (stage_first
+            self.now.stage) → ⊥ }
+    {
+        match &self.stage {
+            Stage::Code(code) => code.end_marker(),
+            _ => None,
+        }
+    }
+
+    /// Stores the end marker of the code that has begun, and whether it resets, as read ahead.
+    pub fn read_ahead(&mut self, reset: bool)
+        ensures ahead { IsInCode (stage_kind self.old.stage) → Alone (λ w w'. w' ≡ record w
+            { first = Some (code.Marker reset) }) self.old self.new }
+    {
+        if let Stage::Code(code) = &mut self.stage {
+            code.first = Some(Code::Marker(reset));
+        }
+    }
+
+    /// Continues to the end of the next row of the stripe whose code has begun.
+    pub fn next_row(
+        &mut self,
+        image: &SizedImage,
+        lent: &mut Lent<'_, '_>,
+        piece: &mut Piece<'_>,
+    ) -> Result<(), Fault>
+        ensures step { RowIsLeft image.now.header.l0 (over self.old lent.old) →
+            RowStep (sized_of image.now) (over self.old lent.old) (over self.new lent.new)
+            piece.old.rest.now piece.new.rest.now result }
+        ensures leaves { RowIsLeft image.now.header.l0 (over self.old lent.old) →
+            LeavesRow (sized_of image.now) (over self.old lent.old) (over self.new lent.new)
+            piece.old.rest.now piece.new.rest.now result }
+        ensures code { OnOk result (stage_kind self.new.stage ≡ stage.Code) }
+        ensures lent { KeepsLent lent.old lent.new }
+    {
+        match &mut self.stage {
+            Stage::Code(code) => {
+                code.next_row(image, &mut self.kept, &mut self.decoder, lent, piece)
+            }
+            _ => Err(Fault::Truncated),
+        }
+    }
+
+    /// Skips the rest of the code that has begun, after its last row, up to its end marker, and returns whether that
+    /// resets. Reads the marker ahead. If it has not arrived yet, skips the bytes that have.
+    pub fn find_end(&mut self, image: &SizedImage, piece: &mut Piece<'_>) -> Result<bool, Fault>
+        ensures step { HasAllRows image.now.header.l0 self.old → Alone (λ w w'. Step (sized_of
+            image.now) w w' piece.old.rest.now piece.new.rest.now result) self.old self.new }
+        ensures in_time { HasAllRows image.now.header.l0 self.old → (MarkerRead (stage_marker
+            self.old.stage) (stage_first self.old.stage) → ⊥) → Alone (λ w w'. OnOk result
+            (ReachesMarker (sized_of image.now) w piece.old.rest.now piece.new.rest.now)) self.old
+            self.new }
+        ensures other { HasAllRows image.now.header.l0 self.old → Alone (λ w w'. SomeStands
+            (sized_of image.now) w → IfErr result (λ f. f ≢ Changed)) self.old self.new }
+        ensures same { HasAllRows image.now.header.l0 self.old → HasAllRows image.now.header.l0
+            self.new × Alone KeepsPlace self.old self.new }
+        ensures marked { IfOk result (λ reset. MarkerIs reset (stage_marker self.new.stage)
+            (stage_first self.new.stage)) }
+        ensures none { HasAllRows image.now.header.l0 self.old → IfErr result (λ _. (stage_first
+            self.new.stage ≡ None) × (stage_marker self.new.stage ≡ None)) }
+        ensures no_more { length piece.new.rest.now ≤ length piece.old.rest.now }
+    {
+        match &mut self.stage {
+            Stage::Code(code) => code.find_end(image, piece),
+            _ => Err(Fault::Truncated),
+        }
+    }
+
+    /// Prepares for the next stripe after the end marker of a code, all of whose rows are decoded.
+    pub fn end_stripe(&mut self, image: &SizedImage, reset: bool, lent: &mut Lent<'_, '_>)
+        ensures ends { EndsAtMarker (sized_of image.now) reset (over self.old lent.old)
+            (over self.new lent.new) }
+        ensures stage { (self.new.stage ≡ stage_type.Done) ⊎ ((head : Head) ×
+            (self.new.stage ≡ stage_type.Head head)) }
+        ensures lent { KeepsLent lent.old lent.new }
+    {
+        // The proof uses these laws of the coder.
+        coder_laws();
+        next_stripe(reset, lent.window, &mut self.kept, lent.learned);
+        self.entities = self.entities.saturating_add(1);
+        self.left -= self.left.min(image.header.l0);
+        self.stage = if self.left == 0 {
+            Stage::Done
+        } else {
+            Stage::Head(Head::start())
+        };
+    }
+
+    /// Decodes rows that equal the one before, if the bits already read determine them, and returns how many. The
+    /// window contains the last of them.
+    #[inline(always)]
+    pub fn repeat_rows(&mut self, image: &SizedImage, lent: &mut Lent<'_, '_>) -> u32
+        ensures on { (text out : List ℕ) → WalkStands (sized_of image.now) (over self.old lent.old)
+            text out → WalkStands (sized_of image.now) (over self.new lent.new) text (out ++ copies
+            result (held lent.new.window.now).current) }
+        ensures code { 0 < result → (over self.new lent.new).stage ≡ stage.Code }
+    {
+        match &mut self.stage {
+            Stage::Code(code) => {
+                let rows = self.left.min(image.header.l0);
+                code.repeat(image, rows, self.kept, &mut self.decoder, lent)
+            }
+            _ => 0,
+        }
+    }
 }

@@ -9,10 +9,10 @@ use crate::lent::Lent;
 use crate::pieces::PieceDecoder;
 use crate::pieces::piece::Piece;
 use crate::pieces::walk::Stage;
-use crate::segments::{Code, Place};
+use crate::segments::Place;
 
 impl PieceDecoder {
-    ghost use Rattle.t85_core.specs.declared.pieces.walk.Stage.TheVariants as stage;
+    ghost use Rattle.t85_core.specs.Stages.{stage_kind};
     ghost use Rattle.t85_core.specs.Steps.Pieces.{IsInCode};
     ghost use Rattle.t85_core.specs.Steps.PieceSteps.{is_last_of, place_after, SomeStand, KeepsDecoder, GivesBelow, StaysAbove, RowsAreGiven, HeadEntered, StripeLeft, StripeClosed};
 
@@ -22,7 +22,7 @@ impl PieceDecoder {
         ensures { result ≡ place_after self.now }
     {
         let entities = match self.walk.stage {
-            Stage::Code | Stage::Row => self.walk.entities + 1,
+            Stage::Code(_) => self.walk.entities + 1,
             _ => self.walk.entities,
         };
         Place {
@@ -37,7 +37,7 @@ impl PieceDecoder {
         ensures { result ≡ is_last_of self.now }
     {
         match self.walk.stage {
-            Stage::Code | Stage::Row => self.walk.left <= self.header.l0,
+            Stage::Code(_) => self.walk.left <= self.header.l0,
             Stage::Done => true,
             _ => false,
         }
@@ -45,11 +45,11 @@ impl PieceDecoder {
 
     /// Whether there is a stripe before the position.
     pub(crate) fn is_in_code(&self) -> bool
-        ensures yes { result ≡ true → IsInCode self.now.walk.stage }
-        ensures no { result ≡ false → IsInCode self.now.walk.stage → ⊥ }
+        ensures yes { result ≡ true → IsInCode (stage_kind self.now.walk.stage) }
+        ensures no { result ≡ false → IsInCode (stage_kind self.now.walk.stage) → ⊥ }
     {
         match self.walk.stage {
-            Stage::Code | Stage::Row => true,
+            Stage::Code(_) => true,
             _ => false,
         }
     }
@@ -57,8 +57,10 @@ impl PieceDecoder {
     /// Whether the image ends in the previous stripe, if it has this many rows counted from the first row of that
     /// stripe.
     pub(super) fn ends_in_stripe(&self, left: u32) -> bool
-        ensures yes { result ≡ true → IsInCode self.now.walk.stage × (left ≤ self.now.header.l0) }
-        ensures no { result ≡ false → IsInCode self.now.walk.stage → self.now.header.l0 < left }
+        ensures yes { result ≡ true → IsInCode (stage_kind self.now.walk.stage) ×
+            (left ≤ self.now.header.l0) }
+        ensures no { result ≡ false → IsInCode (stage_kind self.now.walk.stage) →
+            self.now.header.l0 < left }
     {
         self.is_in_code() && left <= self.header.l0
     }
@@ -75,7 +77,7 @@ impl PieceDecoder {
             (over self.new lent.new) limit }
         ensures lent { KeepsLent lent.old lent.new }
     {
-        if !self.is_in_code() || self.walk.row >= limit {
+        if !self.walk.wants_row(limit) {
             return false;
         }
         let mut none = Piece { rest: &[] };
@@ -83,7 +85,7 @@ impl PieceDecoder {
             header: self.header,
             height: self.header.yd,
         };
-        let _given = self.walk.give_row(&image, lent, &mut none).is_ok();
+        let _given = self.walk.next_row(&image, lent, &mut none).is_ok();
         true
     }
 
@@ -97,47 +99,28 @@ impl PieceDecoder {
             HeadEntered (over self.old lent.old) (over self.new lent.new) }
         ensures lent { KeepsLent lent.old lent.new }
     {
-        self.close_stripe(lent);
-        self.walk.at = self.behind.at;
-        if let Some(left) = self.behind.comment {
-            self.walk.comment = left;
-            self.walk.stage = Stage::Comment;
-        }
-    }
-
-    /// Ends the previous stripe, if there is one and all its rows have been returned.
-    fn close_stripe(&mut self, lent: &mut Lent<'_, '_>)
-        requires looks { LooksForHeight self.old }
-        requires all { RowsAreGiven (over self.old lent.old) }
-        ensures keeps { KeepsDecoder (over self.old lent.old) (over self.new lent.new) }
-        ensures closes { is_last_of self.old ≡ false → SomeStand (over self.old lent.old) →
-            StripeClosed (over self.old lent.old) (over self.new lent.new) }
-        ensures lent { KeepsLent lent.old lent.new }
-    {
-        if !self.is_in_code() {
-            return;
-        }
         self.end_stripe(lent);
+        self.walk.stage = Stage::Head(self.behind);
     }
 
-    /// Ends the previous stripe, all of whose rows have been returned. Its end marker has arrived.
+    /// Ends the previous stripe, if there is one and all its rows have been returned. Its end marker has arrived.
     pub(super) fn end_stripe(&mut self, lent: &mut Lent<'_, '_>)
         requires looks { LooksForHeight self.old }
         requires all { RowsAreGiven (over self.old lent.old) }
         ensures keeps { KeepsDecoder (over self.old lent.old) (over self.new lent.new) }
-        ensures ends { IsInCode self.old.walk.stage → SomeStand (over self.old lent.old) →
-            StripeLeft (over self.old lent.old) (over self.new lent.new) }
+        ensures ends { IsInCode (stage_kind self.old.walk.stage) → SomeStand
+            (over self.old lent.old) → StripeLeft (over self.old lent.old)
+            (over self.new lent.new) }
+        ensures closes { is_last_of self.old ≡ false → SomeStand (over self.old lent.old) →
+            StripeClosed (over self.old lent.old) (over self.new lent.new) }
         ensures lent { KeepsLent lent.old lent.new }
     {
-        match self.walk.stage {
-            Stage::Code => {}
-            _ => return,
-        }
-        let mut none = Piece { rest: &[] };
         let image = SizedImage {
             header: self.header,
             height: self.header.yd,
         };
-        let _ended = self.walk.finish_stripe(&image, lent, &mut none).is_ok();
+        if let Some(reset) = self.walk.end_marker() {
+            self.walk.end_stripe(&image, reset, lent);
+        }
     }
 }

@@ -1,24 +1,26 @@
 use Rattle.std.proofs.Common.{◌≡◌, ◌+◌, refl, rules, arith}
-use Rattle.t85_core.specs.Steps.Pieces.{IsInCode}
+use Rattle.t85_core.specs.Stages.{stage_row}
+use Rattle.t85_core.specs.Steps.Pieces.{RowIsLeft}
 use Rattle.t85_core.specs.Lent.{decoder_lent, walk_lent}
 use Rattle.t85_core.proofs.Decodings.PieceStood.{row_given, row_after, some_waits}
 use Rattle.t85_core.proofs.pieces.PieceDecoder.gives_below.Goals as goal
 
 pub returns-clause-gives : goal.returns-clause-gives
 returns-clause-gives c = λ _ some.
-    let code : IsInCode c.args.self.now.walk.stage = c.if-not-is_in_code.ensures.yes (search rules) in
-    let leaves = c.give_row.ensures.leaves (some_waits (decoder_lent c.args.self.now c.args.lent.now) c.requires.looks.0 c.requires.looks.1 some) in
-    let next : c.give_row.new.self.row ≡ c.args.self.now.walk.row + 1 = row_after (decoder_lent c.args.self.now c.args.lent.now) (walk_lent c.give_row.new.self c.give_row.new.lent) c.requires.looks.0 c.requires.looks.1 some code c.give_row.new.piece.rest.now c.give_row.result leaves in
+    let wants = c.wants_row.ensures.wants (search rules) in
+    let left : RowIsLeft c.args.self.now.header.l0 (walk_lent c.args.self.now.walk c.args.lent.now) = (wants.0, (let lt = wants.1 in let limit = c.requires.limit in omega (arith, lt, limit))) in
+    let leaves = c.next_row.ensures.leaves left (some_waits (decoder_lent c.args.self.now c.args.lent.now) c.requires.looks.0 c.requires.looks.1 some) in
+    let next : stage_row c.next_row.new.self.stage ≡ stage_row c.args.self.now.walk.stage + 1 = row_after (decoder_lent c.args.self.now c.args.lent.now) (walk_lent c.next_row.new.self c.next_row.new.lent) c.requires.looks.0 c.requires.looks.1 some wants.0 c.next_row.new.piece.rest.now c.next_row.result leaves in
     record {
       keeps = record { header = refl; height = refl; is_open = refl; waits = refl; behind = refl; going = refl };
-      code = code;
+      code = wants.0;
       entities = leaves.place.entities;
-      below = omega (arith, next, c.if-self-limit.false);
-      on = row_given (decoder_lent c.args.self.now c.args.lent.now) _ c.requires.looks.0 c.requires.looks.1 code (record { header = refl; height = refl; is_open = refl; waits = refl; behind = refl; going = refl }) c.give_row.new.piece.rest.now c.give_row.result c.give_row.ensures.step leaves;
+      below = (let lt = wants.1 in omega (arith, next, lt));
+      on = row_given (decoder_lent c.args.self.now c.args.lent.now) _ c.requires.looks.0 c.requires.looks.1 wants.0 (record { header = refl; height = refl; is_open = refl; waits = refl; behind = refl; going = refl }) c.next_row.new.piece.rest.now c.next_row.result (c.next_row.ensures.step left) leaves;
     }
 
 pub returns-clause-keeps : goal.returns-clause-keeps
 returns-clause-keeps c = record { header = refl; height = refl; is_open = refl; waits = refl; behind = refl; going = refl }
 
-pub returns-then-not-is_in_code-clause-keeps : goal.returns-then-not-is_in_code-clause-keeps
-returns-then-not-is_in_code-clause-keeps c = record { header = refl; height = refl; is_open = refl; waits = refl; behind = refl; going = refl }
+pub returns-then-not-wants_row-clause-keeps : goal.returns-then-not-wants_row-clause-keeps
+returns-then-not-wants_row-clause-keeps c = record { header = refl; height = refl; is_open = refl; waits = refl; behind = refl; going = refl }

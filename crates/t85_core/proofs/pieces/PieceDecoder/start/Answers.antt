@@ -1,4 +1,4 @@
-use Rattle.std.proofs.Common.{◌≡◌, refl, rules}
+use Rattle.std.proofs.Common.{◌≡◌, ap, refl, rules}
 use Rattle.t85_core.proofs.Decodings.PieceStood.{started}
 use Rattle.t85_core.proofs.pieces.PieceDecoder.start.Goals as goal
 
@@ -7,4 +7,4 @@ returns-clause-none c =
     let window : c.window-1.given.0 ≡ c.start.new.lent.window.now = search rules in
     let learned : c.learned-1.given.0 ≡ c.start.new.lent.learned.now = search rules in
     rw (window, learned)
-    record { going = refl; stands = started _ c.is_variable-is_open.ensures refl refl c.start.ensures.first c.start.ensures.stands c.start-2.ensures.at c.start-2.ensures.comment }
+    record { going = refl; stands = started _ c.is_variable-is_open.ensures refl refl c.start.ensures.first c.start.ensures.stands (ap (λ b. b.at) c.start-2.ensures) (ap (λ b. b.comment) c.start-2.ensures) }

@@ -13,6 +13,7 @@ returns-clause-call c = record {
   bound = omega (arith, c.saturating_sub.ensures);
   ends = λ all is. absurd (true≢false (sym all ∙ (c.go_on-outcome.ensures.leaves.more (ap Some is)).0));
   few_left = λ is. let few = (c.go_on-outcome.ensures.leaves.more (ap Some is)).3 in let sum = c.saturating_sub.ensures in omega (arith, few, sum);
+  ended = c.end_of-self.ensures;
   again = λ end is. absurd (c.in_default.not-Some end is);
   row = λ is. call_on (decoder_lent c.args.self.now c.args.lent.now) (decoder_lent c.go_on-outcome.new.self c.go_on-outcome.new.lent) _ c.args.piece.now c.go_on-outcome.new.piece.rest.now (row_held (decoder_lent c.go_on-outcome.new.self c.go_on-outcome.new.lent)) _ c.saturating_sub.ensures refl refl refl refl refl refl (c.end_of-self.ensures ∙ ap end_in is) (c.go_on-outcome.ensures.leaves.row (ap Some is));
   waits = λ is late marked text out rest n s follows i. c.go_on-outcome.ensures.leaves.waits (ap Some is) late marked text out rest n s.stands follows i;

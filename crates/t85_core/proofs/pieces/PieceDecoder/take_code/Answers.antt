@@ -1,8 +1,11 @@
-use Rattle.std.proofs.Common.{◌≡◌, ◌∙◌, refl, ap, sym, subst, false, rules, arith}
+use Rattle.std.proofs.Common.{◌≡◌, ◌∙◌, None, Some, refl, ap, sym, subst, false, rules, arith}
 use Rattle.t85_core.specs.Options.{fields_of}
 use Rattle.t85_core.specs.Steps.PieceStands.{last_behind}
-use Rattle.t85_core.specs.Steps.PieceSteps.{SomeStand}
-use Rattle.t85_core.specs.Lent.{decoder_lent}
+use Rattle.t85_core.specs.Steps.PieceSteps.{HeadEntered, SomeStand}
+use Rattle.t85_core.specs.Lent.{decoder_lent, walk_lent}
+use Rattle.t85_core.specs.Stages.{place_from}
+use Rattle.t85_core.specs.Stages as kind
+use Rattle.t85_core.specs.declared.pieces.walk.Stage.TheVariants as stage
 use Rattle.t85_core.proofs.Decodings.PieceStood.{leaves_of, leaves_on, code_entered, on_where, row_where}
 use Rattle.t85_core.proofs.Decodings.PieceBelow.{leaves_code}
 use Rattle.t85_core.proofs.pieces.PieceDecoder.take_code.Goals as goal
@@ -11,6 +14,14 @@ pub returns-then-gives_below-clause-leaves : goal.returns-then-gives_below-claus
 returns-then-gives_below-clause-leaves c = λ is_all.
     row_where is_all (decoder_lent c.args.self.now c.args.lent.now) (decoder_lent c.gives_below.new.self c.gives_below.new.lent) c.args.piece.now.rest.now c.args.piece.now.rest.now c.gives_below.ensures.keeps.header c.gives_below.ensures.keeps.going (λ some.
     leaves_code (decoder_lent c.args.self.now c.args.lent.now) (decoder_lent c.gives_below.new.self c.gives_below.new.lent) c.requires.looks.0 c.requires.looks.1 c.min.result (c.gives_below.ensures.gives (search rules) some) c.args.code c.args.piece.now.rest.now c.args.rest.now c.requires.between c.requires.more c.requires.code c.requires.comes (let e = c.min.ensures in omega (arith, e)) is_all)
+
+-- the code has begun
+there : (c : goal.After-self-3-1) (h : HeadEntered (decoder_lent c.gives_below.new.self c.gives_below.new.lent) (decoder_lent c.enter_head.new.self c.enter_head.new.lent)) →
+    walk_lent (record c.enter_head.new.self.walk { decoder = c.start-self.result; stage = stage.Code c.start.result }) c.enter_head.new.lent ≡
+    record (walk_lent c.enter_head.new.self.walk c.enter_head.new.lent) { decoder = c.start-self.result; stage = kind.Code; comment = 0; row = 0; place = place_from None; first = Some c.args.code; marker = None }
+there c h =
+    ap (λ z. walk_lent (record c.enter_head.new.self.walk { decoder = c.start-self.result; stage = stage.Code z }) c.enter_head.new.lent) c.start.ensures
+    ∙ ap (λ a. record (walk_lent c.enter_head.new.self.walk c.enter_head.new.lent) { decoder = c.start-self.result; stage = kind.Code; at = a; comment = 0; row = 0; place = place_from None; first = Some c.args.code; marker = None }) (ap (λ b. b.at) h.keeps.behind ∙ sym h.at)
 
 pub returns-clause-leaves : goal.returns-clause-leaves
 returns-clause-leaves c = λ is_all.
@@ -21,4 +32,4 @@ returns-clause-leaves c = λ is_all.
     leaves_of above.same
     (leaves_on is_all (decoder_lent c.gives_below.new.self c.gives_below.new.lent) _ c.args.piece.now.rest.now c.args.rest.now h.keeps.header h.keeps.going
     (code_entered c.coder_laws.ensures (decoder_lent c.gives_below.new.self c.gives_below.new.lent) (decoder_lent c.enter_head.new.self c.enter_head.new.lent) _ c.args.code c.start-self.result c.args.piece.now.rest.now c.args.rest.now (ap (λ z. z.is_open) above.same ∙ c.requires.looks.0) (ap (λ z. z.waits) above.same ∙ c.requires.looks.1) h
-    (ap (λ z. z.behind.comment) above.same ∙ c.requires.between) c.requires.code c.start-self.ensures.stands c.requires.comes refl refl refl refl refl)))
+    (ap (λ z. z.behind.comment) above.same ∙ c.requires.between) c.requires.code c.start-self.ensures.stands c.requires.comes refl refl refl refl (there c h))))

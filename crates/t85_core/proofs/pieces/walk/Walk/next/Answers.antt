@@ -1,14 +1,73 @@
-use Rattle.std.proofs.Common.{Err, ap}
+use Rattle.std.proofs.Common.{◌≤◌, ◌<◌, [], Err, min, ap, refl, sym, subst, ◌∙◌, arith}
+use Rattle.raster_core.specs.Window.{held}
 use Rattle.t85_core.specs.Options.{fields_of}
 use Rattle.t85_core.specs.Lent.{walk_lent}
-use Rattle.t85_core.proofs.Decodings.PieceSteps.{stays, turn_done, turn_exit, is_over}
+use Rattle.t85_core.specs.Stages.{stage_kind, stage_row}
+use Rattle.t85_core.specs.Steps.Pieces.{HasAllRows, IsInCode, RowIsLeft}
+use Rattle.t85_core.proofs.Decodings.PieceSteps.{ends_on, in_code_of, on_then, off_then, stays, turn_exit, turn_row}
 use Rattle.t85_core.proofs.pieces.walk.Walk.next.Goals as goal
 
-pub returns-in-Done-clause-step : goal.returns-in-Done-clause-step
-returns-in-Done-clause-step c =
-    turn_done (fields_of c.args.image.now.header) c.args.image.now.height (walk_lent c.args.self.now c.args.lent.now) (walk_lent c.args.self.now c.args.lent.now) c.args.piece.now.rest.now c.args.piece.now.rest.now (stays (fields_of c.args.image.now.header) c.args.image.now.height (walk_lent c.args.self.now c.args.lent.now) c.args.piece.now.rest.now) (is_over _ c.in-Done.is)
+pub steps-init : goal.steps-init
+steps-init c = record {
+  lends = (refl, refl, (refl, refl));
+  so_far = stays (fields_of c.args.image.now.header) c.args.image.now.height (walk_lent c.args.self.now c.args.lent.now) c.args.piece.now.rest.now;
+}
 
-pub returns-in_err-give_row-in-Code-clause-step : goal.returns-in_err-give_row-in-Code-clause-step
-returns-in_err-give_row-in-Code-clause-step c =
-    turn_exit (fields_of c.args.image.now.header) c.args.image.now.height (walk_lent c.args.self.now c.args.lent.now) (walk_lent c.give_row.new.self c.give_row.new.lent) c.args.piece.now.rest.now c.give_row.new.piece.rest.now c.from_residual.result c.in_err-give_row-in-Code.field-0.0 c.from_residual.ensures.1
-    c.in_err-give_row-in-Code.ensures.step.err (λ e. c.in_err-give_row-in-Code.ensures.step.more (ap Err e))
+pub steps-preserved-in-Continue-1 : goal.steps-preserved-in-Continue-1
+steps-preserved-in-Continue-1 c =
+    let step = c.in_ok-read_head-in-Head.ensures.step c.in-Head.is (held c.steps.lent.window.now) c.steps.lent.learned.now in
+    record {
+      lends = c.steps.invariant.lends;
+      so_far = on_then (fields_of c.args.image.now.header) c.args.image.now.height (walk_lent c.args.self.now c.args.lent.now) (walk_lent c.steps.self c.steps.lent) c.args.piece.now.rest.now c.steps.piece.rest.now c.steps.invariant.so_far (walk_lent c.read_head.new.self c.steps.lent) c.read_head.new.piece.rest.now [] step.ok;
+    }
+
+pub returns-in_err-read_head-in-Head-clause-step : goal.returns-in_err-read_head-in-Head-clause-step
+returns-in_err-read_head-in-Head-clause-step c =
+    let step = c.in_err-read_head-in-Head.ensures.step c.in-Head.is (held c.steps.lent.window.now) c.steps.lent.learned.now in
+    turn_exit (fields_of c.args.image.now.header) c.args.image.now.height (walk_lent c.args.self.now c.args.lent.now) (walk_lent c.read_head.new.self c.steps.lent) c.args.piece.now.rest.now c.read_head.new.piece.rest.now c.from_residual.result _ c.from_residual.ensures.1
+    (off_then (fields_of c.args.image.now.header) c.args.image.now.height (walk_lent c.args.self.now c.args.lent.now) (walk_lent c.steps.self c.steps.lent) c.args.piece.now.rest.now c.steps.piece.rest.now c.steps.invariant.so_far _ step.err)
+    (λ e. let m = step.more (ap Err e) in (on_then (fields_of c.args.image.now.header) c.args.image.now.height (walk_lent c.args.self.now c.args.lent.now) (walk_lent c.steps.self c.steps.lent) c.args.piece.now.rest.now c.steps.piece.rest.now c.steps.invariant.so_far (walk_lent c.read_head.new.self c.steps.lent) c.read_head.new.piece.rest.now [] m.0, m.1))
+
+pub returns-in_err-next_row-in-Code-clause-step : goal.returns-in_err-next_row-in-Code-clause-step
+returns-in_err-next_row-in-Code-clause-step c =
+    let left : RowIsLeft c.args.image.now.header.l0 (walk_lent c.steps.self c.steps.lent) =
+    (subst (λ z. IsInCode (stage_kind z)) (sym c.in-Code.is) (in_code_of c.in-Code.code.begun), subst (λ z. stage_row z < min c.steps.self.left c.args.image.now.header.l0) (sym c.in-Code.is) (let lt = c.if-code-min.true in let min_is = c.min.ensures in omega (arith, lt, min_is))) in
+    let step = c.in_err-next_row-in-Code.ensures.step left in
+    turn_exit (fields_of c.args.image.now.header) c.args.image.now.height (walk_lent c.args.self.now c.args.lent.now) (walk_lent c.next_row.new.self c.next_row.new.lent) c.args.piece.now.rest.now c.next_row.new.piece.rest.now c.from_residual-in_err-next_row-in-Code.result _ c.from_residual-in_err-next_row-in-Code.ensures.1
+    (off_then (fields_of c.args.image.now.header) c.args.image.now.height (walk_lent c.args.self.now c.args.lent.now) (walk_lent c.steps.self c.steps.lent) c.args.piece.now.rest.now c.steps.piece.rest.now c.steps.invariant.so_far _ step.err)
+    (λ e. let m = step.more (ap Err e) in (on_then (fields_of c.args.image.now.header) c.args.image.now.height (walk_lent c.args.self.now c.args.lent.now) (walk_lent c.steps.self c.steps.lent) c.args.piece.now.rest.now c.steps.piece.rest.now c.steps.invariant.so_far (walk_lent c.next_row.new.self c.next_row.new.lent) c.next_row.new.piece.rest.now [] m.0, m.1))
+
+pub returns-then-code-min-clause-step : goal.returns-then-code-min-clause-step
+returns-then-code-min-clause-step c =
+    let left : RowIsLeft c.args.image.now.header.l0 (walk_lent c.steps.self c.steps.lent) =
+    (subst (λ z. IsInCode (stage_kind z)) (sym c.in-Code.is) (in_code_of c.in-Code.code.begun), subst (λ z. stage_row z < min c.steps.self.left c.args.image.now.header.l0) (sym c.in-Code.is) (let lt = c.if-code-min.true in let min_is = c.min.ensures in omega (arith, lt, min_is))) in
+    turn_row (fields_of c.args.image.now.header) c.args.image.now.height (walk_lent c.args.self.now c.args.lent.now) (walk_lent c.next_row.new.self c.next_row.new.lent) c.args.piece.now.rest.now c.next_row.new.piece.rest.now
+    (on_then (fields_of c.args.image.now.header) c.args.image.now.height (walk_lent c.args.self.now c.args.lent.now) (walk_lent c.steps.self c.steps.lent) c.args.piece.now.rest.now c.steps.piece.rest.now c.steps.invariant.so_far (walk_lent c.next_row.new.self c.next_row.new.lent) c.next_row.new.piece.rest.now (held c.next_row.new.lent.window.now).current (c.in_ok-next_row-in-Code.ensures.step left).ok)
+
+pub returns-then-code-min-clause-code : goal.returns-then-code-min-clause-code
+returns-then-code-min-clause-code c = λ _. c.in_ok-next_row-in-Code.ensures.code
+
+pub returns-in_err-reset-in-Code-clause-step : goal.returns-in_err-reset-in-Code-clause-step
+returns-in_err-reset-in-Code-clause-step c =
+    let has : HasAllRows c.args.image.now.header.l0 c.steps.self =
+    (subst (λ z. IsInCode (stage_kind z)) (sym c.in-Code.is) (in_code_of c.in-Code.code.begun), subst (λ z. min c.steps.self.left c.args.image.now.header.l0 ≤ stage_row z) (sym c.in-Code.is) (let le = c.if-code-min.false in let min_is = c.min.ensures in omega (arith, le, min_is))) in
+    let step = c.in_err-reset-in-Code.ensures.step has (held c.steps.lent.window.now) c.steps.lent.learned.now in
+    turn_exit (fields_of c.args.image.now.header) c.args.image.now.height (walk_lent c.args.self.now c.args.lent.now) (walk_lent c.find_end.new.self c.steps.lent) c.args.piece.now.rest.now c.find_end.new.piece.rest.now c.from_residual-in_err-reset-in-Code.result _ c.from_residual-in_err-reset-in-Code.ensures.1
+    (off_then (fields_of c.args.image.now.header) c.args.image.now.height (walk_lent c.args.self.now c.args.lent.now) (walk_lent c.steps.self c.steps.lent) c.args.piece.now.rest.now c.steps.piece.rest.now c.steps.invariant.so_far _ step.err)
+    (λ e. let m = step.more (ap Err e) in (on_then (fields_of c.args.image.now.header) c.args.image.now.height (walk_lent c.args.self.now c.args.lent.now) (walk_lent c.steps.self c.steps.lent) c.args.piece.now.rest.now c.steps.piece.rest.now c.steps.invariant.so_far (walk_lent c.find_end.new.self c.steps.lent) c.find_end.new.piece.rest.now [] m.0, m.1))
+
+pub steps-preserved : goal.steps-preserved
+steps-preserved c =
+    let has : HasAllRows c.args.image.now.header.l0 c.steps.self =
+    (subst (λ z. IsInCode (stage_kind z)) (sym c.in-Code.is) (in_code_of c.in-Code.code.begun), subst (λ z. min c.steps.self.left c.args.image.now.header.l0 ≤ stage_row z) (sym c.in-Code.is) (let le = c.if-code-min.false in let min_is = c.min.ensures in omega (arith, le, min_is))) in
+    let step = c.in_ok-reset-in-Code.ensures.step has (held c.steps.lent.window.now) c.steps.lent.learned.now in
+    let still = (c.in_ok-reset-in-Code.ensures.same has).0 in
+    let now = c.end_stripe.ensures.lent in
+    let was = c.steps.invariant.lends in
+    record {
+      lends = (now.0 ∙ was.0, now.1 ∙ was.1, (now.2.0 ∙ was.2.0, now.2.1 ∙ was.2.1));
+      so_far =
+          on_then (fields_of c.args.image.now.header) c.args.image.now.height (walk_lent c.args.self.now c.args.lent.now) (walk_lent c.find_end.new.self c.steps.lent) c.args.piece.now.rest.now c.find_end.new.piece.rest.now
+          (on_then (fields_of c.args.image.now.header) c.args.image.now.height (walk_lent c.args.self.now c.args.lent.now) (walk_lent c.steps.self c.steps.lent) c.args.piece.now.rest.now c.steps.piece.rest.now c.steps.invariant.so_far (walk_lent c.find_end.new.self c.steps.lent) c.find_end.new.piece.rest.now [] step.ok)
+          (walk_lent c.end_stripe.new.self c.end_stripe.new.lent) c.find_end.new.piece.rest.now [] (ends_on c.find_end.new.piece.rest.now (c.end_stripe.ensures.ends still.0 still.1 c.in_ok-reset-in-Code.ensures.marked));
+    }

@@ -1,0 +1,33 @@
+use Rattle.std.proofs.Common.{ap, refl, ◌∙◌, rules}
+use Rattle.t85_core.specs.Stages.{code_kind}
+use Rattle.t85_core.proofs.Decodings.PieceFits.{row_in_stripe}
+use Rattle.t85_core.proofs.Decodings.PieceSteps.{at_stage}
+use Rattle.t85_core.proofs.Decodings.PieceWalk.{row_entered}
+use Rattle.t85_core.proofs.pieces.code.InCode.enter_row.Goals as goal
+
+pub returns-clause-enters : goal.returns-clause-enters
+returns-clause-enters c = λ h height s d place learned text out none wants start within w.
+    let k = at_stage (ap code_kind none) w in
+    record {
+      left_is = w.left_is;
+      width_is = ap (λ r. r.width) c.turn.ensures.turned ∙ w.width_is;
+      offset_is = c.offset_in-kept.ensures.bound;
+      at_is = w.at_is;
+      code_is = w.code_is;
+      behind = w.behind;
+      within = within;
+      stands = row_entered k (row_in_stripe w wants) _ _ start refl c.turn.ensures.turned c.offset_in-kept.ensures.is refl;
+    }
+
+pub returns-clause-fits : goal.returns-clause-fits
+returns-clause-fits c = λ place within. record {
+  width_is = ap (λ w. w.width) c.turn.ensures.turned ∙ c.requires.fits.width_is;
+  within = within;
+  offset_is = c.offset_in-kept.ensures.bound;
+  at_is = c.requires.fits.at_is;
+  code_is = c.requires.fits.code_is;
+  behind = c.requires.fits.behind;
+}
+
+pub returns-clause-window : goal.returns-clause-window
+returns-clause-window c = (ap (λ w. w.width) c.turn.ensures.turned, search rules)

@@ -1,0 +1,23 @@
+use Rattle.std.proofs.Common.{◌+◌, ◌*◌, ℕ, [], length}
+use Rattle.t85_core.specs.Lent.{KeepsLent, walk_lent}
+use Rattle.t85_core.specs.Options.{fields_of}
+use Rattle.t85_core.specs.declared.pieces.walk.Stage.{Stage}
+use Rattle.t85_core.specs.declared.pieces.walk.Stage.TheVariants as stage
+use Rattle.t85_core.specs.Steps.Pieces.{StepsOn}
+use Rattle.t85_core.specs.Steps.SizedImage.{sized}
+use Rattle.t85_core.proofs.pieces.walk.Walk.next.Given as goal
+
+abbrev pub invariant-steps : goal.invariant-steps
+invariant-steps l = record {
+  lends : KeepsLent l.fn.lent l.lent;
+  so_far : StepsOn (sized (fields_of l.image.header) l.image.height) (walk_lent l.fn.self l.fn.lent) (walk_lent l.self l.lent) l.fn.piece.rest.now l.piece.rest.now [];
+}
+
+-- a code that has ended is a step that takes no byte
+abbrev pub code_left : Stage → ℕ
+code_left (stage.Head head) = 0
+code_left (stage.Code code) = 1
+code_left stage.Done = 0
+
+abbrev pub decreases-steps : goal.decreases-steps
+decreases-steps l = 2 * length l.piece.rest.now + code_left l.self.stage

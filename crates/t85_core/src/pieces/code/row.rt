@@ -1,0 +1,205 @@
+//! Decodes a row of a stripe.
+
+ghost use Rattle.std.specs.Prelude.{◌≡◌, ◌≢◌, ◌≤◌, ◌<◌, ℕ, List, [], None, Some, true, false, min, IfSome, OnOk};
+ghost use Rattle.qm_core.specs.Place.{Estimate};
+ghost use Rattle.qm_core.specs.declared.decoder.Decoder.{Decoder};
+ghost use Rattle.raster_core.specs.Row.{IsRowStart};
+ghost use Rattle.raster_core.specs.Window.{held, width_of};
+ghost use Rattle.raster_core.specs.declared.place.RowPlace.{RowPlace};
+ghost use Rattle.t85_core.specs.Steps.Segments.{IsByteOrMarker};
+ghost use Rattle.t85_core.specs.Lent.{KeepsWindow, KeepsLent, StripeAt, code_over, code_lent};
+ghost use Rattle.t85_core.specs.Steps.Pieces.{WalkStands, RowFits, RowStep, LeavesRow};
+ghost use Rattle.t85_core.specs.Steps.SizedImage.{sized, sized_of};
+ghost use Rattle.t85_core.specs.Header.{Fields};
+
+use crate::decoding::rows::offset_in;
+use crate::fault::Fault;
+use crate::header::{Header, SizedImage};
+use crate::laws::coder_laws;
+use crate::lent::Lent;
+use crate::pieces::code::InCode;
+use crate::pieces::piece::{Piece, PieceCode};
+use crate::pieces::rows::go_on_in_row;
+use crate::segments::Code;
+use qm_core::Decoder;
+use raster_core::{Kept, RowPlace, Window};
+use std::mem::replace;
+
+/// The greatest offset of the adaptive template pixel in T.85.
+const MOST_OFFSET: u8 = 127;
+
+/// A whole row, and the rest of a row: each is compiled separately.
+const WHOLE_ROW: usize = 0;
+
+const REST_OF_ROW: usize = 1;
+
+impl InCode {
+    ghost use Rattle.t85_core.specs.declared.pieces.code.InCode.{InCode};
+
+    /// Continues to the end of the next row. For numbers that no decoder exports, it reports that the piece has ended.
+    pub fn next_row(
+        &mut self,
+        image: &SizedImage,
+        kept: &mut Kept,
+        decoder: &mut Decoder,
+        lent: &mut Lent<'_, '_>,
+        piece: &mut Piece<'_>,
+    ) -> Result<(), Fault>
+        ensures step { (s : StripeAt) → self.old.row < min s.left image.now.header.l0 →
+            RowStep (sized_of image.now) (code_lent s self.old kept.old decoder.old lent.old)
+            (code_lent s self.new kept.new decoder.new lent.new) piece.old.rest.now
+            piece.new.rest.now result }
+        ensures leaves { (s : StripeAt) → self.old.row < min s.left image.now.header.l0 →
+            LeavesRow (sized_of image.now) (code_lent s self.old kept.old decoder.old lent.old)
+            (code_lent s self.new kept.new decoder.new lent.new) piece.old.rest.now
+            piece.new.rest.now result }
+        ensures whole { OnOk result (self.new.begun ≡ None) }
+        ensures lent { KeepsLent lent.old lent.new }
+    {
+        if !self.has_row_that_fits(*kept, &image.header, lent.window) {
+            drop_rest(piece);
+            return Err(Fault::Truncated);
+        }
+        match self.begun {
+            Some(place) => self.finish_row::<REST_OF_ROW>(image, place, kept, decoder, lent, piece),
+            None => {
+                self.enter_row(kept, lent.window);
+                let place = RowPlace::start();
+                self.finish_row::<WHOLE_ROW>(image, place, kept, decoder, lent, piece)
+            }
+        }
+    }
+
+    /// Moves down to the next row of a stripe, and performs its move.
+    fn enter_row(&self, kept: &mut Kept, window: &mut Window<'_>)
+        requires fits { RowFits (width_of window.old) self.now kept.old (held window.old) }
+        ensures enters { (h : Fields) (height : ℕ) (s : StripeAt) (d : Decoder) (place : RowPlace)
+            (learned : List Estimate) (text out : List ℕ) → self.now.begun ≡ None →
+            self.now.row < min s.left h.l0 → IsRowStart place → place.done < h.xd →
+            WalkStands (sized h height) (code_over s self.now kept.old d window.old learned)
+            text out → WalkStands (sized h height) (code_over s (record self.now
+            { begun = Some place }) kept.new d window.new learned) text out }
+        ensures fits { (place : RowPlace) → place.done < width_of window.old → RowFits
+            (width_of window.old) (record self.now { begun = Some place }) kept.new
+            (held window.new) }
+        ensures window { KeepsWindow window.old window.new }
+    {
+        kept.offset = offset_in(self.at, self.row, kept.offset);
+        window.turn();
+    }
+
+    /// Continues decoding a row of a stripe, of which this much is decoded. `PART` says whether the row has just begun.
+    #[inline(always)]
+    fn finish_row<const PART: usize>(
+        &mut self,
+        image: &SizedImage,
+        place: RowPlace,
+        kept: &mut Kept,
+        decoder: &mut Decoder,
+        lent: &mut Lent<'_, '_>,
+        piece: &mut Piece<'_>,
+    ) -> Result<(), Fault>
+        requires fits { RowFits image.now.header.xd (record self.old { begun = Some place })
+            kept.old (held lent.old.window.now) }
+        ensures step { (s : StripeAt) → RowStep (sized_of image.now) (code_lent s (record self.old
+            { begun = Some place }) kept.old decoder.old lent.old) (code_lent s self.new kept.new
+            decoder.new lent.new) piece.old.rest.now piece.new.rest.now result }
+        ensures leaves { (s : StripeAt) → LeavesRow (sized_of image.now) (code_lent s (record
+            self.old { begun = Some place }) kept.old decoder.old lent.old) (code_lent s self.new
+            kept.new decoder.new lent.new) piece.old.rest.now piece.new.rest.now result }
+        ensures whole { OnOk result (self.new.begun ≡ None) }
+        ensures lent { KeepsLent lent.old lent.new }
+    {
+        // The proof uses these laws of the coder.
+        coder_laws();
+        // Both are local until the row ends or waits, so that the compiler keeps them in registers.
+        let mut place = place;
+        let mut local = replace(decoder, Decoder::start());
+        local.resume();
+        let mut code: PieceCode<'_, PART> = PieceCode {
+            piece: Piece { rest: piece.rest },
+            first: self.first,
+            marker: self.marker,
+            fault: None,
+            failures: 0,
+        };
+        let shape = image.header.shape();
+        let went = go_on_in_row(shape, lent, kept, &mut local, &mut place, &mut code);
+        *decoder = local;
+        self.first = code.first;
+        self.marker = code.marker;
+        piece.rest = code.piece.rest;
+        match went {
+            Ok(()) => {
+                self.begun = None;
+                self.row = self.row.saturating_add(1);
+                Ok(())
+            }
+            Err(fault) => {
+                self.begun = Some(place);
+                Err(fault)
+            }
+        }
+    }
+
+    /// Whether a row of this image can be decoded from here.
+    fn has_row_that_fits(&self, kept: Kept, header: &Header, window: &Window<'_>) -> bool
+        ensures yes { result ≡ true → RowFits header.now.xd self.now kept (held window.now) }
+        ensures no { result ≡ false → RowFits header.now.xd self.now kept (held window.now) → ⊥ }
+    {
+        if window.width() != header.xd || kept.offset > MOST_OFFSET {
+            return false;
+        }
+        if !self.has_low_move() || !self.has_place_within(header.xd) {
+            return false;
+        }
+        if self.is_ahead() {
+            return self.marker.is_none();
+        }
+        true
+    }
+
+    /// Whether the next row has not begun, or has not reached this width.
+    fn has_place_within(&self, width: u32) -> bool
+        ensures yes { result ≡ true → IfSome self.now.begun (λ place. place.done < width) }
+        ensures no { result ≡ false → IfSome self.now.begun (λ place. place.done < width) → ⊥ }
+    {
+        match self.begun {
+            Some(place) => place.done() < width,
+            None => true,
+        }
+    }
+
+    /// Whether the move of the stripe, if there is one, has an allowed offset.
+    fn has_low_move(&self) -> bool
+        ensures yes { result ≡ true → IfSome self.now.at (λ to. to.offset ≤ 127) }
+        ensures no { result ≡ false → IfSome self.now.at (λ to. to.offset ≤ 127) → ⊥ }
+    {
+        match self.at {
+            Some(to) => to.offset <= MOST_OFFSET,
+            None => true,
+        }
+    }
+
+    /// Whether a byte of the code, or its end marker, was read ahead.
+    fn is_ahead(&self) -> bool
+        ensures code { IfSome self.now.first IsByteOrMarker }
+        ensures yes { result ≡ true → self.now.first ≢ None }
+        ensures no { result ≡ false → self.now.first ≡ None }
+    {
+        match self.first {
+            Some(Code::Byte(_byte)) => true,
+            Some(Code::Marker(_reset)) => true,
+            None => false,
+        }
+    }
+}
+
+/// Drops the rest of a piece. It is in a function of its own so that the compiler does not expect it.
+#[cold]
+#[inline(never)]
+fn drop_rest(piece: &mut Piece<'_>)
+    ensures { piece.new.rest.now ≡ [] }
+{
+    piece.rest = &[];
+}
