@@ -154,7 +154,7 @@ last_true false b c is = absurd (true≢false (sym is))
 pub best_refused : {d : T85Encoder} {rows window scratch : List ℕ} {offset status : ℕ} → RefusesCall d (best_refusal d (length rows) (length window) (length scratch)) status →
     FindsBest d rows (best_memory window scratch offset) (best_memory window scratch offset) status
 best_refused {window = window} r = record {
-  status_is = λ image come sent k. sym (ap (λ o. unwrap_or o 0) (r.first window image come sent k));
+  status_is = λ window image come sent k. sym (ap (λ o. unwrap_or o 0) (r.first window image come sent k));
   ended = r.ended;
   not_begun = r.not_begun;
   window = refl;
@@ -172,7 +172,7 @@ pub best_found : {d : T85Encoder} {e : RowEncoder} {rows window window' scratch 
 best_found {d} {e} {rows} {scratch = scratch} {best = best} {used} {needed} scratch' ready none needed_is used_is within same long finds names =
     let goes = ready.goes_on in
     record {
-      status_is = λ image come sent k. sym (ap (λ o. unwrap_or o 0) none);
+      status_is = λ window image come sent k. sym (ap (λ o. unwrap_or o 0) none);
       ended = λ h. absurd (ready_ended ready h);
       not_begun = λ h. absurd (ready_begun ready h);
       window = same;

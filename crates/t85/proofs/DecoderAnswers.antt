@@ -1,5 +1,5 @@
 -- The answers of a C caller's decoder among the rows.
-use Rattle.std.proofs.Common.{◌≡◌, ◌≤◌, ◌<◌, ◌*◌, ◌⊎◌, inl, inr, ℕ, Bool, true, false, List, [], ◌++◌, length, take, drop, refl, sym, ap, subst, ◌∙◌, append_assoc, length-append}
+use Rattle.std.proofs.Common.{◌≡◌, ◌≤◌, ◌<◌, ◌*◌, ◌⊎◌, inl, inr, ℕ, Bool, List, [], ◌++◌, length, take, take_all, drop, refl, sym, ap, subst, ◌∙◌, append_assoc, length-append, arith}
 use Rattle.std.specs.Prelude.{◌&&◌}
 use Rattle.std.proofs.Math.Nat.{mul-le-mul_right}
 use Rattle.std.proofs.Math.Seq.{drop-append_seam}
@@ -17,11 +17,12 @@ use Rattle.t85_core.specs.Numbers.{piece_numbers}
 use Rattle.t85_core.specs.Options.{fields_of}
 use Rattle.t85_core.specs.Feeds.{HasFed, IsFeed}
 use Rattle.t85_core.specs.Pieces.{AwaitsHeight, HasDecoded, stripes_ended}
+use Rattle.t85_core.specs.Stages.{stage_kind}
 use Rattle.t85_core.specs.Consumed.{ConsumesImage}
 use Rattle.t85_core.specs.Pieces.{call_of as piece_call}
 use Rattle.t85.specs.Decoded.{window_bytes}
-use Rattle.t85.specs.Decoder.{Answers, IsBrokenStream, IsImageOf, TellsAnswer, TellsCertain, bytes_call, is_waiting, stripes_ended_by}
-use Rattle.t85.specs.DecoderLimit.{IsCertainOfMore}
+use Rattle.t85.specs.Decoder.{Answers, ReturnedAllRows, IsBrokenStream, IsImageOf, ReplacesMore, TellsAnswer, TellsCertain, bytes_call, is_waiting, stripes_ended_by}
+use Rattle.t85.specs.DecoderLimit.{IsCertainOfMore, ReplacesRow}
 use Rattle.t85.specs.DecoderState.{CountsRows, HasRead, InRows, bytes_held_by, hold_of, numbers_of_decoder}
 use Rattle.t85.specs.DecoderSteps.{IsOfEngine, IsOverLimit, IsToldOf, KeepsRest, MayTakeRows}
 use Rattle.t85.specs.declared.decoder.T85Decoder.{T85Decoder}
@@ -146,16 +147,65 @@ module _ {old kept : T85Decoder} {memory memory' : List ℕ} {header : Header} {
   without_row {out = out} e1 k = rows_of (further k.rows) (done.call.fed.more e1 k.rows.text out (has_of k.rows)).0
 
   -- more rows are certain than the limit
-  certain_of_more : {stream out : List ℕ} → kept.max_rows < certain → IsOverLimit kept new told.answer → InRows (hold_of kept memory') stream out → IsCertainOfMore new stream
+  certain_of_more : {stream out : List ℕ} → kept.max_rows < certain → IsOverLimit kept new told.answer → (has : InRows (hold_of kept memory') stream out) → IsCertainOfMore has new.max_rows
   certain_of_more {stream} {out} more over has = record {
-    hold = hold_of kept memory';
-    out = out;
-    has = has;
     rows = certain;
     certain = certain_is memory' stream out has;
     more = subst (λ n. n < certain) (sym over.limit_is) more;
+  }
+
+  in_place_of_row : {stream out : List ℕ} → progress.outcome ≡ outcome.Row → IsOverLimit kept new told.answer → (kept.max_rows < certain) ⊎ (kept.max_rows ≤ kept.given) →
+      CountsRows (hold_of old memory) stream out → ReplacesRow new (stream ++ take told.taken bytes) out
+  unfolding row' with_row rows_of
+  in_place_of_row {out = out} e1 over why k = record {
+    hold = hold_of kept memory';
+    row = row';
+    has = with_row e1 k;
+    whole = row_long;
+    why = elim why [
+      | inl more ↦ inl (certain_of_more more over (with_row e1 k))
+      | inr more ↦ inr (rw (count_of k) (mul-le-mul_right {m = new.max_rows} {n = kept.given} (div_ceil e'.header.xd 8) (subst (λ n. n ≤ kept.given) (sym over.limit_is) more)))
+    ];
     height_is = over.height_is;
   }
+
+  -- all rows are returned
+  all_rows : {stream out : List ℕ} → progress.outcome ≡ outcome.More → CountsRows (hold_of old memory) stream out → ReturnedAllRows kept (stream ++ bytes) out
+  all_rows {stream} {out} e1 k =
+      let more = done.call.fed.more e1 k.rows.text out (has_of k.rows) in
+      let waits : is_waiting kept ≡ (e'.is_open && e'.waits) = ap (λ z. z.is_open && z.waits) done.numbers in
+      let ended : stripes_ended (decoder_view e' (rows_at kept.place header.xd memory') learned') ≡ stripes_ended_by kept =
+      sym (ended_same (stage_kind e'.walk.stage) kept e'.walk.entities (ap (λ z. z.stage) done.numbers) (ap (λ z. z.entities) done.numbers)) in (
+        (λ w. rw (k.rows.stream_is, append_assoc old.header k.rows.text bytes) (record {
+          header = fields_of header;
+          header_of = laws.stands old.header (k.rows.text ++ bytes) (fields_of header) done.may.header_of;
+          hands = rw (behind (k.rows.text ++ bytes), height_of, ← done.header_is) (more.1 (sym waits ∙ w));
+        })),
+        (λ w. rw (k.rows.stream_is, append_assoc old.header k.rows.text bytes) (
+          fields_of header,
+          laws.stands old.header (k.rows.text ++ bytes) (fields_of header) done.may.header_of,
+          subst (λ b. AwaitsHeight (fields_of header) b (stripes_ended_by kept) out) (sym (behind (k.rows.text ++ bytes)))
+              (subst (λ n. AwaitsHeight (fields_of header) (k.rows.text ++ bytes) n out) ended
+              (rw done.header_is at (more.2 (sym waits ∙ w)))),
+        )),
+      )
+
+  all_taken : progress.outcome ≡ outcome.More → told.taken ≡ length bytes
+  all_taken e1 = taken ∙ done.call.all e1
+
+  in_place_of_more : {stream out : List ℕ} → progress.outcome ≡ outcome.More → IsOverLimit kept new told.answer → kept.max_rows < certain → CountsRows (hold_of old memory) stream out →
+      ReplacesMore new (bytes_call bytes is_all told.taken told.row) stream out
+  in_place_of_more {stream} {out} e1 over more k =
+      let has : InRows (hold_of kept memory') (stream ++ bytes) out = subst (λ b. InRows (hold_of kept memory') (stream ++ b) out) (take_all told.taken bytes (omega (arith, all_taken e1))) (without_row e1 k) in
+      record {
+        hold = hold_of kept memory';
+        has = has;
+        all = all_taken e1;
+        not_last = λ all. done.call.fed.ends all e1;
+        fixed = all_rows e1 k;
+        why = certain_of_more more over has;
+        height_is = over.height_is;
+      }
 
   pub row_told : (what : Outcome) → progress.outcome ≡ what → IsToldOf what kept new certain told.answer →
       IsOfEngine told.answer × Answers (CountsRows (hold_of old memory)) (hold_of old memory) (hold_of new memory') (bytes_call bytes is_all told.taken told.row) told.answer
@@ -171,50 +221,19 @@ module _ {old kept : T85Decoder} {memory memory' : List ℕ} {header : Header} {
         whole = row_long;
         within = subst (λ n. new.given ≤ n) (sym is.counts.limit) is.given_to;
       })
-  row_told outcome.Row e1 (inr (over, inl more)) =
-      told_as answer.TooManyRows over.what_is tt
-      (over.ended, λ stream out k. inr (inl (certain_of_more more over (with_row e1 k))))
-  row_told outcome.Row e1 (inr (over, inr more)) =
-      told_as answer.TooManyRows over.what_is tt (
-        over.ended,
-        λ stream out k. inr (inr (record {
-          hold = hold_of kept memory';
-          row = row';
-          has = with_row e1 k;
-          whole = row_long;
-          more = rw (count_of k) (mul-le-mul_right {m = new.max_rows} {n = kept.given} (div_ceil e'.header.xd 8) (subst (λ n. n ≤ kept.given) (sym over.limit_is) more));
-          height_is = over.height_is;
-        })),
-      )
+  row_told outcome.Row e1 (inr (over, why)) =
+      told_as answer.TooManyRows over.what_is tt (over.ended, λ stream out k. inr (inl (in_place_of_row e1 over why k)))
   row_told outcome.More e1 (inr (over, more)) =
-      told_as answer.TooManyRows over.what_is tt (over.ended, λ stream out k. inr (inl (certain_of_more more over (without_row e1 k))))
+      told_as answer.TooManyRows over.what_is tt (over.ended, λ stream out k. inr (inr (in_place_of_more e1 over more k)))
   row_told outcome.More e1 (inl is) =
       let same : new ≡ kept = is.same in
       told_as answer.More is.what_is tt (
-        taken ∙ done.call.all e1,
+        all_taken e1,
         (λ stream out k.
             subst (λ d. HasRead (hold_of d memory') (stream ++ take told.taken bytes) out) (sym same)
             (inr (inr (record { rows = without_row e1 k; count_is = count_of k })))),
         (λ all. done.call.fed.ends all e1),
-        (λ n w stream out k.
-            let high : e'.height ≡ new.height = sym (ap (λ d. d.height) same ∙ height_of) in
-            let quiet : (e'.is_open && e'.waits) ≡ false = sym (ap (λ z. z.is_open && z.waits) done.numbers) ∙ (sym (ap is_waiting same) ∙ w) in
-            rw (k.rows.stream_is, append_assoc old.header k.rows.text bytes) (record {
-              header = fields_of header;
-              header_of = laws.stands old.header (k.rows.text ++ bytes) (fields_of header) done.may.header_of;
-              hands = rw (behind (k.rows.text ++ bytes), ← high, ← done.header_is) ((done.call.fed.more e1 k.rows.text out (has_of k.rows)).1 quiet);
-            })),
-        (λ n w stream out k.
-            let ended : stripes_ended (decoder_view e' (rows_at kept.place header.xd memory') learned') ≡ stripes_ended_by new =
-            sym (ap stripes_ended_by same ∙ ended_same e'.walk.stage kept e'.walk.entities (ap (λ z. z.stage) done.numbers) (ap (λ z. z.entities) done.numbers)) in
-            let late : (e'.is_open && e'.waits) ≡ true = sym (ap (λ z. z.is_open && z.waits) done.numbers) ∙ (sym (ap is_waiting same) ∙ w) in
-            rw (k.rows.stream_is, append_assoc old.header k.rows.text bytes) (
-              fields_of header,
-              laws.stands old.header (k.rows.text ++ bytes) (fields_of header) done.may.header_of,
-              subst (λ b. AwaitsHeight (fields_of header) b (stripes_ended_by new) out) (sym (behind (k.rows.text ++ bytes)))
-                  (subst (λ n. AwaitsHeight (fields_of header) (k.rows.text ++ bytes) n out) ended
-                  (rw done.header_is at ((done.call.fed.more e1 k.rows.text out (has_of k.rows)).2 late))),
-            )),
+        (λ n stream out k. subst (λ d. ReturnedAllRows d (stream ++ bytes) out) (sym same) (all_rows e1 k)),
       )
   row_told (outcome.Done height) e1 (is, ended, same, counted, stored) =
       told_as answer.Done is tt (

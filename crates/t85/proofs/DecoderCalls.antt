@@ -168,8 +168,7 @@ module _ (laws : HeaderLaws) (d d' : T85Decoder) (window memory' rest : List ℕ
       a.tells.0,
       (λ s o h. read_with d' memory' (memory' ++ rest) same_back (s ++ bytes_of_call call) o (a.tells.1 s o (lent s o h))),
       a.tells.2,
-      (λ n w s o h. a.tells.3 n w s o (lent s o h)),
-      (λ n w s o h. a.tells.4 n w s o (lent s o h)),
+      (λ n s o h. a.tells.3 n s o (lent s o h)),
     );
   }
   window_cut call answer.Done of a = record { bound = a.bound; tells = (a.tells.0, (λ s o r h m. a.tells.1 s o r (lent s o h) m), a.tells.2, (λ s o r h m. a.tells.3 s o r (lent s o h) m)) }
@@ -185,14 +184,14 @@ short_same laws hold header header_of lacks =
     rw (laws.one lacks.stream lacks.short.header (fields_of header) lacks.short.header_of (here lacks.next_is)) at lacks.short.short
   where
     here : (hold.decoder.next ≡ 1) ⊎ (hold.decoder.next ≡ 2) → HeaderOf lacks.stream (fields_of header)
-    here (inl e) = rw (behind_header hold lacks.stream lacks.out e lacks.read).stream_is header_of
-    here (inr e) = let k = in_rows hold lacks.stream lacks.out e lacks.read in rw k.stream_is (laws.stands hold.decoder.header k.text (fields_of header) header_of)
+    here (inl e) = rw (behind_header (hold_of hold.decoder lacks.window) lacks.stream lacks.out e lacks.read).stream_is header_of
+    here (inr e) = let k = in_rows (hold_of hold.decoder lacks.window) lacks.stream lacks.out e lacks.read in rw k.stream_is (laws.stands hold.decoder.header k.text (fields_of header) header_of)
 
 pub long_enough : HeaderLaws → (hold : Hold) (header : Header) → HeaderOf hold.decoder.header (fields_of header) → window_bytes header.xd ≤ length hold.window → LacksWindow hold → ⊥
 long_enough laws hold header header_of long lacks = (let less = short_same laws hold header header_of lacks in omega (arith, less, long))
 
 pub no_place : (hold : Hold) → hold.decoder.next ≡ 2 → 3 ≤ hold.decoder.place → LacksWindow hold → ⊥
-no_place hold next far lacks = (let small = (in_rows hold lacks.stream lacks.out next lacks.read).place_to in omega (arith, small, far))
+no_place hold next far lacks = (let small = (in_rows (hold_of hold.decoder lacks.window) lacks.stream lacks.out next lacks.read).place_to in omega (arith, small, far))
 
 pub lacks_later : (hold : Hold) → (hold.decoder.next ≡ 1 → ⊥) → (hold.decoder.next ≡ 2 → ⊥) → LacksWindow hold → ⊥
 lacks_later hold a b lacks = either lacks.next_is where

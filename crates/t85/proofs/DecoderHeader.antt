@@ -9,8 +9,8 @@ use Rattle.t85_core.specs.Header.{header_fault, is_variable}
 use Rattle.t85_core.specs.Laws.{HeaderLaws}
 use Rattle.t85_core.specs.Numbers.{stage_number}
 use Rattle.t85_core.specs.Steps.PieceStands.{entities_behind}
-use Rattle.t85_core.specs.declared.pieces.walk.Stage.{Stage}
-use Rattle.t85_core.specs.declared.pieces.walk.Stage.TheVariants as stage
+use Rattle.t85_core.specs.Stages.{Kind}
+use Rattle.t85_core.specs.Stages as stage
 use Rattle.t85.specs.Decoder.{Answers, BytesCall, ReadsHeader, bytes_call, stripes_ended_by}
 use Rattle.t85.specs.DecoderLimit.{StaysWithinLimit}
 use Rattle.t85.specs.DecoderState.{BehindHeader, CountsRows, HasRead, Hold, InHeader, InRows, hold_of}
@@ -25,9 +25,9 @@ flag byte true e = subst (λ n. not (n == 0) ≡ true) (sym e) refl
 flag byte false e = subst (λ n. not (n == 0) ≡ false) (sym e) refl
 
 -- the stripes that a decoder's numbers show as ended
-pub ended_same : (s : Stage) (d : T85Decoder) (entities : ℕ) → d.stage ≡ stage_number s → d.entities ≡ entities → stripes_ended_by d ≡ entities_behind s entities
+pub ended_same : (s : Kind) (d : T85Decoder) (entities : ℕ) → d.stage ≡ stage_number s → d.entities ≡ entities → stripes_ended_by d ≡ entities_behind s entities
 ended_same s d entities stage_is entities_is = rw (stage_is, entities_is) (by s) where
-  by : (s : Stage) → cond {A = ℕ} ((stage_number s == 2) || (stage_number s == 3)) (entities + 1) entities ≡ entities_behind s entities
+  by : (s : Kind) → cond {A = ℕ} ((stage_number s == 2) || (stage_number s == 3)) (entities + 1) entities ≡ entities_behind s entities
   by stage.Head = refl
   by stage.Comment = refl
   by stage.Code = refl
@@ -59,7 +59,7 @@ pub answers_from : {Has Has' : List ℕ → List ℕ → Type 0} (old mid new : 
     IsOfEngine what → Answers Has' mid new call what → Answers Has old new call what
 answers_from old mid new call answer.Row k of a = record { bound = a.bound; tells = λ s o h. a.tells s o (k s o h) }
 answers_from old mid new call answer.More k of a =
-    record { bound = a.bound; tells = (a.tells.0, (λ s o h. a.tells.1 s o (k s o h)), a.tells.2, (λ n w s o h. a.tells.3 n w s o (k s o h)), (λ n w s o h. a.tells.4 n w s o (k s o h))) }
+    record { bound = a.bound; tells = (a.tells.0, (λ s o h. a.tells.1 s o (k s o h)), a.tells.2, (λ n s o h. a.tells.3 n s o (k s o h))) }
 answers_from old mid new call answer.Done k of a = record { bound = a.bound; tells = (a.tells.0, (λ s o r h m. a.tells.1 s o r (k s o h) m), a.tells.2, (λ s o r h m. a.tells.3 s o r (k s o h) m)) }
 answers_from old mid new call (answer.Broken fault) k of a = record { bound = a.bound; tells = (a.tells.0, λ s o r h m. a.tells.1 s o r (k s o h) m) }
 answers_from old mid new call answer.TooManyRows k of a = record { bound = a.bound; tells = (a.tells.0, λ s o h. a.tells.1 s o (k s o h)) }
@@ -91,7 +91,6 @@ header_waits {d} {mid} {new} {bytes} {window} {count} answer.More version next f
           out_is = was.out_is;
         }))),
     (λ a. true≢false (sym a ∙ all)),
-    (λ n. absurd (omega (arith, n, ap (λ z. z.next) same, fill.next_is, next))),
     (λ n. absurd (omega (arith, n, ap (λ z. z.next) same, fill.next_is, next))),
   );
 }

@@ -177,7 +177,7 @@ ready_ended r h = (let next = h.next_is in let was = r.next_is in omega (arith, 
 pub row_refused : {d : T85Encoder} {window stream row : List ℕ} {status : ℕ} → RefusesCall d (row_refusal d (length row) (length window) (length stream)) status →
     PutsRow (encoder_hold d window) (encoder_hold d window) row (lending stream stream 0 status)
 row_refused {window = window} r = record {
-  status_is = λ image rows sent k. sym (ap (λ o. unwrap_or o 0) (r.first window image rows sent k));
+  status_is = λ window image rows sent k. sym (ap (λ o. unwrap_or o 0) (r.first window image rows sent k));
   ended = r.ended;
   not_begun = r.not_begun;
   refused = λ other. record { same = refl; nothing = refl; stream = refl };
@@ -191,7 +191,7 @@ pub row_put : {d d' : T85Encoder} {e : RowEncoder} {window memory' row stream st
     TakesOne (encoder_hold d (take needed window)) (encoder_hold d' memory') (take long row) (take n stream') →
     PutsRow (encoder_hold d window) (encoder_hold d' (memory' ++ rest)) row (lending stream stream' n 0)
 row_put {d} {row = row} rest ready none needed_is long' long_is within takes = record {
-  status_is = λ image rows sent k. sym (ap (λ o. unwrap_or o 0) none);
+  status_is = λ window image rows sent k. sym (ap (λ o. unwrap_or o 0) none);
   ended = λ h. absurd (ready_ended ready h);
   not_begun = λ h. absurd (ready_begun ready h);
   refused = λ other. absurd (other refl);
@@ -204,7 +204,7 @@ row_put {d} {row = row} rest ready none needed_is long' long_is within takes = r
 pub end_refused : {d : T85Encoder} {window stream : List ℕ} {status : ℕ} → RefusesCall d (end_refusal d (length window) (length stream)) status →
     PutsEnd (encoder_hold d window) (encoder_hold d window) (lending stream stream 0 status)
 end_refused {window = window} r = record {
-  status_is = λ image rows sent k. sym (ap (λ o. unwrap_or o 0) (r.first window image rows sent k));
+  status_is = λ window image rows sent k. sym (ap (λ o. unwrap_or o 0) (r.first window image rows sent k));
   was_ended = r.ended;
   not_begun = r.not_begun;
   refused = λ other. record { same = refl; nothing = refl; stream = refl };
@@ -217,7 +217,7 @@ pub end_put : {d d' : T85Encoder} {e : RowEncoder} {window window' stream stream
     needed ≡ window_bytes d.width → n ≤ length stream' → HasBeenEnded d' → EndsStream (encoder_hold d (take needed window)) (take n stream') →
     PutsEnd (encoder_hold d window) (encoder_hold d' window') (lending stream stream' n 0)
 end_put ready none needed_is within ended ends = record {
-  status_is = λ image rows sent k. sym (ap (λ o. unwrap_or o 0) none);
+  status_is = λ window image rows sent k. sym (ap (λ o. unwrap_or o 0) none);
   was_ended = λ h. absurd (ready_ended ready h);
   not_begun = λ h. absurd (ready_begun ready h);
   refused = λ other. absurd (other refl);

@@ -16,8 +16,8 @@ use Rattle.pbm_core.specs.Fault.{pbm_fault_number}
 use Rattle.pbm_core.specs.HeaderPieces.{HasScanned}
 use Rattle.pbm_core.specs.Refusal.{HeaderFault}
 use Rattle.t85.specs.declared.pbm.PbmAnswer.{PbmAnswer}
-use Rattle.t85.specs.declared.pbm.PbmAnswer.TheVariants.{Row, More, Done, Broken}
-use Rattle.t85.specs.Pbm.{EndsPbm, InPbmRows, ReadsPbmRow, TellsPart, TellsRow, form_of, header_reader_of, pbm_call, pbm_hold, row_reader_of}
+use Rattle.t85.specs.declared.pbm.PbmAnswer.TheVariants.{Row, More, Done, Broken, ShortRow}
+use Rattle.t85.specs.Pbm.{EndsPbm, InPbmRows, KeepsPbmHold, ReadsPbmRow, TellsPart, TellsRow, form_of, header_reader_of, pbm_call, pbm_hold, row_reader_of}
 
 -- ---- the header
 
@@ -223,19 +223,25 @@ pub fault_in : {form form' : Form} {width width' : ℕ} (bytes : List ℕ) (faul
 fault_in bytes fault same wide is = rw (wide, ← same) is
 
 -- among the rows, a call has not ended and was begun
-reads_rows : {p new : T85Pbm} {row row' piece : List ℕ} {taken : ℕ} {told : PbmAnswer} → p.version ≡ 1 → p.next ≡ 1 → taken ≤ length piece →
+reads_rows : {p new : T85Pbm} {row row' piece : List ℕ} {taken : ℕ} {told : PbmAnswer} → p.version ≡ 1 → p.next ≡ 1 → new.is_plain ≡ p.is_plain → taken ≤ length piece →
     ((before : List ℕ) (rows : List (List Bool)) → InPbmRows p row before rows → TellsRow before rows (pbm_hold p row) (pbm_hold new row') (pbm_call piece taken) told) →
+    (p.rows_left ≡ 0 → (told ≡ Done) × KeepsPbmHold (pbm_hold p row) (pbm_hold new row') (pbm_call piece taken)) →
+    (1 ≤ p.rows_left → length row < bytes_of_row p.width → (told ≡ ShortRow) × KeepsPbmHold (pbm_hold p row) (pbm_hold new row') (pbm_call piece taken)) →
     ReadsPbmRow (pbm_hold p row) (pbm_hold new row') (pbm_call piece taken) told
-reads_rows version next within tells = record {
+reads_rows version next form within tells done short = record {
   within = within;
   tells = tells;
+  done = (λ row before rows has many. done (let l = has.left_is in omega (arith, l, many)));
+  short = (λ row before rows has few. short (let l = has.left_is in omega (arith, l, few)));
+  same_form = form;
   ended = (λ status has. let n = has.next_is in absurd (omega (arith, n, next)));
   not_begun = (λ other. elim other [ inl a ↦ elim a [ inl v ↦ absurd (v version) | inr n ↦ absurd (n.1 next) ] | inr n ↦ absurd (omega (arith, n, next)) ]);
 }
 
 pub no_rows_left : {p : T85Pbm} {row piece : List ℕ} {taken : ℕ} {told : PbmAnswer} → p.version ≡ 1 → p.next ≡ 1 → p.rows_left ≡ 0 → told ≡ Done → taken ≡ 0 →
     ReadsPbmRow (pbm_hold p row) (pbm_hold p row) (pbm_call piece taken) told
-no_rows_left {p} version next none is zero = reads_rows version next (omega (arith, zero)) (λ before rows has. rw is (whole_image p has none, (refl, zero)))
+no_rows_left {p} version next none is zero = reads_rows version next refl (omega (arith, zero)) (λ before rows has. rw is (whole_image p has none, (refl, zero)))
+    (λ _. (is, (refl, zero))) (λ some. absurd (omega (arith, none, some)))
 
 module _ (p new : T85Pbm) (row row' piece : List ℕ) (n taken : ℕ) where
   tells_within : (told : PbmAnswer) → length row' ≡ bytes_of_row new.width → (before : List ℕ) (rows : List (List Bool)) → TellsPart before rows (pbm_hold new row') (pbm_call piece taken) told →
@@ -249,12 +255,13 @@ module _ (p new : T85Pbm) (row row' piece : List ℕ) (n taken : ℕ) where
   tells_within (Broken fault) whole before rows t = t
   tells_within told whole before rows t = absurd t
 
-pub row_reads : {p new : T85Pbm} {row piece : List ℕ} {n taken : ℕ} {told : PbmAnswer} (row' : List ℕ) → p.version ≡ 1 → p.next ≡ 1 → n ≡ bytes_of_row p.width → length row' ≡ n →
-    new.width ≡ p.width → taken ≤ length piece →
+pub row_reads : {p new : T85Pbm} {row piece : List ℕ} {n taken : ℕ} {told : PbmAnswer} (row' : List ℕ) → p.version ≡ 1 → p.next ≡ 1 → 1 ≤ p.rows_left → n ≡ bytes_of_row p.width → n ≤ length row → length row' ≡ n →
+    new.width ≡ p.width → new.is_plain ≡ p.is_plain → taken ≤ length piece →
     ((before : List ℕ) (rows : List (List Bool)) → InPbmRows p (take n row) before rows → TellsPart before rows (pbm_hold new row') (pbm_call piece taken) told) →
     ReadsPbmRow (pbm_hold p row) (pbm_hold new (row' ++ drop n row)) (pbm_call piece taken) told
-row_reads {p} {new} {row} {piece} {n} {taken} {told} row' version next is_n long same within tells = reads_rows version next within
+row_reads {p} {new} {row} {piece} {n} {taken} {told} row' version next left is_n enough long same form within tells = reads_rows version next form within
     (λ before rows has. tells_within p new row row' piece n taken told (long ∙ is_n ∙ ap bytes_of_row (sym same)) before rows (tells before rows (row_of_call is_n has)))
+    (λ none. absurd (omega (arith, none, left))) (λ _ short. absurd (omega (arith, short, is_n, enough)))
 
 -- ---- the end
 

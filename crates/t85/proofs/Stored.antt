@@ -1,5 +1,5 @@
 -- From the encoder's effect on a buffer to the contents of the caller's memory.
-use Rattle.std.proofs.Common.{◌≡◌, ◌≤◌, ◌<◌, ◌^◌, ◌==◌, ◌⊎◌, inl, inr, ℕ, true, false, nat_lt, Bor, List, [], ◌∷◌, ◌++◌, length, take, Option, Some, None, Result, Ok, Err, refl, sym, ap, ◌∙◌, subst, arith, append_assoc, true≢false}
+use Rattle.std.proofs.Common.{◌≡◌, ◌≤◌, ◌<◌, ◌^◌, ◌==◌, ◌⊎◌, inl, inr, ℕ, true, false, nat_lt, Bor, List, [], ◌∷◌, ◌++◌, length, take, take_all, Option, Some, None, Result, Ok, Err, refl, sym, ap, ◌∙◌, subst, arith, append_assoc, true≢false}
 use Rattle.std.specs.Prelude.{is_some, option_to_list, option_map, unwrap_or, IfSome, slice_index_or, zero, suc}
 use Rattle.std.specs.Option.{option_map_or}
 use Rattle.std.specs.Io.KnownBytes.{Consumes}
@@ -14,11 +14,11 @@ use Rattle.raster_core.specs.Raster.{Raster, IsRaster}
 use Rattle.t85_core.specs.declared.fault.Fault.{Fault}
 use Rattle.t85_core.specs.declared.fault.Fault.TheVariants.{Write, AnnouncedLow, Pbm}
 use Rattle.t85_core.specs.declared.options.Options.{Options}
-use Rattle.t85_core.specs.Encode.{Encode, WritesCodeFront, BeginsWith, raster_of, layout_of}
+use Rattle.t85_core.specs.Encode.{Encode, WritesCodeFront, BeginsWith, IsBeginning, raster_of, layout_of}
 use Rattle.t85_core.specs.Jbg.{Settings, AreSettings, IsAnnounced, is_low, jbg}
 use Rattle.t85_core.specs.Laws.{CodeDenotes}
 use Rattle.t85_core.specs.Options.{settings_of}
-use Rattle.t85.specs.Delivered.{answer_status, IsFull}
+use Rattle.t85.specs.Delivered.{answer_status}
 use Rattle.t85.specs.Encoded.{DeliversCode, asked}
 use Rattle.t85.proofs.Delivery.{none_failed, fits_in, full_of}
 use Rattle.t85.specs.Delivered.{IsEmptyRoom}
@@ -100,9 +100,9 @@ module _ (s : Settings) (width height' : ℕ) (body memory : List ℕ) (len : �
 
   module _ (law : CodeDenotes) (proper : AreSettings s) (width_from : 1 ≤ width) (width_to : width ≤ 2 ^ 20) (height_from : 1 ≤ height') (height_to : height' < 2 ^ 32)
       (all : len ≡ length memory) (b : ℕ) where
-    -- the memory is full of the code of each raster that begins with the rows that are there
+    -- the code of each raster that begins with the rows that are there begins with the memory and another byte
     each : (given left : List ℕ) → body ≡ given ++ left → WritesCodeFront s (layout_of Raw width height') given (Some []) (Some (take len memory ++ b ∷ [])) → (held : RowsOf width height' body) →
-        (raster : Raster) → BeginsWith width height' held.rows raster → IsFull (jbg s raster) memory len 18
+        (raster : Raster) → BeginsWith width height' held.rows raster → IsBeginning (take len memory ++ b ∷ []) (jbg s raster)
     each given left taken w held raster begins =
         let same : w.holds.front ++ (w.rest ++ left) ≡ held.holds.front ++ held.rest =
         sym (append_assoc w.holds.front w.rest left) ∙ ap (λ l. l ++ left) (sym w.holds.bytes_are) ∙ sym taken ∙ held.holds.bytes_are in
@@ -115,7 +115,10 @@ module _ (s : Settings) (width height' : ℕ) (body memory : List ℕ) (len : �
           height_is = begins.height_is;
           first = sym (take-take (length w.rows) (length held.rows) raster.rows first.0) ∙ ap (take (length w.rows)) begins.first ∙ first.1;
         }) in
-        full_of (jbg s raster) memory b begun.rest len (begun.bytes_are ∙ ap (λ l. l ++ begun.rest) (sym w.appends)) all
+        record { rest = begun.rest; bytes_are = begun.bytes_are ∙ ap (λ l. l ++ begun.rest) (sym w.appends) }
+
+    whole_memory : take len memory ≡ memory
+    whole_memory = take_all len memory (omega (arith, all))
 
     is_raster : (held : RowsOf width height' body) → length held.rows ≡ height' → IsRaster (raster_of width held.rows)
     is_raster held many = record { width_from = width_from; width_to = width_to; height_from = omega arith; height_to = omega arith; rows = held.wide }
@@ -133,7 +136,7 @@ module _ (s : Settings) (width height' : ℕ) (body memory : List ℕ) (len : �
             holds = held.holds;
             many = many;
             denotes = law s raster proper is (subst (λ n. IsAnnounced s n) (sym many) (not_low (unwrap_or s.announced height') height' low));
-            delivers = inr (each given left taken w held raster begins);
+            delivers = inr (let more = each given left taken w held raster begins in full_of (jbg s raster) memory b more.rest len more.bytes_are all);
           })
       | inr few ↦
           inr (record {
@@ -143,8 +146,8 @@ module _ (s : Settings) (width height' : ℕ) (body memory : List ℕ) (len : �
             few = few.0;
             part = ends_within width held.rest few.1;
             writes = inr (record {
-              longer = λ raster begins. (each given left taken w held raster begins).longer;
-              stands = λ raster begins. (each given left taken w held raster begins).stands;
+              next = b;
+              begins = λ raster begins. rw (← whole_memory) (each given left taken w held raster begins);
               written_is = all;
               answer_is = refl;
             });

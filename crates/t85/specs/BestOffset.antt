@@ -51,7 +51,7 @@ best_memory window scratch offset = record { window = window; scratch = scratch;
 
 -- The effect of `t85_best_offset`. `t85_encode_offset` accepts the result, if it accepts the offset in use.
 pub record FindsBest (d : T85Encoder) (rows : List ℕ) (old new : BestMemory) (answer : ℕ) : Type 0 where
-  pub status_is : OfEach (encoder_hold d old.window) (λ image come sent. answer ≡ unwrap_or (best_refusal d (length rows) (length old.window) (length old.scratch)) 0)
+  pub status_is : (window : List ℕ) → OfEach (encoder_hold d window) (λ image come sent. answer ≡ unwrap_or (best_refusal d (length rows) (length old.window) (length old.scratch)) 0)
   pub ended : HasBeenEnded d → answer ≡ 54
   pub not_begun : EncoderIsNotBegun d → answer ≡ 53
   pub window : new.window ≡ old.window

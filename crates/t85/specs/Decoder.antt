@@ -14,7 +14,7 @@ use Rattle.t85.specs.declared.decoder.T85Decoder.{T85Decoder}
 use Rattle.t85.specs.declared.decoder.Answer.{Answer}
 use Rattle.t85.specs.declared.decoder.Answer.TheVariants as answer
 use Rattle.t85.specs.DecoderState.{Hold, hold_of, BehindHeader, InRows, CountsRows, HasRead, bytes_held_by}
-use Rattle.t85.specs.DecoderLimit.{IsAboveLimit, StaysWithinLimit}
+use Rattle.t85.specs.DecoderLimit.{AnnouncesMore, IsCertainOfMore, ReplacesRow, StaysWithinLimit}
 
 -- a call: the bytes, whether they are the last, the number of consumed bytes, and the place of the row in the window
 pub record BytesCall : Type 0 where
@@ -114,14 +114,35 @@ status_told (answer.Ended status) = status
 abbrev pub stripes_ended_by : T85Decoder → ℕ
 stripes_ended_by d = if (d.stage == 2) || (d.stage == 3) then d.entities + 1 else d.entities
 
+-- All rows that these bytes determine were returned; or, behind an end marker, all that the bytes before the marker determine.
+abbrev pub ReturnedAllRows : T85Decoder → List ℕ → List ℕ → Type 0
+ReturnedAllRows d stream out =
+    (is_waiting d ≡ false → BreaksBehindHeader stream d.height Truncated out) × (is_waiting d ≡ true → AwaitsBehindHeader stream (stripes_ended_by d) out)
+
+-- The stream is rejected in place of a request for bytes: all bytes of the call were consumed and are not the last ones, and the
+-- rows that they determine were returned. More rows than the limit are certain.
+pub record ReplacesMore (d : T85Decoder) (call : BytesCall) (stream out : List ℕ) : Type 0 where
+  pub hold : Hold
+  pub has : InRows hold (stream ++ call.bytes) out
+  pub all : call.taken ≡ length call.bytes
+  pub not_last : call.is_all ≡ true → ⊥
+  pub fixed : ReturnedAllRows hold.decoder (stream ++ call.bytes) out
+  pub why : IsCertainOfMore has d.max_rows
+  pub height_is : d.height ≡ hold.decoder.height
+
+-- Why a call rejects the stream for its limit: with its header, or in place of a row or a request for bytes, and so never in place
+-- of an error of the stream.
+abbrev pub IsAboveLimit : T85Decoder → BytesCall → List ℕ → List ℕ → Type 0
+IsAboveLimit d call stream out =
+    (AnnouncesMore (stream ++ bytes_of_call call) d.max_rows × (d.height ≡ 0)) ⊎ ReplacesRow d (stream ++ bytes_of_call call) out ⊎ ReplacesMore d call stream out
+
 -- The meaning of a result, where `Has` holds for each stream that the decoder may have consumed, and the rows that it returned.
 abbrev pub TellsAnswer : (Has : List ℕ → List ℕ → Type 0) → Hold → Hold → BytesCall → Answer → Type 0
 TellsAnswer Has old new call answer.Header = (stream out : List ℕ) → Has stream out → BehindHeader new.decoder (stream ++ bytes_of_call call) out
 TellsAnswer Has old new call answer.Row = (stream out : List ℕ) → Has stream out → GivesRowAt new call (stream ++ bytes_of_call call) out
 TellsAnswer Has old new call answer.More =
     (call.taken ≡ length call.bytes) × ((stream out : List ℕ) → Has stream out → HasRead new (stream ++ bytes_of_call call) out) × (call.is_all ≡ true → ⊥)
-    × (new.decoder.next ≡ 2 → is_waiting new.decoder ≡ false → (stream out : List ℕ) → Has stream out → BreaksBehindHeader (stream ++ call.bytes) new.decoder.height Truncated out)
-    × (new.decoder.next ≡ 2 → is_waiting new.decoder ≡ true → (stream out : List ℕ) → Has stream out → AwaitsBehindHeader (stream ++ call.bytes) (stripes_ended_by new.decoder) out)
+    × (new.decoder.next ≡ 2 → (stream out : List ℕ) → Has stream out → ReturnedAllRows new.decoder (stream ++ call.bytes) out)
 TellsAnswer Has old new call answer.Done =
     HasEnded new.decoder 0 × ((stream out rest : List ℕ) → Has stream out → MayFollow call.is_all rest → IsImageOf ((stream ++ call.bytes) ++ rest) new.decoder.height out)
     -- only bytes of earlier calls are stored, and then none of this call was consumed
@@ -129,7 +150,7 @@ TellsAnswer Has old new call answer.Done =
     × ((stream out rest : List ℕ) → Has stream out → MayFollow call.is_all rest → ConsumesStream new.decoder (stream ++ bytes_of_call call) ((stream ++ call.bytes) ++ rest))
 TellsAnswer Has old new call (answer.Broken fault) =
     HasEnded new.decoder (fault_number fault) × ((stream out rest : List ℕ) → Has stream out → MayFollow call.is_all rest → IsBrokenStream ((stream ++ call.bytes) ++ rest) new.decoder.height fault out)
-TellsAnswer Has old new call answer.TooManyRows = HasEnded new.decoder 24 × ((stream out : List ℕ) → Has stream out → IsAboveLimit new.decoder (stream ++ bytes_of_call call) out)
+TellsAnswer Has old new call answer.TooManyRows = HasEnded new.decoder 24 × ((stream out : List ℕ) → Has stream out → IsAboveLimit new.decoder call stream out)
 TellsAnswer Has old new call answer.ShortWindow = KeepsHold old new call × ((stream out : List ℕ) → Has stream out → IsShort old.window stream)
 TellsAnswer Has old new call answer.NotBegun = KeepsHold old new call × ((stream out : List ℕ) → Has stream out → ⊥)
 TellsAnswer Has old new call (answer.Ended status) = KeepsHold old new call × HasEnded old.decoder status
@@ -146,9 +167,10 @@ DecoderIsNotBegun d = (d.version ≢ 1) ⊎ (3 < d.next)
 -- The window is too short for the next rows.
 pub record LacksWindow (old : Hold) : Type 0 where
   pub next_is : (old.decoder.next ≡ 1) ⊎ (old.decoder.next ≡ 2)
+  pub window : List ℕ
   pub stream : List ℕ
   pub out : List ℕ
-  pub read : HasRead old stream out
+  pub read : HasRead (hold_of old.decoder window) stream out
   pub short : IsShort old.window stream
 
 -- The header is complete with these bytes, and without VLENGTH announces no more rows than the limit.

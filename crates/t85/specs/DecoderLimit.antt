@@ -16,28 +16,21 @@ pub record AnnouncesMore (stream : List ℕ) (rows : ℕ) : Type 0 where
   pub fixed : is_variable header ≡ false
   pub more : rows < header.yd
 
--- A decoder that has consumed these bytes, and has ended since then, is certain of more rows than the limit.
-pub record IsCertainOfMore (d : T85Decoder) (stream : List ℕ) : Type 0 where
-  pub hold : Hold
-  pub out : List ℕ
-  pub has : InRows hold stream out
+-- More rows than the limit are certain for a decoder in this state.
+pub record IsCertainOfMore {hold : Hold} {stream out : List ℕ} (has : InRows hold stream out) (limit : ℕ) : Type 0 where
   pub rows : ℕ
   pub certain : IsLeastHeight (fields_of has.decoder.header) has.has.decoded rows
-  pub more : d.max_rows < rows
-  pub height_is : d.height ≡ hold.decoder.height
+  pub more : limit < rows
 
--- The decoder had returned at least as many rows as the limit, and these bytes determine one more.
-pub record HasRowAbove (d : T85Decoder) (stream out : List ℕ) : Type 0 where
+-- The stream is rejected in place of a row: these bytes determine one more row. With it, more rows than the limit are certain, or
+-- as many as the limit had been returned.
+pub record ReplacesRow (d : T85Decoder) (stream out : List ℕ) : Type 0 where
   pub hold : Hold
   pub row : List ℕ
   pub has : InRows hold stream (out ++ row)
   pub whole : length row ≡ div_ceil has.decoder.header.xd 8
-  pub more : d.max_rows * div_ceil has.decoder.header.xd 8 ≤ length out
+  pub why : IsCertainOfMore has d.max_rows ⊎ (d.max_rows * div_ceil has.decoder.header.xd 8 ≤ length out)
   pub height_is : d.height ≡ hold.decoder.height
-
--- Why a decoder that has consumed these bytes, and has returned these rows, rejects the stream for its limit.
-abbrev pub IsAboveLimit : T85Decoder → List ℕ → List ℕ → Type 0
-IsAboveLimit d stream out = (AnnouncesMore stream d.max_rows × (d.height ≡ 0)) ⊎ IsCertainOfMore d stream ⊎ HasRowAbove d stream out
 
 -- no more rows than the limit are certain
 abbrev pub IsWithinLimit : T85Decoder → Type 0

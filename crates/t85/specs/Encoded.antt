@@ -1,12 +1,12 @@
 -- The result of an encoding call, and its effect on the caller's memory.
-use Rattle.std.specs.Prelude.{ℕ, ◌≡◌, ◌<◌, ◌⊎◌, ◌==◌, ◌||◌, not, nat_lt, List, [], length, take, Option, Some, None, option_map, if◌then◌else◌, Bool}
+use Rattle.std.specs.Prelude.{ℕ, ◌≡◌, ◌<◌, ◌⊎◌, ◌==◌, ◌||◌, not, nat_lt, List, [], ◌∷◌, ◌++◌, length, Option, Some, None, option_map, if◌then◌else◌, Bool}
 use Rattle.std.specs.Int.{div_ceil}
 use Rattle.pbm_core.specs.declared.form.Form.TheVariants.{Raw}
 use Rattle.pbm_core.specs.declared.fault.PbmFault.TheVariants.{Truncated}
 use Rattle.pbm_core.specs.Image.{HoldsRows, HasRowFault}
 use Rattle.raster_core.specs.Raster.{Raster}
 use Rattle.t85_core.specs.Denotes.{Denotes}
-use Rattle.t85_core.specs.Encode.{BeginsWith, HoldsStripes, raster_of}
+use Rattle.t85_core.specs.Encode.{BeginsWith, HoldsStripes, IsBeginning, raster_of}
 use Rattle.t85_core.specs.Fault.{fault_number}
 use Rattle.t85_core.specs.Jbg.{Settings, is_low, jbg}
 use Rattle.t85_core.specs.Options.{refusal_of}
@@ -73,10 +73,11 @@ pub record FitsBegun (a : Asked) (rows : List (List Bool)) (memory : List ℕ) (
   pub begun : (raster : Raster) → BeginsWith a.width a.height rows raster → HoldsStripes a.settings raster (length rows) text
   pub fits : Fits text 36 memory written answer
 
--- The buffer is full of a prefix of the stream of each raster that begins with these rows, and shorter than each.
+-- The buffer is full of a prefix of the stream of each raster that begins with these rows. The same byte follows this prefix in
+-- each, so the output is longer.
 pub record IsFullOfEach (a : Asked) (rows : List (List Bool)) (memory : List ℕ) (written answer : ℕ) : Type 0 where
-  pub longer : (raster : Raster) → BeginsWith a.width a.height rows raster → length memory < length (jbg a.settings raster)
-  pub stands : (raster : Raster) → BeginsWith a.width a.height rows raster → memory ≡ take (length memory) (jbg a.settings raster)
+  pub next : ℕ
+  pub begins : (raster : Raster) → BeginsWith a.width a.height rows raster → IsBeginning (memory ++ next ∷ []) (jbg a.settings raster)
   pub written_is : written ≡ length memory
   pub answer_is : answer ≡ 18
 

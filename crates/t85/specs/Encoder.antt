@@ -166,7 +166,7 @@ TakesOne old new row bytes = OfEach old (λ image rows sent. HasCome image new (
 
 -- the effect of `t85_encode_row`
 pub record PutsRow (old new : EncoderHold) (row : List ℕ) (l : Lending) : Type 0 where
-  pub status_is : OfEach old (λ image rows sent. l.answer ≡ unwrap_or (row_refusal old.encoder (length row) (length old.window) (length l.old)) 0)
+  pub status_is : (window : List ℕ) → OfEach (encoder_hold old.encoder window) (λ image rows sent. l.answer ≡ unwrap_or (row_refusal old.encoder (length row) (length old.window) (length l.old)) 0)
   pub ended : HasBeenEnded old.encoder → l.answer ≡ 54
   pub not_begun : EncoderIsNotBegun old.encoder → l.answer ≡ 53
   pub refused : l.answer ≢ 0 → LeavesAll old new l
@@ -218,7 +218,7 @@ EndsStream old bytes = OfEach old (λ image rows sent. IsStreamOfRows image rows
 
 -- the effect of `t85_encode_end`
 pub record PutsEnd (old new : EncoderHold) (l : Lending) : Type 0 where
-  pub status_is : OfEach old (λ image rows sent. l.answer ≡ unwrap_or (end_refusal old.encoder (length old.window) (length l.old)) 0)
+  pub status_is : (window : List ℕ) → OfEach (encoder_hold old.encoder window) (λ image rows sent. l.answer ≡ unwrap_or (end_refusal old.encoder (length old.window) (length l.old)) 0)
   pub was_ended : HasBeenEnded old.encoder → l.answer ≡ 54
   pub not_begun : EncoderIsNotBegun old.encoder → l.answer ≡ 53
   pub refused : l.answer ≢ 0 → LeavesAll old new l

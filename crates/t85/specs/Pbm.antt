@@ -28,6 +28,11 @@ header_place n =
 abbrev pub form_of : ℕ → Form
 form_of n = if n == 0 then Raw else Plain
 
+-- the number of a form
+abbrev pub form_number : Form → ℕ
+form_number Raw = 0
+form_number Plain = 1
+
 abbrev pub header_reader_of : T85Pbm → HeaderReader
 header_reader_of p = record { place = header_place p.place; form = form_of p.is_plain; width = p.width; value = p.value }
 
@@ -100,9 +105,10 @@ with_call before call = before ++ take call.taken call.piece
 abbrev pub KeepsPbm : T85Pbm → T85Pbm → PieceCall → Type 0
 KeepsPbm old new call = (new ≡ old) × (call.taken ≡ 0)
 
--- The result in the header: the header is complete, undecided, or has an error.
+-- The result in the header: the header is complete, and the struct has the number of its form; or it is undecided, or has an
+-- error.
 abbrev pub TellsPbmHeader : List ℕ → T85Pbm → PieceCall → PbmAnswer → Type 0
-TellsPbmHeader before new call answer.Header = (row : List ℕ) → InPbmRows new row (with_call before call) []
+TellsPbmHeader before new call answer.Header = ((row : List ℕ) → InPbmRows new row (with_call before call) []) × (new.is_plain ≡ form_number (form_of new.is_plain))
 TellsPbmHeader before new call answer.More = (call.taken ≡ length call.piece) × InPbmHeader new (with_call before call) × HeaderFault (with_call before call) Truncated
 TellsPbmHeader before new call (answer.Broken fault) = HeaderFault (with_call before call) fault × (fault ≢ Truncated) × PbmHasEnded new (pbm_status_of fault)
 TellsPbmHeader before new call _ = ⊥
@@ -150,6 +156,11 @@ TellsRow before rows old new call told = TellsPart before rows new call told
 pub record ReadsPbmRow (old new : PbmHold) (call : PieceCall) (told : PbmAnswer) : Type 0 where
   pub within : call.taken ≤ length call.piece
   pub tells : (before : List ℕ) (rows : List (List Bool)) → InPbmRows old.pbm old.row before rows → TellsRow before rows old new call told
+  -- after the last row, and before it for a row that is too short, whichever row the calls before were passed
+  pub done : (row before : List ℕ) (rows : List (List Bool)) → InPbmRows old.pbm row before rows → length rows ≡ old.pbm.height → (told ≡ answer.Done) × KeepsPbmHold old new call
+  pub short : (row before : List ℕ) (rows : List (List Bool)) → InPbmRows old.pbm row before rows → length rows < old.pbm.height → length old.row < bytes_of_row old.pbm.width
+      → (told ≡ answer.ShortRow) × KeepsPbmHold old new call
+  pub same_form : new.pbm.is_plain ≡ old.pbm.is_plain
   pub ended : (status : ℕ) → PbmHasEnded old.pbm status → (told ≡ answer.Ended status) × KeepsPbmHold old new call
   pub not_begun : PbmIsNotBegun old.pbm ⊎ (old.pbm.next ≡ 0) → (told ≡ answer.NotBegun) × KeepsPbmHold old new call
 

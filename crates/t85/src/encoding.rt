@@ -31,7 +31,7 @@ pub const MOST_WIDTH: u32 = 1_048_576;
 /// they are invalid; 33 if the width or the height is 0; 34 if the width is above 1048576; 51 if the stride is shorter
 /// than a row; 23 if the announced height is below the image's; 19 if the window is shorter than `t85_window_bytes` of
 /// the width; 36 if rows are missing, and then a prefix of the stream is written that includes each stripe whose rows
-/// are all present. Returns 18 if the output is longer than `stream`, which is then filled with a prefix of it.
+/// are all present. Returns 18 instead if the output is longer than `stream`, which is then filled with a prefix.
 ///
 /// `written` is the number of bytes of `stream` that were written. The contents of `stream` after them, and of the
 /// window, are unspecified.

@@ -105,9 +105,9 @@ pub extern "C" fn t85_pbm_header(pbm: &mut T85Pbm, bytes: &[u8], taken: &mut usi
 /// same memory in each call until its row is complete.
 ///
 /// Returns 61 if the row is complete: the first bytes of `row`, as the width requires; 62 if all bytes were consumed; 0
-/// after the last row; 38 for a byte that is not a digit. Returns 55 if the row is shorter than its width, and 53 if the
-/// struct was not initialized or its header is not read; then nothing is consumed or changed. After an error it returns
-/// the same status again.
+/// after the last row, whatever the length of `row`; 38 for a byte that is not a digit. Returns 55 if the row is shorter
+/// than its width, and 53 if the struct was not initialized or its header is not read; then nothing is consumed or
+/// changed. After an error it returns the same status again.
 ///
 /// `taken` is the number of bytes consumed.
 #[unsafe(no_mangle)]
@@ -266,6 +266,7 @@ impl T85Pbm {
             TellsPart before rows (pbm_hold self.new row.new)
             (pbm_call bytes.now result.taken) result.answer }
         ensures same_width { self.new.width ≡ self.old.width }
+        ensures same_form { self.new.is_plain ≡ self.old.is_plain }
     {
         let mut reader = self.row_reader();
         let progress = reader.read(size, self.form(), row, bytes);

@@ -1,7 +1,7 @@
 //! The state of a PBM reader as the struct stores it.
 
 ghost use Rattle.std.specs.Prelude.{◌≡◌, ◌≤◌, [], IfSome, IsNone};
-ghost use Rattle.t85.specs.Pbm.{InPbmHeader, PbmHasEnded, form_of, header_reader_of, header_place, row_reader_of};
+ghost use Rattle.t85.specs.Pbm.{InPbmHeader, PbmHasEnded, form_number, form_of, header_reader_of, header_place, row_reader_of};
 
 use crate::pbm::{ENDED, HEADER, MOST_WIDTH, ROWS, T85Pbm, VERSION};
 use pbm_core::{Form, HeaderReader, Place, RowReader, Size};
@@ -93,6 +93,7 @@ impl T85Pbm {
         ensures width { self.new.width ≡ size.width }
         ensures height { self.new.height ≡ size.height }
         ensures form { form_of self.new.is_plain ≡ form }
+        ensures form_number { self.new.is_plain ≡ form_number form }
         ensures left { self.new.rows_left ≡ size.height }
         ensures filled { self.new.filled ≡ 0 }
         ensures made { self.new.made ≡ 0 }
@@ -110,6 +111,7 @@ impl T85Pbm {
     pub(super) fn end(&mut self, status: u8)
         ensures ended { self.old.version ≡ 1 → PbmHasEnded self.new status }
         ensures same_width { self.new.width ≡ self.old.width }
+        ensures same_form { self.new.is_plain ≡ self.old.is_plain }
     {
         self.next = ENDED;
         self.status = status;
@@ -146,7 +148,8 @@ fn number_of_place(place: Place) -> u8
 }
 
 fn number_of_form(form: Form) -> u32
-    ensures { form_of result ≡ form }
+    ensures form { form_of result ≡ form }
+    ensures number { result ≡ form_number form }
 {
     match form {
         Form::Raw => 0,

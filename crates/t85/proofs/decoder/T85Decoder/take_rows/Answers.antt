@@ -23,7 +23,7 @@ returns-clause-answers c =
 
 pub returns-in-Err-clause-short : goal.returns-in-Err-clause-short
 returns-in-Err-clause-short c = λ lacks. absurd (none_refused c.headers.ensures
-    (hold_of c.args.self.now c.args.window.now) _ lacks.stream lacks.out c.requires.next c.in-Err.ensures.refused lacks.read)
+    (hold_of c.args.self.now lacks.window) _ lacks.stream lacks.out c.requires.next c.in-Err.ensures.refused lacks.read)
 
 pub returns-clause-short : goal.returns-clause-short
 returns-clause-short c = λ lacks. absurd (long_enough c.headers.ensures (hold_of c.args.self.now c.args.window.now) c.in-Ok.header c.in-Ok.ensures.accepted (search rules) lacks)
