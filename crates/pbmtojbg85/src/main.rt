@@ -18,12 +18,16 @@ fn perform(rt: &HostRuntime, job: &Job) -> ExitCode {
 }
 
 fn main(rt: HostRuntime) -> ExitCode {
-    let words = match words_of(&rt, NAME) {
+    let words = match words_of(&rt, NAME, std::env::args(&rt)) {
         Ok(words) => words,
         Err(code) => return code,
     };
     match job(rt.alloc(), words.as_slice()) {
         Ok(job) => perform(&rt, &job),
-        Err(fault) => refuse(&rt, NAME, fault),
+        Err(fault) => {
+            let mut output = ToWrite::new(rt.stdout());
+            let mut messages = ToWrite::new(rt.stderr());
+            end(refuse(NAME, fault, &mut output, &mut messages))
+        }
     }
 }

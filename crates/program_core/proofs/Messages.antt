@@ -1,8 +1,11 @@
 -- A line that is put together from parts that find room.
-use Rattle.std.proofs.Common.{◌≡◌, ◌≤◌, ◌<◌, ◌+◌, ◌++◌, ◌∙◌, ℕ, List, [], length, refl, ap, arith, le-leb, length-append}
+use Rattle.std.proofs.Common.{◌≡◌, ◌≤◌, ◌<◌, ◌+◌, ◌++◌, ◌∙◌, ◌==◌, ℕ, List, [], length, refl, ap, arith, le-leb, length-append, subst, sym}
+use Rattle.std.proofs.lemmas.Grind.{common_steps}
+use Rattle.std.proofs.lemmas.List.Sums.{fails_before_first}
+use Rattle.std.specs.List.{before_first}
 use Rattle.std.specs.Prelude.{codes}
 use Rattle.std.specs.Fmt.Cut.{cut_to}
-use Rattle.program_core.specs.Message.{fault_line}
+use Rattle.program_core.specs.Message.{fault_line, IsInOneLine}
 
 -- a part that has room is not cut
 cut_to_fits : (room : ℕ) (text : List ℕ) → length text ≤ room → cut_to room text ≡ text
@@ -27,3 +30,13 @@ line_whole {program} {text} {named = named} {colon} {told} empty first second th
     let has_text : told ≡ (program ++ codes ": ") ++ text = put_whole third fits (omega arith) ∙ rw has_colon refl in
     let text_long : length told ≡ length program + 2 + length text = rw has_text (length-append (program ++ codes ": ") text ∙ ap (λ (n : ℕ). n + length text) (length-append program (codes ": "))) in
     put_whole fourth (omega arith) (omega arith) ∙ rw has_text refl
+
+before_in_one_line : (text : List ℕ) → IsInOneLine (before_first (λ b. b == 10) text)
+before_in_one_line text k d within = let none = fails_before_first (λ b. b == 10) text k d (grind (arith, common_steps)) in grind (arith, common_steps)
+
+-- the text before the first line feed has none, and is no longer
+pub in_one_line : (text : List ℕ) {line : List ℕ} → line ≡ before_first (λ b. b == 10) text → IsInOneLine line
+in_one_line text is = subst IsInOneLine (sym is) (before_in_one_line text)
+
+pub short_line : (text : List ℕ) {line : List ℕ} → line ≡ before_first (λ b. b == 10) text → length text ≤ 96 → length line ≤ 96
+short_line text is short = rw is (grind (arith, common_steps))

@@ -5,3 +5,4 @@ pub mod Jbgtopbm85
 pub mod Pbmtojbg85
 pub mod Run
 pub mod Message
+pub mod Refused

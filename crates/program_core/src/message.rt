@@ -1,8 +1,9 @@
 //! Writes a line to standard error.
 
-ghost use Rattle.std.specs.Prelude.{◌≡◌, ◌≤◌, ℕ, List, length};
+ghost use Rattle.std.specs.Prelude.{◌≡◌, ◌≤◌, ◌==◌, ℕ, List, length};
+ghost use Rattle.std.specs.List.{before_first};
 ghost use Rattle.std.specs.Fmt.InlineText.{inline_text};
-ghost use Rattle.program_core.specs.Message.{fault_line, Reports, TellsFault};
+ghost use Rattle.program_core.specs.Message.{fault_line, IsInOneLine, Reports, TellsFault};
 ghost use Rattle.program_core.specs.Run.{exit_status};
 
 use pbm_core::{Output, write_bytes};
@@ -40,15 +41,25 @@ fn write_line<M: Output>(program: &str, fault: Fault, messages: &mut M)
     let _ = write_bytes(messages, line.as_str().as_bytes());
 }
 
-/// A program's line about an error. Text that does not fit is replaced by dots.
+/// A program's line about an error. Text that does not fit is replaced by dots, and only the first line of it is shown.
 fn line_about(program: &str, fault: Fault) -> InlineText<128>
-    ensures { length program.now ≤ 24 →
-        (text : List ℕ) × (inline_text result ≡ fault_line program.now text) }
+    ensures { length program.now ≤ 24 → (text : List ℕ) × IsInOneLine text
+        × (inline_text result ≡ fault_line program.now text) }
 {
     let text = InlineText::<TEXT_ROOM>::of(fault);
     InlineText::<LINE_ROOM>::new()
         .and_str(program, NAME_ROOM)
         .and_str(": ", 2)
-        .and_str(text.as_str(), TEXT_ROOM)
+        .and_str(first_line(text.as_str()), TEXT_ROOM)
         .and_str("\n", 1)
+}
+
+/// The text before its first line feed, or all of it.
+fn first_line(text: &str) -> &str
+    ensures { result.now ≡ before_first (λ b. b == 10) text.now }
+{
+    match text.split_once('\n') {
+        Some((line, _)) => line,
+        None => text,
+    }
 }

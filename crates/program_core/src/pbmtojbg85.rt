@@ -1,6 +1,6 @@
 //! The work of `pbmtojbg85`: its command line, and its run on borrowed devices.
 
-ghost use Rattle.std.specs.Prelude.{◌≡◌, IfErr, IfOk, option_map, string_bytes};
+ghost use Rattle.std.specs.Prelude.{◌≡◌, ◌⊎◌, true, IfErr, IfOk, OnErr, option_map, string_bytes};
 ghost use Rattle.std.specs.Process.{exit_status};
 ghost use Rattle.t85_core.specs.Change.{input_change};
 ghost use Rattle.program_core.specs.Pbmtojbg85.{RunsEncoding};
@@ -33,12 +33,14 @@ pub struct Files<R, W> {
 pub type Opened = Files<FromRead<Readable>, ToWrite<Writable>>;
 
 /// Opens the job's input, and then creates or truncates its output. If that fails, it reports the error and returns the
-/// exit code with which the program must end.
+/// exit code with which the program must end; only a named file can fail.
 pub fn open(rt: &HostRuntime, job: &Job) -> Result<Opened, ExitCode>
     ensures input { IfOk result (λ files. reads_file files.input.reader ≡ names_file
         (option_map string_bytes job.now.input)) }
     ensures output { IfOk result (λ files. writes_file files.output.writer ≡ names_file
         (option_map string_bytes job.now.output)) }
+    ensures fails { OnErr result ((names_file (option_map string_bytes job.now.input) ≡ true)
+        ⊎ (names_file (option_map string_bytes job.now.output) ≡ true)) }
     ensures status { IfErr result (λ e. exit_status e ≡ 1) }
 {
     let input = open_input(rt, NAME, &job.input)?;

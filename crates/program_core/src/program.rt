@@ -1,12 +1,18 @@
 //! How a program begins, and how it ends.
 
-ghost use Rattle.std.specs.Prelude.{◌≡◌, ◌⊎◌, IfErr, IfOk, option_map, string_bytes};
+ghost use Rattle.std.specs.Prelude.{◌≡◌, ◌≤◌, ◌⊎◌, IfErr, IfOk, IsOk, IsOkAnd, OnErr, length, option_map, string_bytes, true};
+ghost use Rattle.std.specs.Iterator.{Drains};
+ghost use Rattle.std.specs.Vec.Iter.{into_iter_steps};
 ghost use Rattle.std.specs.Process.{exit_status};
-ghost use Rattle.program_core.specs.Run.{names_file, reads_file, writes_file};
+ghost use Rattle.program_core.specs.Run.{names_file, reads_file, writes_file, written};
 ghost use Rattle.program_core.specs.Line.{IsHelp, status_of};
+ghost use Rattle.program_core.specs.Refused.{RefusesArguments};
 
 use crate::files::{Readable, Writable};
 use crate::line_fault::LineFault;
+use crate::message::report;
+use pbm_core::{Output, ToWrite, write_bytes};
+use std::env::Args;
 use std::io;
 use std::process::ExitCode;
 use t85_core::Fault;
@@ -19,37 +25,60 @@ fn complain(rt: &HostRuntime, program: &str, text: &str, status: u8) -> ExitCode
     ExitCode::from(status)
 }
 
-/// Reports why the arguments give no job. Help is written to standard output; if that fails, it is an error.
-pub fn refuse(rt: &HostRuntime, program: &str, fault: LineFault) -> ExitCode
-    ensures { (exit_status result ≡ status_of fault) ⊎ (IsHelp fault × (exit_status result ≡ 1)) }
+/// Writes the help or the version to the output, or reports to `messages` why the arguments give no job. Returns the exit
+/// status. If the help cannot be written, that is reported as an error.
+pub fn refuse<W: Output, M: Output>(
+    program: &str,
+    fault: LineFault,
+    output: &mut W,
+    messages: &mut M,
+) -> u8
+    ensures status { (result ≡ status_of fault) ⊎ (IsHelp fault × (result ≡ 1)) }
+    ensures does { length program.now ≤ 24 → RefusesArguments program.now fault
+        (written W.view output.old output.new) (written M.view messages.old messages.new) result }
 {
     let status = fault.status();
     match fault {
-        LineFault::Help(text) => {
-            if rt.print(text).is_err() {
-                return complain(rt, program, "output cannot be written", 1);
-            }
-        }
+        LineFault::Help(text) => match write_bytes(output, text.as_str().as_bytes()) {
+            Ok(()) => status,
+            Err(_) => report(program, Err(Fault::Write), messages),
+        },
         LineFault::Usage(text) => {
-            let _ = rt.eprint(text);
+            let _ = write_bytes(messages, text.as_str().as_bytes());
+            status
         }
         LineFault::Fault(fault) => {
-            let _ = rt.eprintln(format_args!("{program}: {fault}"));
+            let _ = report(program, Err(fault), messages);
+            status
         }
     }
-    ExitCode::from(status)
 }
 
-/// The arguments of the command line. If they cannot be read, it reports the error and returns the exit code with which
-/// the program must end.
-pub fn words_of(rt: &HostRuntime, program: &str) -> Result<Vec<String>, ExitCode>
-    ensures { IfErr result (λ e. (exit_status e ≡ 1) ⊎ (exit_status e ≡ 2)) }
+/// Reports lack of memory.
+fn out_of_memory(rt: &HostRuntime, program: &str) -> ExitCode
+    ensures { exit_status result ≡ 1 }
 {
-    let words = match std::env::args(rt) {
+    let mut messages = ToWrite::new(rt.stderr());
+    end(report(program, Err(Fault::OutOfMemory), &mut messages))
+}
+
+/// The arguments of the command line, from what the system returned for them. If they cannot be read, or memory runs
+/// short, it reports the error and returns the exit code with which the program must end.
+pub fn words_of(
+    rt: &HostRuntime,
+    program: &str,
+    args: io::Result<Args>,
+) -> Result<Vec<String>, ExitCode>
+    ensures all { IfOk result (λ words. IsOkAnd args (λ these.
+        Drains into_iter_steps these words.items)) }
+    ensures short { IsOk args → IfErr result (λ e. exit_status e ≡ 1) }
+    ensures status { IfErr result (λ e. (exit_status e ≡ 1) ⊎ (exit_status e ≡ 2)) }
+{
+    let words = match args {
         Ok(words) => words,
         Err(error) => {
             if error.kind() == io::ErrorKind::OutOfMemory {
-                return Err(refuse(rt, program, LineFault::Fault(Fault::OutOfMemory)));
+                return Err(out_of_memory(rt, program));
             }
             let text = "a word of the command line is no UTF-8";
             return Err(complain(rt, program, text, 2));
@@ -57,7 +86,7 @@ pub fn words_of(rt: &HostRuntime, program: &str) -> Result<Vec<String>, ExitCode
     };
     match words.collect::<Vec<String>>(rt.alloc()) {
         Ok(words) => Ok(words),
-        Err(_) => Err(refuse(rt, program, LineFault::Fault(Fault::OutOfMemory))),
+        Err(_) => Err(out_of_memory(rt, program)),
     }
 }
 
@@ -76,6 +105,7 @@ pub(crate) fn open_input(
 ) -> Result<Readable, ExitCode>
     ensures chosen { IfOk result (λ input. reads_file input ≡ names_file
         (option_map string_bytes name.now)) }
+    ensures fails { OnErr result (names_file (option_map string_bytes name.now) ≡ true) }
     ensures status { IfErr result (λ e. exit_status e ≡ 1) }
 {
     match Readable::open(rt, name) {
@@ -93,6 +123,7 @@ pub(crate) fn create_output(
 ) -> Result<Writable, ExitCode>
     ensures chosen { IfOk result (λ output. writes_file output ≡ names_file
         (option_map string_bytes name.now)) }
+    ensures fails { OnErr result (names_file (option_map string_bytes name.now) ≡ true) }
     ensures status { IfErr result (λ e. exit_status e ≡ 1) }
 {
     match Writable::create(rt, name) {
