@@ -335,8 +335,8 @@ uint8_t t85_next_part(const uint8_t *stream, size_t len, t85_part *part);
 
    Returns one of:
    0: the first *written bytes of `stream` are the whole stream.
-   T85_NO_ROOM: the output does not fit. `stream` is filled with a prefix of the output, and
-     *written is stream_room.
+   T85_NO_ROOM: the output is longer than stream_room, whether rows are missing or not. `stream` is
+     filled with a prefix of the output, and *written is stream_room.
    T85_ROWS_MISSING: `rows` is too short. The *written bytes hold the header, each stripe whose rows
      are all present, and a prefix of the next stripe.
    Any other error: nothing is written, and *written is 0. The checks are made in this order: 50;
@@ -559,10 +559,11 @@ typedef struct {
    The rule counts the pixels of the stripe's first rows that are not typical, until more than 2048
    are counted: those from column most_offset, counted from 0, to the third last. For each offset
    from 3 (5 with the two-line template) to most_offset it counts how many equal the pixel that far
-   to their left, and for 0 how many equal the pixel in the nominal position. It moves to the offset
-   with the greatest count, or to the least of several, if the best count of a lag misses less than
-   an eighth of the pixels, exceeds the count of the current offset, and that of its inverse, by more
-   than it misses and by more than a sixteenth, and the worst count of a lag by more than a quarter.
+   to their left, and for 0 how many equal the pixel in the nominal position. If more than 2048 were
+   counted, it moves to the offset with the greatest count, or to the least of several, if the best
+   count of a lag misses less than an eighth of the pixels, exceeds the count of the current offset,
+   and that of its inverse, by more than it misses and by more than a sixteenth, and the worst count
+   of a lag by more than a quarter. A count above the best one of a lag counts as exceeded.
 
    Returns one of:
    0: the choice is started.
@@ -658,7 +659,7 @@ uint8_t t85_pbm_header(t85_pbm *pbm, const uint8_t *bytes, size_t len, size_t *t
    T85_ROW: the first t85_row_bytes(width) bytes of `row` are the next row, with the bits after its
      last pixel set to 0. Call it again with the remaining bytes.
    T85_MORE: all bytes have been consumed, and more are needed.
-   0: all rows have been read. Nothing was consumed.
+   0: all rows have been read; row_room is not checked. Nothing was consumed.
    T85_PBM_BAD_DIGIT: in the plain form, a byte is neither a digit 0 or 1 nor white space. Further
      calls return the same status and consume nothing.
    T85_SHORT_ROW: row_room is less than t85_row_bytes(width). Nothing was consumed or changed.

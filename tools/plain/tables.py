@@ -56,7 +56,7 @@ OF_CORE = {"ops", "mem", "fmt", "cell"}
 OF_KIT = {
     "alloc": {"AllocError", "AllocFailed", "Global"},
     "convert": {"AsStr"},
-    "env": {"args"},
+    "env": {"Args", "args"},
     "fmt": {"InlineText"},
     "fs": {"self", "File", "FileType"},
     "io": {"Stdin", "Stdout"},

@@ -231,17 +231,8 @@ impl HostRuntime {
     }
 
     #[cfg(unix)]
-    pub fn print<T: std::fmt::Display>(&self, text: T) -> std::io::Result<()> {
-        std::io::Write::write_all(&mut io::stdout(), text.to_string().as_bytes())
-    }
-
-    #[cfg(unix)]
-    pub fn eprint<T: std::fmt::Display>(&self, text: T) -> std::io::Result<()> {
-        std::io::Write::write_all(&mut io::stderr(), text.to_string().as_bytes())
-    }
-
-    #[cfg(unix)]
     pub fn eprintln<T: std::fmt::Display>(&self, text: T) -> std::io::Result<()> {
-        self.eprint(format_args!("{}\n", text))
+        let line = format_args!("{}\n", text).to_string();
+        std::io::Write::write_all(&mut io::stderr(), line.as_bytes())
     }
 }
