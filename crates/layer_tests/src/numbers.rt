@@ -84,7 +84,7 @@ const DECODER: DecoderRegisters = DecoderRegisters {
     code: 2 * (128 * 0xF000 - 128 * (0x1_0000 - 0x5A1D)),
     span: 2 * 128 * 0x5A1D,
     bits: 15,
-    has_ended: false,
+    has_ended: 0,
 };
 
 /// An encoder after the same pixel.
@@ -120,7 +120,7 @@ fn first_numbers_by_hand(rt: HostRuntime) {
         code: 0,
         span: 0x80_0000,
         bits: 0,
-        has_ended: false,
+        has_ended: 0,
     };
     let empty = EncoderRegisters {
         low: 0,
@@ -141,15 +141,23 @@ fn is_decoder(numbers: DecoderRegisters) -> bool {
 }
 
 /// Numbers, and whether they are a decoder's.
-static DECODERS: [(&str, DecoderRegisters, bool); 11] = [
+static DECODERS: [(&str, DecoderRegisters, bool); 12] = [
     ("as they were", DECODER, true),
     (
         "at the end",
         DecoderRegisters {
-            has_ended: true,
+            has_ended: 1,
             ..DECODER
         },
         true,
+    ),
+    (
+        "no flag",
+        DecoderRegisters {
+            has_ended: 2,
+            ..DECODER
+        },
+        false,
     ),
     ("no size", DecoderRegisters { span: 0, ..DECODER }, false),
     (
@@ -215,7 +223,7 @@ static DECODERS: [(&str, DecoderRegisters, bool); 11] = [
             code: u32::MAX,
             span: u32::MAX,
             bits: u32::MAX,
-            has_ended: true,
+            has_ended: 1,
         },
         false,
     ),

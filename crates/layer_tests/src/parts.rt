@@ -62,13 +62,13 @@ impl Course {
         source: &mut S,
     ) -> Option<Result<(), Stop>> {
         let mut decoder = Decoder::from_registers(numbers.decoder)?;
-        let mut place = RowPlace::from_numbers(numbers.place);
+        let mut place = RowPlace::from_numbers(numbers.place)?;
         let Course {
             shape,
             kept,
             learned,
         } = self;
-        assert!(rt; window.width() == shape.width && kept.offset <= 127);
+        assert!(rt; window.width() == shape.width);
         assert!(rt; numbers.place.done < shape.width && source.failures() < 1_000_000);
         let answer = go_on_row(
             *shape,
@@ -99,7 +99,7 @@ fn numbers_of_a_place_by_hand(rt: HostRuntime) {
     window.turn();
     let second = course.go_on(&rt, &mut window, &mut numbers, &mut source);
     let place = RowPlaceNumbers {
-        is_begun: true,
+        is_begun: 1,
         done: 5,
         past_high: 0,
         past_low: 0b00110,
@@ -114,12 +114,26 @@ fn numbers_of_a_place_by_hand(rt: HostRuntime) {
 fn a_place_of_any_numbers(rt: HostRuntime) {
     for &(past_high, past_low) in &[(0, 1), (1, 0), (u64::MAX, 0), (0, u64::MAX), (u64::MAX, 7)] {
         let numbers = RowPlaceNumbers {
-            is_begun: past_low == 1,
+            is_begun: u8::from(past_low == 1),
             done: u32::MAX,
             past_high,
             past_low,
         };
-        assert!(rt; RowPlace::from_numbers(numbers).numbers() == numbers);
+        assert!(rt; has_numbers(numbers));
+        assert!(rt;
+            !has_numbers(RowPlaceNumbers {
+                is_begun: 2,
+                ..numbers
+            })
+        );
+    }
+}
+
+/// Whether a place has these numbers.
+fn has_numbers(numbers: RowPlaceNumbers) -> bool {
+    match RowPlace::from_numbers(numbers) {
+        Some(place) => place.numbers() == numbers,
+        None => false,
     }
 }
 

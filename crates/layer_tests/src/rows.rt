@@ -105,11 +105,12 @@ pub struct Course {
 }
 
 impl Course {
+    /// The state before the first row, with this offset, which is at most 127.
     pub fn new(shape: Shape, offset: u8) -> Course {
         Course {
             shape,
             kept: Kept {
-                offset,
+                offset: offset.min(127),
                 previous_typical: false,
             },
             learned: Learned::new(),
@@ -132,7 +133,7 @@ impl Course {
         } = self;
         window.turn();
         write_row(rt, window, row);
-        assert!(rt; window.width() == shape.width && shape.width >= 1 && kept.offset <= 127);
+        assert!(rt; window.width() == shape.width && shape.width >= 1);
         assert!(rt; encoder.events() < 0x1000_0000_0000 && out.failures() < 10);
         encode_row(*shape, kept, window, learned, encoder, out)
     }
@@ -150,7 +151,7 @@ impl Course {
             kept,
             learned,
         } = self;
-        assert!(rt; window.width() == shape.width && shape.width >= 1 && kept.offset <= 127);
+        assert!(rt; window.width() == shape.width && shape.width >= 1);
         assert!(rt; source.failures() < 10);
         decode_row(*shape, kept, window, learned, decoder, source)
     }
@@ -382,7 +383,7 @@ fn contexts_by_hand(rt: HostRuntime) -> Result<(), Fail> {
 fn chosen(rt: &impl Abort, tally: &mut Tally, window: &Window, offset: u8) -> Option<u8> {
     tally.restart();
     assert!(rt; window.width() == 8 && offset <= 127);
-    tally.add_row(window, 8, offset);
+    tally.add_row(window, offset);
     tally.choose(offset)
 }
 
@@ -429,7 +430,7 @@ fn choice(rt: &impl Abort, two_line: bool, most: u8, above: u8, row: u8, offset:
     write_row(rt, &mut window, &[row]);
     assert!(rt; most <= 127 && offset <= 127 && window.width() == 8);
     let mut tally = Tally::new(two_line, most);
-    tally.add_row(&window, 8, offset);
+    tally.add_row(&window, offset);
     tally.choose(offset)
 }
 

@@ -1,6 +1,7 @@
 -- Decoders with the same numbers are the same.
 use Rattle.std.proofs.Common.{◌≡◌, false, ◌+◌, ◌^◌, ◌-◌, ◌≤◌, ◌<◌, ◌%◌, refl, ap}
 use Rattle.std.specs.Coded.{le_prop}
+use Rattle.std.specs.Int.{from_bool}
 use Rattle.std.proofs.Props.{props}
 use mathlib.Core.HLevel.{is_prop→PathP}
 use Rattle.qm_core.specs.Source.{is_stopped, is_ended}
@@ -9,7 +10,7 @@ use Rattle.qm_core.specs.declared.source.Heard.{Heard}
 use Rattle.qm_core.specs.declared.source.Heard.TheVariants.{More, Ended, Stopped}
 use Rattle.qm_core.specs.declared.decoder.Decoder.{Decoder}
 
-same_heard : (g h : Heard) → is_stopped g ≡ false → is_stopped h ≡ false → is_ended g ≡ is_ended h → g ≡ h
+same_heard : (g h : Heard) → is_stopped g ≡ false → is_stopped h ≡ false → from_bool (is_ended g) ≡ from_bool (is_ended h) → g ≡ h
 same_heard More More s t e = refl
 same_heard More Ended s t e = cc
 same_heard More Stopped s t e = cc

@@ -1,5 +1,6 @@
 -- How the fields of a decoder relate to its place and to the bytes read.
 use Rattle.std.specs.Prelude.{ℕ, ◌≡◌, ◌≢◌, ◌≤◌, ◌↔◌, Bool, List, ◌++◌, length, replicate, Result, IfOk, OnOk, OnErr, IsErr, IsTrue, false}
+use Rattle.std.specs.Int.{from_bool}
 use Rattle.qm_core.specs.Counts.{one_more}
 use Rattle.qm_core.specs.Place.{Place, State, Estimate, step}
 use Rattle.qm_core.specs.Code.{IsBytes, Lies, wanted_bytes}
@@ -28,7 +29,7 @@ SkipsOrStays skipped d d' = (has_stopped d' ≡ has_stopped d) × (IsTrue skippe
 
 -- the numbers of a decoder
 abbrev pub decoder_registers : Decoder → DecoderRegisters
-decoder_registers d = record { code = d.code; span = d.span; bits = d.bits; has_ended = is_ended d.heard }
+decoder_registers d = record { code = d.code; span = d.span; bits = d.bits; has_ended = from_bool (is_ended d.heard) }
 
 -- the decoder is at the place, and its source has returned these answers
 pub record DecoderIsAt (d : Decoder) (p : Place) (answers : List Pulled) : Type 0 where

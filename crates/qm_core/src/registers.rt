@@ -1,6 +1,7 @@
 //! Coders between two pixels, as plain numbers.
 
 /// A decoder between two pixels, as numbers that anyone may store.
+#[repr(C)]
 #[derive(Clone, Copy, PartialEq, Eq, Debug)]
 pub struct DecoderRegisters {
     /// The distance of the code, a number from 0 up to 1, from the low end of the coding interval. The unit is 1 /
@@ -10,8 +11,8 @@ pub struct DecoderRegisters {
     pub span: u32,
     /// The number of bits read beyond the doublings: at most 23.
     pub bits: u32,
-    /// Whether the source has returned `End`.
-    pub has_ended: bool,
+    /// Whether the source has returned `End`: 0 or 1.
+    pub has_ended: u8,
 }
 
 /// An encoder between two pixels, as numbers that anyone may store.

@@ -1,5 +1,6 @@
 -- The effect of encoding or decoding a row.
 use Rattle.std.specs.Prelude.{ℕ, ◌≡◌, ◌/◌, ◌%◌, ◌^◌, List, ◌++◌, Result, OnOk, OnErr, ◌↔◌, Bool, true, false, [], ◌∷◌, length, replicate, ◌≤◌, IsErr, IsTrue, if◌then◌else◌}
+use Rattle.std.specs.Int.{from_bool}
 use Rattle.qm_core.specs.Place.{State, Event, Estimate, Place, IsPlace, after}
 use Rattle.qm_core.specs.Encoder.{EncoderState}
 use Rattle.qm_core.specs.Sink.{SinkAt}
@@ -148,7 +149,7 @@ pub record IsRowStart (place : RowPlace) : Type 0 where
 -- a position in a row as numbers
 abbrev pub row_place_numbers : RowPlace → RowPlaceNumbers
 row_place_numbers place = record {
-  is_begun = place.is_begun;
+  is_begun = from_bool place.is_begun;
   done = place.done;
   past_high = place.past / 2 ^ 64;
   past_low = place.past % 2 ^ 64;

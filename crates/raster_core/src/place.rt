@@ -1,6 +1,6 @@
 //! The position in a row at which decoding stopped for lack of code bytes.
 
-ghost use Rattle.std.specs.Prelude.{◌≡◌, ◌+◌, ◌*◌, ◌/◌, ◌%◌, ◌^◌, ◌<◌, List, Bool, false, true};
+ghost use Rattle.std.specs.Prelude.{◌≡◌, ◌+◌, ◌*◌, ◌/◌, ◌%◌, ◌^◌, ◌<◌, List, Bool, Some, IfSome, false, true};
 ghost use Rattle.raster_core.specs.Packed.{packed_row};
 ghost use Rattle.raster_core.specs.Machine.Registers.{before};
 
@@ -40,10 +40,11 @@ pub struct RowPlace {
 }
 
 /// How far a row is decoded, as numbers that anyone may store.
+#[repr(C)]
 #[derive(Clone, Copy, PartialEq, Eq, Debug)]
 pub struct RowPlaceNumbers {
-    /// Whether its pixels have begun: the pseudo-pixel before them is decoded.
-    pub is_begun: bool,
+    /// Whether its pixels have begun, 0 or 1: the pseudo-pixel before them is decoded.
+    pub is_begun: u8,
     /// The number of pixels decoded.
     pub done: u32,
     /// The last 128 pixels decoded, one bit each, the most recent in the least significant bit: the upper 64.
@@ -80,24 +81,28 @@ impl RowPlace {
         ensures { result ≡ row_place_numbers self.now }
     {
         RowPlaceNumbers {
-            is_begun: self.is_begun,
+            is_begun: u8::from(self.is_begun),
             done: self.done,
             past_high: (self.past >> 64) as u64,
             past_low: (self.past % 0x1_0000_0000_0000_0000) as u64,
         }
     }
 
-    /// The position that has these numbers. Any numbers are those of exactly one position.
-    pub fn from_numbers(numbers: RowPlaceNumbers) -> RowPlace
-        ensures same { (place : RowPlace) → numbers ≡ row_place_numbers place → result ≡ place }
-        ensures is { row_place_numbers result ≡ numbers }
+    /// The position that has these numbers, if there is one.
+    pub fn from_numbers(numbers: RowPlaceNumbers) -> Option<RowPlace>
+        ensures same { (place : RowPlace) → numbers ≡ row_place_numbers place →
+            result ≡ Some place }
+        ensures is { IfSome result (λ place. row_place_numbers place ≡ numbers) }
     {
+        if numbers.is_begun > 1 {
+            return None;
+        }
         let high = u128::from(numbers.past_high);
-        RowPlace {
-            is_begun: numbers.is_begun,
+        Some(RowPlace {
+            is_begun: numbers.is_begun == 1,
             done: numbers.done,
             past: high * 0x1_0000_0000_0000_0000 + u128::from(numbers.past_low),
-        }
+        })
     }
 
     /// The position after `done` pixels of a row; `past` contains the last of them.

@@ -1,5 +1,7 @@
 //! How rows are coded, and what is kept from row to row.
 
+ghost use Rattle.std.specs.Prelude.{◌≤◌};
+
 /// How the rows of an image are coded.
 #[derive(Clone, Copy)]
 pub struct Shape {
@@ -20,4 +22,5 @@ pub struct Kept {
     pub offset: u8,
     /// Whether the row before was typical.
     pub previous_typical: bool,
+    ghost low: { offset ≤ 127 },
 }

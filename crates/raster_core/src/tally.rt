@@ -70,17 +70,18 @@ impl Tally {
     /// Counts the current row of a window, typical or not, which was coded with the adaptive pixel at this offset.
     /// Between two restarts, width and offset must stay the same, and there must be fewer than 2^32 rows.
     #[inline(never)]
-    pub fn add_row(&mut self, window: &Window, width: u32, offset: u8)
-        requires width { width_of window.now ≡ width }
+    pub fn add_row(&mut self, window: &Window, offset: u8)
         requires offset { offset ≤ 127 }
         ensures counts { (rows : List Lines) (lines : Lines) → length rows < 2 ^ 32 - 1 →
-            CountsLines self.old width offset rows → HasLines (rows_held window.now) lines →
-            CountsLines self.new width offset (rows ++ lines ∷ []) }
+            CountsLines self.old (width_of window.now) offset rows →
+            HasLines (rows_held window.now) lines →
+            CountsLines self.new (width_of window.now) offset (rows ++ lines ∷ []) }
         ensures rows { row_count self.old < 2 ^ 32 - 1 → row_count self.new ≡
             row_count self.old + 1 }
         ensures two_line { is_two_line self.new ≡ is_two_line self.old }
         ensures most { most_of self.new ≡ most_of self.old }
     {
+        let width = window.width();
         let least = self.least_lag();
         let most = self.last_lag(width);
         let row = window.row(0);

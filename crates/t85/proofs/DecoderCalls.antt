@@ -1,7 +1,5 @@
 -- A decoder that a C caller holds.
-use Rattle.std.proofs.Common.{◌≡◌, ◌≤◌, ◌<◌, ◌⊎◌, inl, inr, ℕ, ◌==◌, Bool, false, List, [], ◌++◌, length, take, refl, sym, ap, subst, ◌∙◌, arith, append_assoc, length-take, take_all, true≢false}
-use Rattle.std.specs.Prelude.{◌/◌, ◌%◌, ◌^◌}
-use Rattle.std.proofs.lemmas.Bool.Decides.{nat_tests}
+use Rattle.std.proofs.Common.{◌≡◌, ◌≤◌, ◌<◌, ◌⊎◌, inl, inr, ℕ, Bool, List, None, ◌++◌, length, take, refl, sym, ap, subst, ◌∙◌, arith, append_assoc, length-take, take_all}
 use Rattle.std.proofs.lemmas.List.{take-append-le}
 use Rattle.qm_core.specs.Place.{Estimate}
 use Rattle.raster_core.specs.Packed.{Held, rows_at}
@@ -9,17 +7,18 @@ use Rattle.t85_core.specs.declared.header.Header.{Header}
 use Rattle.t85_core.specs.declared.pieces.Outcome.{Outcome}
 use Rattle.t85_core.specs.declared.pieces.Outcome.TheVariants as outcome
 use Rattle.t85_core.specs.declared.pieces.PieceDecoder.{PieceDecoder}
-use Rattle.t85_core.specs.Header.{Fields, HeaderOf, VLENGTH, is_variable}
+use Rattle.t85_core.specs.declared.pieces.numbers.PieceNumbers.{PieceNumbers}
+use Rattle.t85_core.specs.Header.{Fields, HeaderOf}
 use Rattle.t85_core.specs.Laws.{HeaderLaws}
-use Rattle.t85_core.specs.Height.{GivesHeight, IsHeight}
 use Rattle.t85_core.specs.Lent.{decoder_view}
-use Rattle.t85_core.specs.Numbers.{piece_numbers}
+use Rattle.t85_core.specs.Numbers.{ArePieceNumbers}
 use Rattle.t85_core.specs.Options.{fields_of}
-use Rattle.t85_core.specs.Pieces.{AreCertain, HasDecoded, IsLeastHeight}
+use Rattle.t85_core.specs.Outcomes.{end_in}
+use Rattle.t85_core.specs.Pieces.{AreCertain, IsLeastHeight}
 use Rattle.t85.specs.Decoded.{window_bytes}
-use Rattle.t85.specs.Decoder.{Answers, BytesCall, GivesRowAt, IsShort, LacksWindow, TellsCertain, bytes_of_call, bytes_call}
+use Rattle.t85.specs.Decoder.{Answers, BytesCall, DecoderIsNotBegun, GivesRowAt, HasNoDecoder, IsShort, LacksWindow, TellsCertain, bytes_of_call, bytes_call}
 use Rattle.t85.specs.DecoderLimit.{IsWithinLimit, StaysWithinLimit}
-use Rattle.t85.specs.DecoderState.{CountsRows, HasRead, Hold, InRows, hold_of, numbers_of_decoder}
+use Rattle.t85.specs.DecoderState.{CountsRows, HasRead, Hold, InRows, hold_of}
 use Rattle.t85.specs.DecoderSteps.{CountsOneMore, IsOfEngine, IsToldOf}
 use Rattle.t85.specs.declared.decoder.T85Decoder.{T85Decoder}
 use Rattle.t85.specs.declared.decoder.Report.{Report}
@@ -30,39 +29,12 @@ use Rattle.t85.proofs.DecoderRows.{KeepsRows, fed_as, rows_moved}
 
 -- ---- the certain rows, if the stream goes on
 
--- a header without VLENGTH fixes the height
-pub fixed_certain : HeaderLaws → (d : T85Decoder) (header : Header) → HeaderOf d.header (fields_of header) →
-    is_variable (fields_of header) ≡ false → TellsCertain d header.yd
-fixed_certain laws d header header_of fixed = λ window stream out k.
-    subst (λ h. IsLeastHeight h k.has.decoded header.yd) (laws.one d.header (fields_of header) (fields_of k.decoder.header) header_of k.header_of)
-    (least (fields_of header) k.has.decoded fixed)
-  where
-    never : (h : Fields) (body : List ℕ) (other : ℕ) → is_variable h ≡ false → GivesHeight h body other → ⊥
-    never h body other fixed gives = true≢false (sym gives.variable ∙ fixed)
-
-    exact : (h : Fields) (body : List ℕ) (height : ℕ) → is_variable h ≡ false → IsHeight h body height → h.yd ≤ height
-    exact h body height fixed (inl gives) = absurd (never h body height fixed gives)
-    exact h body height fixed (inr (same, none)) = omega (arith, same)
-
-    least : (h : Fields) (text : List ℕ) → is_variable h ≡ false → IsLeastHeight h text h.yd
-    least h text fixed = record {
-      below = λ rest height is. exact h (text ++ rest) height fixed is;
-      reached = ([], inr (refl, λ other. never h (text ++ []) other fixed));
-    }
-
-pub no_variable : (options : ℕ) → (options / 32 % 2 ≡ 1 → ⊥) → (options / 2 ^ VLENGTH % 2 == 1) ≡ false
-no_variable options clear = grind (arith, nat_tests)
-
--- those of a decoder that was rebuilt from its numbers
-pub resumed_certain : HeaderLaws → (d : T85Decoder) (header : Header) (e : PieceDecoder) (certain : ℕ) → HeaderOf d.header (fields_of header) → e.header ≡ header →
-    ((d' : PieceDecoder) (rows : Held) (learned : List Estimate) (text out : List ℕ) → HasDecoded (decoder_view d' rows learned) text out → fields_of d'.header ≡ fields_of header →
-    numbers_of_decoder d ≡ piece_numbers d' → HasDecoded (decoder_view e rows learned) text out) →
-    ((rows : Held) (learned : List Estimate) → AreCertain (decoder_view e rows learned) certain) → TellsCertain d certain
-resumed_certain laws d header e certain header_of header_is resumes is = λ window stream out k.
-    let same : fields_of k.decoder.header ≡ fields_of header = laws.one d.header (fields_of k.decoder.header) (fields_of header) k.header_of header_of in
-    subst (λ h. IsLeastHeight h k.has.decoded certain) (ap fields_of header_is ∙ sym same)
-    (is (rows_at d.place k.decoder.header.xd (take (window_bytes k.decoder.header.xd) window)) d.learned k.has.decoded out
-    (resumes k.decoder (rows_at d.place k.decoder.header.xd (take (window_bytes k.decoder.header.xd) window)) d.learned k.has.decoded out k.has.has same k.numbers_are))
+-- those of a decoder with the numbers of the struct
+pub decoder_certain : HeaderLaws → (d : T85Decoder) (header : Header) (e : PieceDecoder) (certain : ℕ) → HeaderOf d.header (fields_of header) → fields_of e.header ≡ fields_of header → ArePieceNumbers d.numbers e →
+    ((other : PieceDecoder) (numbers : PieceNumbers) (rows : Held) (learned : List Estimate) → fields_of other.header ≡ fields_of e.header → ArePieceNumbers numbers other → ArePieceNumbers numbers e → AreCertain (decoder_view other rows learned) certain) → TellsCertain d certain
+decoder_certain laws d header e certain header_of header_is numbers is = λ window stream out k.
+    is k.decoder d.numbers (rows_at d.place k.decoder.header.xd (take (window_bytes k.decoder.header.xd) window)) d.learned
+    (laws.one d.header (fields_of k.decoder.header) (fields_of header) k.header_of header_of ∙ sym header_is) k.numbers_are numbers k.has.decoded out k.has.has
 
 -- no greater number of rows is certain
 least_to : (h : Fields) (text : List ℕ) (rows certain limit : ℕ) → IsLeastHeight h text rows → IsLeastHeight h text certain → certain ≤ limit → rows ≤ limit
@@ -79,13 +51,50 @@ counted_within d d' certain c is to = λ window stream out k rows least.
     record { version = sym c.version; next = sym c.next; header = sym c.header; learned = sym c.learned; place = sym c.place; numbers = sym c.numbers; held = sym c.held } in
     least_to (fields_of k.decoder.header) k.has.decoded rows certain d'.max_rows least (is window stream out (rows_moved same k)) (rw c.limit to)
 
-pub told_within : (d d' : T85Decoder) (certain : ℕ) (outcome : Outcome) (what : Answer) → TellsCertain d certain → IsToldOf outcome d d' certain what → StaysWithinLimit what d'
-told_within d d' certain outcome.Row what is (inl counted) = subst (λ a. StaysWithinLimit a d') (sym counted.what_is) (counted_within d d' certain counted.counts is counted.certain_to)
+pub told_within : (d d' : T85Decoder) (certain : ℕ) (outcome : Outcome) (what : Answer) → (end_in outcome ≡ None → TellsCertain d certain) → IsToldOf outcome d d' certain what → StaysWithinLimit what d'
+told_within d d' certain outcome.Row what is (inl counted) = subst (λ a. StaysWithinLimit a d') (sym counted.what_is) (counted_within d d' certain counted.counts (is refl) counted.certain_to)
 told_within d d' certain outcome.Row what is (inr (over, why)) = subst (λ a. StaysWithinLimit a d') (sym over.what_is) tt
-told_within d d' certain outcome.More what is (inl asked) = subst (λ a. StaysWithinLimit a d') (sym asked.what_is) (asked_within d d' certain asked.same is asked.certain_to)
+told_within d d' certain outcome.More what is (inl asked) = subst (λ a. StaysWithinLimit a d') (sym asked.what_is) (asked_within d d' certain asked.same (is refl) asked.certain_to)
 told_within d d' certain outcome.More what is (inr (over, why)) = subst (λ a. StaysWithinLimit a d') (sym over.what_is) tt
 told_within d d' certain (outcome.Done height) what is (told, ended, high, counted, stored) = subst (λ a. StaysWithinLimit a d') (sym told) tt
 told_within d d' certain (outcome.Broken fault) what is (told, ended, high) = subst (λ a. StaysWithinLimit a d') (sym told) tt
+
+-- ---- a struct that no call leaves
+
+pub never_begun : (d : T85Decoder) (h : Fields) → d.version ≡ 2 → (d.next ≡ 1) ⊎ (d.next ≡ 2) → HeaderOf d.header h → (d.next ≡ 2 → HasNoDecoder d → ⊥) → DecoderIsNotBegun d → ⊥
+never_begun d h version next header some (inl other) = other version
+never_begun d h version next header some (inr (inl more)) = either next where
+  either : (d.next ≡ 1) ⊎ (d.next ≡ 2) → ⊥
+  either (inl e) = omega (arith, e, more)
+  either (inr e) = omega (arith, e, more)
+never_begun d h version next header some (inr (inr (inl (zero, full)))) = either next where
+  either : (d.next ≡ 1) ⊎ (d.next ≡ 2) → ⊥
+  either (inl e) = omega (arith, e, zero)
+  either (inr e) = omega (arith, e, zero)
+never_begun d h version next header some (inr (inr (inr (inl (rows, none))))) = none h header
+never_begun d h version next header some (inr (inr (inr (inr (rows, none))))) = some rows none
+
+-- a decoder was resumed
+pub one_resumed : (d : T85Decoder) (header : Header) (decoder : PieceDecoder) → d.place < 3 → HeaderOf d.header (fields_of header) → decoder.header ≡ header → ArePieceNumbers d.numbers decoder → HasNoDecoder d → ⊥
+one_resumed d header decoder place header_of same numbers (inl far) = omega (arith, place, far)
+one_resumed d header decoder place header_of same numbers (inr never) = never decoder (subst (λ h. HeaderOf d.header (fields_of h)) (sym same) header_of) numbers
+
+-- none was
+pub none_resumed : HeaderLaws → (hold : Hold) (header : Header) → HeaderOf hold.decoder.header (fields_of header) → ((decoder : PieceDecoder) → fields_of decoder.header ≡ fields_of header → ArePieceNumbers hold.decoder.numbers decoder → ⊥) →
+    {stream out : List ℕ} → InRows hold stream out → ⊥
+none_resumed laws hold header header_of all k = all k.decoder (laws.one hold.decoder.header (fields_of k.decoder.header) (fields_of header) k.header_of header_of) k.numbers_are
+
+pub rows_next : (n : ℕ) → (n ≡ 1) ⊎ (n ≡ 2) → (n ≡ 1 → ⊥) → n ≡ 2
+rows_next n (inl one) not = absurd (not one)
+rows_next n (inr two) not = two
+
+pub full_header : (d : T85Decoder) → d.version ≡ 2 → d.next ≡ 0 → DecoderIsNotBegun d → 20 ≤ d.header_len
+full_header d version next (inl other) = absurd (other version)
+full_header d version next (inr (inl more)) = omega (arith, next, more)
+full_header d version next (inr (inr (inl (zero, full)))) = full
+full_header d version next (inr (inr (inr (inl (inl e, none))))) = omega (arith, next, e)
+full_header d version next (inr (inr (inr (inl (inr e, none))))) = omega (arith, next, e)
+full_header d version next (inr (inr (inr (inr (e, none))))) = omega (arith, next, e)
 
 -- ---- nothing taken
 

@@ -1,17 +1,19 @@
 -- The header that a C caller's decoder reads.
-use Rattle.std.proofs.Common.{cond, ◌≡◌, ◌≤◌, ◌<◌, ◌+◌, inl, inr, ℕ, ◌==◌, Bool, true, false, not, List, [], ◌++◌, length, take, drop, None, Some, refl, sym, ap, subst, ◌∙◌, arith, append_assoc, append-nil, length-append, length-take, take_all, take-append-drop, true≢false}
-use Rattle.std.specs.Prelude.{◌||◌}
+use Rattle.std.proofs.Common.{cond, ◌≡◌, ◌≤◌, ◌<◌, ◌+◌, inl, inr, ℕ, ◌==◌, Bool, false, List, [], ◌++◌, length, take, drop, Option, None, Some, refl, sym, ap, subst, ◌∙◌, arith, append_assoc, append-nil, length-append, length-take, take_all, take-append-drop, true≢false}
+use Rattle.std.specs.Prelude.{◌||◌, ◌&&◌}
 use Rattle.std.proofs.lemmas.Bool.Decides.{nat_tests}
-use Rattle.std.specs.Int.{from_bool}
 use Rattle.t85_core.specs.declared.fault.Fault.{Fault}
 use Rattle.t85_core.specs.declared.fault.Fault.TheVariants.{ShortHeader}
 use Rattle.t85_core.specs.Header.{header_fault, is_variable}
 use Rattle.t85_core.specs.Laws.{HeaderLaws}
-use Rattle.t85_core.specs.Numbers.{stage_number}
+use Rattle.t85_core.specs.declared.pieces.PieceDecoder.{PieceDecoder}
+use Rattle.t85_core.specs.Numbers.{ArePieceNumbers, AreStageNumbers, IsCodeNext, IsHeadNext}
 use Rattle.t85_core.specs.Steps.PieceStands.{entities_behind}
-use Rattle.t85_core.specs.Stages.{Kind}
-use Rattle.t85_core.specs.Stages as stage
-use Rattle.t85.specs.Decoder.{Answers, BytesCall, ReadsHeader, bytes_call, stripes_ended_by}
+use Rattle.t85_core.specs.Stages.{code_kind, head_kind, stage_kind}
+use Rattle.t85_core.specs.declared.pieces.walk.Stage.{Stage}
+use Rattle.t85_core.specs.declared.pieces.walk.Stage.TheVariants as stage
+use Rattle.raster_core.specs.declared.place.RowPlace.{RowPlace}
+use Rattle.t85.specs.Decoder.{Answers, BytesCall, ReadsHeader, bytes_call, is_waiting, stripes_ended_by}
 use Rattle.t85.specs.DecoderLimit.{StaysWithinLimit}
 use Rattle.t85.specs.DecoderState.{BehindHeader, CountsRows, HasRead, Hold, InHeader, InRows, hold_of}
 use Rattle.t85.specs.DecoderSteps.{IsAwaited, IsFilled, IsJudged, IsOfEngine}
@@ -19,20 +21,27 @@ use Rattle.t85.specs.declared.decoder.T85Decoder.{T85Decoder}
 use Rattle.t85.specs.declared.decoder.Answer.{Answer}
 use Rattle.t85.specs.declared.decoder.Answer.TheVariants as answer
 
--- a byte that says whether something is so
-pub flag : (byte : ℕ) (b : Bool) → byte ≡ from_bool b → not (byte == 0) ≡ b
-flag byte true e = subst (λ n. not (n == 0) ≡ true) (sym e) refl
-flag byte false e = subst (λ n. not (n == 0) ≡ false) (sym e) refl
+-- whether a decoder waits, and the stripes that its numbers show as ended
+pub waiting_is : (d : T85Decoder) (e : PieceDecoder) → ArePieceNumbers d.numbers e → is_waiting d ≡ (e.is_open && e.waits)
+waiting_is d e is = λ i. is.open_is i && is.waits_is i
 
--- the stripes that a decoder's numbers show as ended
-pub ended_same : (s : Kind) (d : T85Decoder) (entities : ℕ) → d.stage ≡ stage_number s → d.entities ≡ entities → stripes_ended_by d ≡ entities_behind s entities
-ended_same s d entities stage_is entities_is = rw (stage_is, entities_is) (by s) where
-  by : (s : Kind) → cond {A = ℕ} ((stage_number s == 2) || (stage_number s == 3)) (entities + 1) entities ≡ entities_behind s entities
-  by stage.Head = refl
-  by stage.Comment = refl
-  by stage.Code = refl
-  by stage.Row = refl
-  by stage.Done = refl
+pub ended_same : (s : Stage) (d : T85Decoder) (entities : ℕ) → AreStageNumbers d.numbers.stage s → d.numbers.entities ≡ entities → stripes_ended_by d ≡ entities_behind (stage_kind s) entities
+ended_same s d entities is many = ap (λ n. cond {A = ℕ} ((d.numbers.stage.next == 2) || (d.numbers.stage.next == 3)) (n + 1) n) many ∙ by s is where
+  at : (n : ℕ) → d.numbers.stage.next ≡ n → cond {A = ℕ} ((d.numbers.stage.next == 2) || (d.numbers.stage.next == 3)) (entities + 1) entities ≡ cond {A = ℕ} ((n == 2) || (n == 3)) (entities + 1) entities
+  at n e = ap (λ m. cond {A = ℕ} ((m == 2) || (m == 3)) (entities + 1) entities) e
+
+  in_head : (comment : Option ℕ) → IsHeadNext d.numbers.stage comment → cond {A = ℕ} ((d.numbers.stage.next == 2) || (d.numbers.stage.next == 3)) (entities + 1) entities ≡ entities_behind (head_kind comment) entities
+  in_head None e = at 0 e
+  in_head (Some left) e = at 1 e.0
+
+  in_code : (begun : Option RowPlace) → IsCodeNext d.numbers.stage begun → cond {A = ℕ} ((d.numbers.stage.next == 2) || (d.numbers.stage.next == 3)) (entities + 1) entities ≡ entities_behind (code_kind begun) entities
+  in_code None e = at 2 e
+  in_code (Some place) e = at 3 e.0
+
+  by : (s : Stage) → AreStageNumbers d.numbers.stage s → cond {A = ℕ} ((d.numbers.stage.next == 2) || (d.numbers.stage.next == 3)) (entities + 1) entities ≡ entities_behind (stage_kind s) entities
+  by (stage.Head head) k = in_head head.comment k.1
+  by (stage.Code c) k = in_code c.begun k.next_is
+  by stage.Done k = at 4 k
 
 pub not_some : (fault : Fault) → None ≡ Some fault → ⊥
 not_some fault e = cc
@@ -74,7 +83,7 @@ short_fault : (bytes : List ℕ) → length bytes < 20 → header_fault bytes �
 short_fault bytes few = grind (arith, nat_tests)
 
 -- it has not come as a whole
-pub header_waits : {d mid new : T85Decoder} {bytes window : List ℕ} {count : ℕ} {is_all : Bool} (what : Answer) → d.version ≡ 1 → d.next ≡ 0 → IsFilled d mid bytes count → mid.header_len < 20 →
+pub header_waits : {d mid new : T85Decoder} {bytes window : List ℕ} {count : ℕ} {is_all : Bool} (what : Answer) → d.version ≡ 2 → d.next ≡ 0 → IsFilled d mid bytes count → mid.header_len < 20 →
     IsAwaited mid new is_all what → Answers (HasRead (hold_of d window)) (hold_of d window) (hold_of new window) (bytes_call bytes is_all count 0) what
 header_waits {d} {mid} {new} {bytes} {window} {count} answer.More version next fill few (all, same) = record {
   bound = omega (arith, fill.count_is);
@@ -136,7 +145,7 @@ module _ {d mid : T85Decoder} {bytes : List ℕ} {count : ℕ} (laws : HeaderLaw
     out_is : out ≡ []
     out_is = (in_header (hold_of d window) stream out next has).out_is
 
-    height_is : mid.height ≡ 0
+    height_is : mid.numbers.height ≡ 0
     height_is = fill.height_is ∙ (in_header (hold_of d window) stream out next has).height_is
 
     goes_on : (rest : List ℕ) → (stream ++ bytes) ++ rest ≡ mid.header ++ (drop count bytes ++ rest)

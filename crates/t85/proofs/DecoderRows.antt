@@ -1,5 +1,5 @@
 -- The rows of a decoder that a C caller holds.
-use Rattle.std.proofs.Common.{◌≡◌, ◌≤◌, ◌<◌, ◌+◌, ◌*◌, ◌⊎◌, inl, inr, ℕ, suc, Bool, List, [], ◌++◌, length, take, drop, Some, refl, sym, ap, ◌∙◌, arith, append-nil, take-append-drop}
+use Rattle.std.proofs.Common.{◌≡◌, ◌≤◌, ◌<◌, ◌+◌, ◌*◌, ◌⊎◌, inl, inr, ℕ, suc, Bool, List, [], ◌++◌, length, take, drop, Some, refl, sym, ap, subst, ◌∙◌, arith, append-nil, take-append-drop}
 use Rattle.std.proofs.lemmas.List.{length-drop, length-take-le}
 use Rattle.std.proofs.Math.Nat.{mul-le-mul_right, suc-mul}
 use Rattle.std.specs.Int.{div_ceil}
@@ -13,15 +13,15 @@ use Rattle.t85_core.specs.declared.pieces.Progress.{Progress}
 use Rattle.t85_core.specs.Header.{HeaderOf, header_fault}
 use Rattle.t85_core.specs.Laws.{HeaderLaws}
 use Rattle.t85_core.specs.Lent.{decoder_over, decoder_view}
-use Rattle.t85_core.specs.Numbers.{piece_numbers}
+use Rattle.t85_core.specs.Numbers.{ArePieceNumbers}
 use Rattle.t85_core.specs.Options.{fields_of}
 use Rattle.t85_core.specs.Feeds.{HasFed, IsFeed}
 use Rattle.t85_core.specs.Pieces.{HasDecoded}
 use Rattle.t85_core.specs.Pieces.{call_of as piece_call}
 use Rattle.t85.specs.Decoded.{window_bytes}
 use Rattle.t85.specs.Decoder.{IsShort, StandAt}
-use Rattle.t85.specs.DecoderState.{CountsRows, HasRead, Hold, InRows, bytes_held_by, hold_of, numbers_of_decoder}
-use Rattle.t85.specs.DecoderSteps.{CountsOneMore}
+use Rattle.t85.specs.DecoderState.{CountsRows, HasRead, Hold, InRows, bytes_held_by, hold_of}
+use Rattle.t85.specs.DecoderSteps.{ContinuesRows, CountsOneMore, IsResumed}
 use Rattle.t85.specs.declared.decoder.T85Decoder.{T85Decoder}
 use Rattle.t85.proofs.Windows.{IsOver, rows_whole, window_rows}
 use Rattle.t85.proofs.DecoderHeader.{behind_header, in_rows, not_some}
@@ -33,7 +33,7 @@ none_times w = grind arith
 
 -- a struct among the rows has the engine's decoder, and the memory is that of its window
 pub record IsStored (d : T85Decoder) (header : Header) (e : PieceDecoder) (window : Window) (learned : List Estimate) (memory : List ℕ) : Type 0 where
-  pub version_is : d.version ≡ 1
+  pub version_is : d.version ≡ 2
   pub next_is : d.next ≡ 2
   pub place_to : d.place < 3
   pub header_is : e.header ≡ header
@@ -41,7 +41,6 @@ pub record IsStored (d : T85Decoder) (header : Header) (e : PieceDecoder) (windo
   pub long : length memory ≡ window_bytes header.xd
   pub over : IsOver window d.place header.xd memory
   pub learned_is : d.learned ≡ learned
-  pub numbers_are : numbers_of_decoder d ≡ piece_numbers e
 
 -- a decoder with the same rows, contexts and output by other names
 pub decoded_as : {rows rows' : Held} {learned learned' : List Estimate} {text out out' : List ℕ} (e : PieceDecoder) → rows' ≡ rows → learned' ≡ learned → out' ≡ out →
@@ -51,26 +50,36 @@ decoded_as e at taught same has = rw (at, taught, same) has
 -- they begin behind the header
 pub rows_entered : {old new : T85Decoder} {memory memory' : List ℕ} {header : Header} {e : PieceDecoder} {window : Window} {learned : List Estimate} {stream out : List ℕ} → old.next ≡ 1 →
     IsStored new header e window learned memory' → new.header ≡ old.header → HasDecoded (decoder_over e window learned) [] [] → bytes_held_by new ≡ [] → new.given ≡ 0 →
-    HasRead (hold_of old memory) stream out → CountsRows (hold_of new memory') stream out
-rows_entered {old} {new} {memory} {memory'} {e = e} {stream = stream} {out} next s head has held_is none read =
+    HasRead (hold_of old memory) stream out → ContinuesRows header e (hold_of new memory') stream out
+rows_entered {old} {new} {memory} {memory'} {header} {e} {stream = stream} {out} next s head has held_is none read =
     let was = behind_header (hold_of old memory) stream out next read in
     record {
-      count_is = ap length was.out_is ∙ sym (ap (λ n. n * div_ceil e.header.xd 8) none ∙ none_times (div_ceil e.header.xd 8));
-      rows = record {
-        version_is = s.version_is;
-        next_is = s.next_is;
-        place_to = s.place_to;
-        decoder = e;
-        header_of = rw s.header_is s.header_of;
-        numbers_are = s.numbers_are;
-        text = [];
-        stream_is = was.stream_is ∙ sym head ∙ sym (append-nil new.header);
-        has = record {
-          decoded = [];
-          text_is = sym held_is;
-          has = decoded_as e (rows_whole new.place memory' (sym (ap (λ h. h.xd) s.header_is)) s.long ∙ sym (window_rows s.over)) s.learned_is was.out_is has;
-        };
+      count_is = ap length was.out_is ∙ sym (ap (λ n. n * div_ceil header.xd 8) none ∙ none_times (div_ceil header.xd 8));
+      text = [];
+      stream_is = was.stream_is ∙ sym head ∙ sym (append-nil new.header);
+      has = record {
+        decoded = [];
+        text_is = sym held_is;
+        has = decoded_as e (sym (window_rows s.over)) s.learned_is was.out_is has;
       };
+    }
+
+-- they go on with a decoder that was resumed
+pub rows_resumed : {d : T85Decoder} {memory : List ℕ} {header : Header} {e : PieceDecoder} → HeaderLaws → HeaderOf d.header (fields_of header) → length memory ≡ window_bytes header.xd → IsResumed header e d →
+    (stream out : List ℕ) → CountsRows (hold_of d memory) stream out → ContinuesRows header e (hold_of d memory) stream out
+rows_resumed {d} {memory} {header} {e} laws header_of long resumes stream out k =
+    let same = laws.one d.header (fields_of k.rows.decoder.header) (fields_of header) k.rows.header_of header_of in
+    let wide : k.rows.decoder.header.xd ≡ header.xd = ap (λ f. f.xd) same in
+    record {
+      text = k.rows.text;
+      stream_is = k.rows.stream_is;
+      has = record {
+        decoded = k.rows.has.decoded;
+        text_is = k.rows.has.text_is;
+        has = resumes k.rows.decoder (rows_at d.place header.xd memory) d.learned k.rows.has.decoded out
+            (decoded_as k.rows.decoder (sym (rows_whole d.place memory (sym wide) long)) refl refl k.rows.has.has) same k.rows.numbers_are;
+      };
+      count_is = rw wide at k.count_is;
     }
 
 -- a call with windows by other names
@@ -129,7 +138,7 @@ pub record KeepsRows (d d' : T85Decoder) : Type 0 where
   pub header : d'.header ≡ d.header
   pub learned : d'.learned ≡ d.learned
   pub place : d'.place ≡ d.place
-  pub numbers : numbers_of_decoder d' ≡ numbers_of_decoder d
+  pub numbers : d'.numbers ≡ d.numbers
   pub held : bytes_held_by d' ≡ bytes_held_by d
 
 pub one_moved : {d d' : T85Decoder} → CountsOneMore d d' → KeepsRows d d'
@@ -142,7 +151,7 @@ rows_moved {d} {d'} {memory} same k = record {
   place_to = rw same.place k.place_to;
   decoder = k.decoder;
   header_of = rw same.header k.header_of;
-  numbers_are = same.numbers ∙ k.numbers_are;
+  numbers_are = subst (λ n. ArePieceNumbers n k.decoder) (sym same.numbers) k.numbers_are;
   text = k.text;
   stream_is = k.stream_is ∙ ap (λ h. h ++ k.text) (sym same.header);
   has = record {

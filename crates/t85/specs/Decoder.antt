@@ -9,6 +9,8 @@ use Rattle.t85_core.specs.Options.{fields_of}
 use Rattle.t85_core.specs.Pieces.{AwaitsHeight, HandsOut, HoldsImage, IsLeastHeight, MayFollow, is_last_piece}
 use Rattle.t85_core.specs.Consumed.{ConsumesImage}
 use Rattle.t85_core.specs.declared.pieces.More.{More}
+use Rattle.t85_core.specs.declared.pieces.PieceDecoder.{PieceDecoder}
+use Rattle.t85_core.specs.Numbers.{ArePieceNumbers}
 use Rattle.t85.specs.Decoded.{window_bytes}
 use Rattle.t85.specs.declared.decoder.T85Decoder.{T85Decoder}
 use Rattle.t85.specs.declared.decoder.Answer.{Answer}
@@ -37,11 +39,11 @@ bytes_of_call call = take call.taken call.bytes
 
 -- whether the decoder needs the bytes behind an end marker, or a height before the first stripe
 abbrev pub is_waiting : T85Decoder → Bool
-is_waiting d = not (d.is_open == 0) && not (d.waits == 0)
+is_waiting d = not (d.numbers.is_open == 0) && not (d.numbers.waits == 0)
 
 -- the stream has ended, with this status
 pub record HasEnded (d : T85Decoder) (status : ℕ) : Type 0 where
-  pub version_is : d.version ≡ 1
+  pub version_is : d.version ≡ 2
   pub next_is : d.next ≡ 3
   pub status_is : d.status ≡ status
 
@@ -91,7 +93,7 @@ pub record ConsumesStream (d : T85Decoder) (stream whole : List ℕ) : Type 0 wh
   pub header_of : HeaderOf stream header
   pub consumed : List ℕ
   pub stream_is : drop 20 stream ≡ consumed ++ bytes_held_by d
-  pub image : ConsumesImage header (is_waiting d) d.height consumed (drop 20 whole)
+  pub image : ConsumesImage header (is_waiting d) d.numbers.height consumed (drop 20 whole)
 
 -- a window is shorter than three rows of a stream
 pub record IsShort (window stream : List ℕ) : Type 0 where
@@ -112,12 +114,12 @@ status_told (answer.Ended status) = status
 
 -- the number of stripes whose end marker a waiting decoder has read
 abbrev pub stripes_ended_by : T85Decoder → ℕ
-stripes_ended_by d = if (d.stage == 2) || (d.stage == 3) then d.entities + 1 else d.entities
+stripes_ended_by d = if (d.numbers.stage.next == 2) || (d.numbers.stage.next == 3) then d.numbers.entities + 1 else d.numbers.entities
 
 -- All rows that these bytes determine were returned; or, behind an end marker, all that the bytes before the marker determine.
 abbrev pub ReturnedAllRows : T85Decoder → List ℕ → List ℕ → Type 0
 ReturnedAllRows d stream out =
-    (is_waiting d ≡ false → BreaksBehindHeader stream d.height Truncated out) × (is_waiting d ≡ true → AwaitsBehindHeader stream (stripes_ended_by d) out)
+    (is_waiting d ≡ false → BreaksBehindHeader stream d.numbers.height Truncated out) × (is_waiting d ≡ true → AwaitsBehindHeader stream (stripes_ended_by d) out)
 
 -- The stream is rejected in place of a request for bytes: all bytes of the call were consumed and are not the last ones, and the
 -- rows that they determine were returned. More rows than the limit are certain.
@@ -128,13 +130,13 @@ pub record ReplacesMore (d : T85Decoder) (call : BytesCall) (stream out : List �
   pub not_last : call.is_all ≡ true → ⊥
   pub fixed : ReturnedAllRows hold.decoder (stream ++ call.bytes) out
   pub why : IsCertainOfMore has d.max_rows
-  pub height_is : d.height ≡ hold.decoder.height
+  pub height_is : d.numbers.height ≡ hold.decoder.numbers.height
 
 -- Why a call rejects the stream for its limit: with its header, or in place of a row or a request for bytes, and so never in place
 -- of an error of the stream.
 abbrev pub IsAboveLimit : T85Decoder → BytesCall → List ℕ → List ℕ → Type 0
 IsAboveLimit d call stream out =
-    (AnnouncesMore (stream ++ bytes_of_call call) d.max_rows × (d.height ≡ 0)) ⊎ ReplacesRow d (stream ++ bytes_of_call call) out ⊎ ReplacesMore d call stream out
+    (AnnouncesMore (stream ++ bytes_of_call call) d.max_rows × (d.numbers.height ≡ 0)) ⊎ ReplacesRow d (stream ++ bytes_of_call call) out ⊎ ReplacesMore d call stream out
 
 -- The meaning of a result, where `Has` holds for each stream that the decoder may have consumed, and the rows that it returned.
 abbrev pub TellsAnswer : (Has : List ℕ → List ℕ → Type 0) → Hold → Hold → BytesCall → Answer → Type 0
@@ -144,12 +146,12 @@ TellsAnswer Has old new call answer.More =
     (call.taken ≡ length call.bytes) × ((stream out : List ℕ) → Has stream out → HasRead new (stream ++ bytes_of_call call) out) × (call.is_all ≡ true → ⊥)
     × (new.decoder.next ≡ 2 → (stream out : List ℕ) → Has stream out → ReturnedAllRows new.decoder (stream ++ call.bytes) out)
 TellsAnswer Has old new call answer.Done =
-    HasEnded new.decoder 0 × ((stream out rest : List ℕ) → Has stream out → MayFollow call.is_all rest → IsImageOf ((stream ++ call.bytes) ++ rest) new.decoder.height out)
+    HasEnded new.decoder 0 × ((stream out rest : List ℕ) → Has stream out → MayFollow call.is_all rest → IsImageOf ((stream ++ call.bytes) ++ rest) new.decoder.numbers.height out)
     -- only bytes of earlier calls are stored, and then none of this call was consumed
     × ((bytes_held_by new.decoder ≡ []) ⊎ (call.taken ≡ 0))
     × ((stream out rest : List ℕ) → Has stream out → MayFollow call.is_all rest → ConsumesStream new.decoder (stream ++ bytes_of_call call) ((stream ++ call.bytes) ++ rest))
 TellsAnswer Has old new call (answer.Broken fault) =
-    HasEnded new.decoder (fault_number fault) × ((stream out rest : List ℕ) → Has stream out → MayFollow call.is_all rest → IsBrokenStream ((stream ++ call.bytes) ++ rest) new.decoder.height fault out)
+    HasEnded new.decoder (fault_number fault) × ((stream out rest : List ℕ) → Has stream out → MayFollow call.is_all rest → IsBrokenStream ((stream ++ call.bytes) ++ rest) new.decoder.numbers.height fault out)
 TellsAnswer Has old new call answer.TooManyRows = HasEnded new.decoder 24 × ((stream out : List ℕ) → Has stream out → IsAboveLimit new.decoder call stream out)
 TellsAnswer Has old new call answer.ShortWindow = KeepsHold old new call × ((stream out : List ℕ) → Has stream out → IsShort old.window stream)
 TellsAnswer Has old new call answer.NotBegun = KeepsHold old new call × ((stream out : List ℕ) → Has stream out → ⊥)
@@ -160,9 +162,16 @@ pub record Answers (Has : List ℕ → List ℕ → Type 0) (old new : Hold) (ca
   pub bound : call.taken ≤ length call.bytes
   pub tells : TellsAnswer Has old new call what
 
--- the struct was not initialized, as its first numbers show
+-- no decoder of the engine has the header and the numbers of the struct, or its rows have no place in the window
+abbrev pub HasNoDecoder : T85Decoder → Type 0
+HasNoDecoder d = (2 < d.place) ⊎ ((decoder : PieceDecoder) → HeaderOf d.header (fields_of decoder.header) → ArePieceNumbers d.numbers decoder → ⊥)
+
+-- No call leaves this struct: its version or its next event is unknown, its header is complete before it was read, or rejected, or its
+-- numbers are those of no decoder.
 abbrev pub DecoderIsNotBegun : T85Decoder → Type 0
-DecoderIsNotBegun d = (d.version ≢ 1) ⊎ (3 < d.next)
+DecoderIsNotBegun d =
+    (d.version ≢ 2) ⊎ (3 < d.next) ⊎ ((d.next ≡ 0) × (20 ≤ d.header_len)) ⊎ (((d.next ≡ 1) ⊎ (d.next ≡ 2)) × ((header : Fields) → HeaderOf d.header header → ⊥))
+    ⊎ ((d.next ≡ 2) × HasNoDecoder d)
 
 -- The window is too short for the next rows.
 pub record LacksWindow (old : Hold) : Type 0 where
@@ -189,7 +198,7 @@ pub record IsAnswered (old new : Hold) (call : BytesCall) (status : ℕ) : Type 
   pub status_is : status ≡ status_told what
   pub answers : Answers (HasRead old) old new call what
   pub not_begun : DecoderIsNotBegun old.decoder → what ≡ answer.NotBegun
-  pub ended : old.decoder.version ≡ 1 → old.decoder.next ≡ 3 → what ≡ answer.Ended old.decoder.status
+  pub ended : old.decoder.version ≡ 2 → old.decoder.next ≡ 3 → what ≡ answer.Ended old.decoder.status
   -- the caller's limit is unchanged
   pub limit : new.decoder.max_rows ≡ old.decoder.max_rows
   -- the header is reported by the call with its last byte, and by no other

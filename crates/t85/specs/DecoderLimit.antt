@@ -30,7 +30,7 @@ pub record ReplacesRow (d : T85Decoder) (stream out : List ℕ) : Type 0 where
   pub has : InRows hold stream (out ++ row)
   pub whole : length row ≡ div_ceil has.decoder.header.xd 8
   pub why : IsCertainOfMore has d.max_rows ⊎ (d.max_rows * div_ceil has.decoder.header.xd 8 ≤ length out)
-  pub height_is : d.height ≡ hold.decoder.height
+  pub height_is : d.numbers.height ≡ hold.decoder.numbers.height
 
 -- no more rows than the limit are certain
 abbrev pub IsWithinLimit : T85Decoder → Type 0

@@ -42,7 +42,7 @@ pub record TakesEntity (old new : T85Decoder) (call : RestCall) : Type 0 where
   pub answer_is : call.answer ≡ 0
   pub has : HasEntity call.bytes call.taken
   pub ended : HasEnded new 0
-  pub height : new.height ≡ old.height
+  pub height : new.numbers.height ≡ old.numbers.height
   pub no_more : ends_late new ≡ false
 
 -- More bytes are needed.
@@ -52,7 +52,7 @@ pub record AwaitsEntity (old new : T85Decoder) (call : RestCall) : Type 0 where
 
 -- the effect of `t85_decode_rest`
 pub record RestTaken (old new : T85Decoder) (call : RestCall) : Type 0 where
-  pub not_ended : (old.version ≢ 1) ⊎ (old.next ≢ 3) → KeepsRestAs 53 old new call
+  pub not_ended : (old.version ≢ 2) ⊎ (old.next ≢ 3) → KeepsRestAs 53 old new call
   pub broken : (status : ℕ) → HasEnded old status → status ≢ 0 → KeepsRestAs status old new call
   pub plain : HasEnded old 0 → ends_late old ≡ false → KeepsRestAs 0 old new call
   pub late : HasEnded old 0 → ends_late old ≡ true → TakesEntity old new call ⊎ AwaitsEntity old new call

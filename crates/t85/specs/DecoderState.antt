@@ -3,38 +3,13 @@ use Rattle.std.specs.Prelude.{ℕ, ◌*◌, ◌≡◌, ◌≤◌, ◌<◌, ◌�
 use Rattle.std.specs.Int.{div_ceil}
 use Rattle.raster_core.specs.Packed.{rows_at}
 use Rattle.t85_core.specs.declared.pieces.PieceDecoder.{PieceDecoder}
-use Rattle.t85_core.specs.declared.pieces.numbers.PieceNumbers.{PieceNumbers}
 use Rattle.t85_core.specs.Header.{Fields, HeaderOf, is_variable}
 use Rattle.t85_core.specs.Lent.{decoder_view}
-use Rattle.t85_core.specs.Numbers.{piece_numbers}
+use Rattle.t85_core.specs.Numbers.{ArePieceNumbers}
 use Rattle.t85_core.specs.Options.{fields_of}
 use Rattle.t85_core.specs.Feeds.{HasFed}
 use Rattle.t85.specs.Decoded.{window_bytes}
 use Rattle.t85.specs.declared.decoder.T85Decoder.{T85Decoder}
-
--- the numbers of the engine's decoder in the struct
-abbrev pub numbers_of_decoder : T85Decoder → PieceNumbers
-numbers_of_decoder d = record {
-  height = d.height;
-  is_open = not (d.is_open == 0);
-  waits = not (d.waits == 0);
-  move_behind = record { is_there = not (d.has_move_behind == 0); row = d.move_behind_row; offset = d.move_behind_offset };
-  has_comment_behind = not (d.has_comment_behind == 0);
-  comment_behind = d.comment_behind;
-  stage = d.stage;
-  entities = d.entities;
-  left = d.left;
-  is_given = not (d.is_given == 0);
-  move_here = record { is_there = not (d.has_move == 0); row = d.move_row; offset = d.move_offset };
-  comment = d.comment;
-  row = d.row;
-  place = record { is_begun = not (d.is_begun == 0); done = d.done; past_high = d.past_high; past_low = d.past_low };
-  ahead = d.ahead;
-  marker = d.marker;
-  offset = d.offset;
-  is_previous_typical = not (d.is_previous_typical == 0);
-  decoder = record { code = d.code; span = d.span; bits = d.bits; has_ended = not (d.has_ended == 0) };
-}
 
 -- the bytes that were consumed and are not decoded yet
 abbrev pub bytes_held_by : T85Decoder → List ℕ
@@ -42,7 +17,7 @@ bytes_held_by d = take d.held_len d.held
 
 -- the reported height
 abbrev pub height_of_decoder : T85Decoder → ℕ
-height_of_decoder d = if not (d.version == 1) || (d.next == 0) then 0 else d.height
+height_of_decoder d = if not (d.version == 2) || (d.next == 0) then 0 else d.numbers.height
 
 -- the state between two calls: the struct, and the bytes of the window
 pub record Hold : Type 0 where
@@ -56,32 +31,32 @@ hold_of decoder window = record { decoder = decoder; window = window }
 
 -- in the header
 pub record InHeader (d : T85Decoder) (stream out : List ℕ) : Type 0 where
-  pub version_is : d.version ≡ 1
+  pub version_is : d.version ≡ 2
   pub next_is : d.next ≡ 0
   pub few : d.header_len < 20
-  pub height_is : d.height ≡ 0
+  pub height_is : d.numbers.height ≡ 0
   pub stream_is : stream ≡ take d.header_len d.header
   pub out_is : out ≡ []
 
 -- behind the header, which without VLENGTH announces no more rows than the limit
 pub record BehindHeader (d : T85Decoder) (stream out : List ℕ) : Type 0 where
-  pub version_is : d.version ≡ 1
+  pub version_is : d.version ≡ 2
   pub next_is : d.next ≡ 1
   pub header : Fields
   pub header_of : HeaderOf d.header header
   pub within : is_variable header ≡ false → header.yd ≤ d.max_rows
-  pub height_is : d.height ≡ header.yd
+  pub height_is : d.numbers.height ≡ header.yd
   pub stream_is : stream ≡ d.header
   pub out_is : out ≡ []
 
 -- among the rows: the struct contains the numbers of a decoder that has decoded these bytes except the last ones
 pub record InRows (hold : Hold) (stream out : List ℕ) : Type 0 where
-  pub version_is : hold.decoder.version ≡ 1
+  pub version_is : hold.decoder.version ≡ 2
   pub next_is : hold.decoder.next ≡ 2
   pub place_to : hold.decoder.place < 3
   pub decoder : PieceDecoder
   pub header_of : HeaderOf hold.decoder.header (fields_of decoder.header)
-  pub numbers_are : numbers_of_decoder hold.decoder ≡ piece_numbers decoder
+  pub numbers_are : ArePieceNumbers hold.decoder.numbers decoder
   pub text : List ℕ
   pub stream_is : stream ≡ hold.decoder.header ++ text
   pub has : HasFed (decoder_view decoder (rows_at hold.decoder.place decoder.header.xd (take (window_bytes decoder.header.xd) hold.window)) hold.decoder.learned) (bytes_held_by hold.decoder) text out

@@ -15,10 +15,10 @@ mod stored;
 
 use crate::status::OTHER_VERSION;
 use qm_core::Learned;
-use t85_core::{Fault, More};
+use t85_core::{Fault, More, PieceNumbers};
 
 /// The version of `T85Decoder`, and its size in bytes.
-const VERSION: u32 = 1;
+const VERSION: u32 = 2;
 
 const SIZE: usize = 1280;
 /// The number of bytes in a header.
@@ -44,47 +44,19 @@ pub struct T85Decoder {
     /// The number of rows returned.
     pub given: u32,
     pub header: [u8; 20],
-    // The fields of `PieceNumbers`. A flag is true if it is not 0.
-    pub height: u32,
-    pub move_behind_row: u32,
-    pub comment_behind: u32,
-    pub entities: u32,
-    pub left: u32,
-    pub move_row: u32,
-    pub comment: u32,
-    pub row: u32,
-    pub done: u32,
-    pub code: u32,
-    pub span: u32,
-    pub bits: u32,
-    pub ahead: u16,
+    /// The engine's decoder, except for its height before the first row.
+    pub numbers: PieceNumbers,
     /// How the stream has ended, if it has.
     pub status: u8,
     /// The place of the last row in the window: 0, 1 or 2.
     pub place: u8,
     /// The number of header bytes received.
     pub header_len: u8,
-    pub is_open: u8,
-    pub waits: u8,
-    pub has_move_behind: u8,
-    pub move_behind_offset: u8,
-    pub has_comment_behind: u8,
-    pub stage: u8,
-    pub is_given: u8,
-    pub has_move: u8,
-    pub move_offset: u8,
-    pub is_begun: u8,
-    pub marker: u8,
-    pub offset: u8,
-    pub is_previous_typical: u8,
-    pub has_ended: u8,
-    pub spare_byte: u8,
-    pub past_high: u64,
-    pub past_low: u64,
     // The fields of `HeldBytes`.
-    pub held: [u8; 7],
     pub held_len: u8,
-    pub reserved: [u64; 16],
+    pub held: [u8; 7],
+    pub spare: [u8; 5],
+    pub reserved: [u64; 12],
     pub learned: Learned,
 }
 
@@ -100,7 +72,7 @@ pub enum Answer {
     TooManyRows,
     /// The window is shorter than three rows.
     ShortWindow,
-    /// The struct was not initialized, or has another version.
+    /// The struct was not initialized, has another version, or has numbers that no call leaves.
     NotBegun,
     /// The stream had already ended, with this status.
     Ended(u8),
@@ -133,8 +105,8 @@ pub extern "C" fn t85_decode_start(decoder: &mut T85Decoder, size: usize, max_ro
 /// bytes were consumed; 0 if the image is complete; 1 to 15 for an error in the stream; 24 if the image has more rows
 /// than the limit. Without VLENGTH, 24 is returned with the header. With it, 24 is returned in place of 61 or 62, once
 /// more rows than the limit are certain, or the bytes determine one more row than the limit. Returns 19 if the window is
-/// shorter than `t85_window_bytes` of the width, and 53 if the struct was not initialized; then nothing is consumed or
-/// changed. After the end it returns the same status again.
+/// shorter than `t85_window_bytes` of the width, and 53 if the struct was not initialized, or no decoder has its numbers;
+/// then nothing is consumed or changed. After the end it returns the same status again.
 ///
 /// `taken` is the number of bytes consumed. Before the header has been read, the window may be empty.
 #[unsafe(no_mangle)]
@@ -176,25 +148,27 @@ pub extern "C" fn t85_decode_height(decoder: &T85Decoder) -> u32
     if decoder.version != VERSION || decoder.next == HEADER {
         0
     } else {
-        decoder.height
+        decoder.numbers.height
     }
 }
 
 /// Returns how many of the first rows belong to the image, whatever bytes follow: no height that arrives later is below
-/// this. It is 0 before the first call for rows, and the height after the end.
+/// this. It is 0 before the first call for rows, the height after the end, and 0 if no decoder has the struct's numbers.
 #[unsafe(no_mangle)]
 pub extern "C" fn t85_decode_certain(decoder: &T85Decoder) -> u32
     ensures among { TellsCertain decoder.now result }
-    ensures ended { decoder.now.version ≡ 1 → decoder.now.next ≡ 3 → result ≡ decoder.now.height }
+    ensures ended { decoder.now.version ≡ 2 → decoder.now.next ≡ 3 →
+        result ≡ decoder.now.numbers.height }
     ensures before { decoder.now.next < 2 → result ≡ 0 }
+    ensures not_begun { DecoderIsNotBegun decoder.now → result ≡ 0 }
 {
-    if decoder.version != VERSION || decoder.next < ROWS {
+    if decoder.version != VERSION {
         return 0;
     }
-    if decoder.next == ROWS {
-        decoder.certain()
-    } else {
-        decoder.height
+    match decoder.next {
+        ROWS => decoder.certain(),
+        ENDED => decoder.numbers.height,
+        _ => 0,
     }
 }
 
@@ -235,7 +209,7 @@ impl T85Decoder {
             (hold_of self.old window.old) (hold_of self.new window.new)
             (more_call bytes.now more result.taken result.row) result.answer }
         ensures not_begun { DecoderIsNotBegun self.old → result.answer ≡ answer.NotBegun }
-        ensures ended { self.old.version ≡ 1 → self.old.next ≡ 3 →
+        ensures ended { self.old.version ≡ 2 → self.old.next ≡ 3 →
             result.answer ≡ answer.Ended self.old.status }
         ensures limit { self.new.max_rows ≡ self.old.max_rows }
         ensures within { StaysWithinLimit result.answer self.new }

@@ -1,24 +1,25 @@
 -- A decoder in pieces, as plain numbers.
-use Rattle.std.specs.Prelude.{ℕ, ◌+◌, ◌≡◌, Bool, true, false, Option, Some, None, is_some}
-use Rattle.std.specs.Option.{unwrap_or}
+use Rattle.std.specs.Prelude.{ℕ, ◌+◌, ◌≡◌, ◌==◌, not, Bool, true, false, Option, Some, None}
 use Rattle.qm_core.specs.Decoder.{decoder_registers, has_stopped}
 use Rattle.raster_core.specs.Row.{row_place_numbers}
+use Rattle.raster_core.specs.declared.place.RowPlace.{RowPlace}
 use Rattle.t85_core.specs.declared.pieces.PieceDecoder.{PieceDecoder}
+use Rattle.t85_core.specs.declared.pieces.code.InCode.{InCode}
+use Rattle.t85_core.specs.declared.pieces.head.Head.{Head}
+use Rattle.t85_core.specs.declared.pieces.numbers.HeadNumbers.{HeadNumbers}
 use Rattle.t85_core.specs.declared.pieces.numbers.MoveNumbers.{MoveNumbers}
 use Rattle.t85_core.specs.declared.pieces.numbers.PieceNumbers.{PieceNumbers}
+use Rattle.t85_core.specs.declared.pieces.numbers.StageNumbers.{StageNumbers}
+use Rattle.t85_core.specs.declared.pieces.walk.Stage.{Stage}
+use Rattle.t85_core.specs.declared.pieces.walk.Stage.TheVariants as stage
 use Rattle.t85_core.specs.declared.pieces.walk.Walk.{Walk}
-use Rattle.t85_core.specs.Stages.{Kind, stage_kind, stage_move, stage_comment, stage_row, stage_place, stage_first, stage_marker}
-use Rattle.t85_core.specs.Stages as stage
 use Rattle.t85_core.specs.declared.segments.Code.{Code}
 use Rattle.t85_core.specs.declared.segments.Code.TheVariants as code
-use Rattle.t85_core.specs.declared.segments.Move.{Move}
+use Rattle.t85_core.specs.declared.segments.atmove.Move.{Move}
 
-abbrev pub stage_number : Kind → ℕ
-stage_number stage.Head = 0
-stage_number stage.Comment = 1
-stage_number stage.Code = 2
-stage_number stage.Row = 3
-stage_number stage.Done = 4
+-- whether a flag is set
+abbrev pub is_set : ℕ → Bool
+is_set byte = not (byte == 0)
 
 -- the number of an end marker, by whether it resets
 abbrev pub reset_number : Bool → ℕ
@@ -35,33 +36,57 @@ code_number None = 0
 code_number (Some (code.Marker reset)) = reset_number reset
 code_number (Some (code.Byte b)) = 256 + b
 
-abbrev pub move_numbers : Option Move → MoveNumbers
-move_numbers None = record { is_there = false; row = 0; offset = 0 }
-move_numbers (Some to) = record { is_there = true; row = to.row; offset = to.offset }
+-- These are the numbers of a move, or of none.
+abbrev pub AreMoveNumbers : MoveNumbers → Option Move → Type 0
+AreMoveNumbers n None = is_set n.is_there ≡ false
+AreMoveNumbers n (Some to) = (is_set n.is_there ≡ true) × (n.row ≡ to.row) × (n.offset ≡ to.offset)
 
--- the numbers of a decoder, without its end
-abbrev pub piece_numbers : PieceDecoder → PieceNumbers
-piece_numbers d = record {
-  height = d.height;
-  is_open = d.is_open;
-  waits = d.waits;
-  move_behind = move_numbers d.behind.at;
-  has_comment_behind = is_some d.behind.comment;
-  comment_behind = unwrap_or d.behind.comment 0;
-  stage = stage_number (stage_kind d.walk.stage);
-  entities = d.walk.entities;
-  left = d.walk.left;
-  is_given = d.walk.given;
-  move_here = move_numbers (stage_move d.walk.stage);
-  comment = stage_comment d.walk.stage;
-  row = stage_row d.walk.stage;
-  place = row_place_numbers (stage_place d.walk.stage);
-  ahead = code_number (stage_first d.walk.stage);
-  marker = marker_number (stage_marker d.walk.stage);
-  offset = d.walk.kept.offset;
-  is_previous_typical = d.walk.kept.previous_typical;
-  decoder = decoder_registers d.walk.decoder;
-}
+-- the numbers of marker segments that arrived
+abbrev pub AreCommentNumbers : HeadNumbers → Option ℕ → Type 0
+AreCommentNumbers n None = is_set n.has_comment ≡ false
+AreCommentNumbers n (Some left) = (is_set n.has_comment ≡ true) × (n.comment ≡ left)
+
+abbrev pub AreHeadNumbers : HeadNumbers → Head → Type 0
+AreHeadNumbers n head = AreMoveNumbers n.at head.at × AreCommentNumbers n head.comment
+
+-- what comes next in a head, and in a code
+abbrev pub IsHeadNext : StageNumbers → Option ℕ → Type 0
+IsHeadNext n None = n.next ≡ 0
+IsHeadNext n (Some left) = (n.next ≡ 1) × (n.comment ≡ left)
+
+abbrev pub IsCodeNext : StageNumbers → Option RowPlace → Type 0
+IsCodeNext n None = n.next ≡ 2
+IsCodeNext n (Some place) = (n.next ≡ 3) × (n.place ≡ row_place_numbers place)
+
+pub record AreCodeNumbers (n : StageNumbers) (c : InCode) : Type 0 where
+  pub at_are : AreMoveNumbers n.at c.at
+  pub row_is : n.row ≡ c.row
+  pub next_is : IsCodeNext n c.begun
+  pub first_is : n.ahead ≡ code_number c.first
+  pub marker_is : n.marker ≡ marker_number c.marker
+
+abbrev pub AreStageNumbers : StageNumbers → Stage → Type 0
+AreStageNumbers n (stage.Head head) = AreMoveNumbers n.at head.at × IsHeadNext n head.comment
+AreStageNumbers n (stage.Code c) = AreCodeNumbers n c
+AreStageNumbers n stage.Done = n.next ≡ 4
+
+-- the numbers of a parser state
+pub record AreWalkNumbers (n : PieceNumbers) (w : Walk) : Type 0 where
+  pub stage_is : AreStageNumbers n.stage w.stage
+  pub entities_are : n.entities ≡ w.entities
+  pub left_is : n.left ≡ w.left
+  pub given_is : is_set n.is_given ≡ w.given
+  pub offset_is : n.offset ≡ w.kept.offset
+  pub typical_is : is_set n.is_previous_typical ≡ w.kept.previous_typical
+  pub decoder_is : n.decoder ≡ decoder_registers w.decoder
+
+-- These are the numbers of a decoder, without its end. A number that the state does not have may be any.
+pub record ArePieceNumbers (n : PieceNumbers) (d : PieceDecoder) : Type 0 where
+  pub height_is : n.height ≡ d.height
+  pub open_is : is_set n.is_open ≡ d.is_open
+  pub waits_is : is_set n.waits ≡ d.waits
+  pub behind_is : AreHeadNumbers n.behind d.behind
+  pub walk_is : AreWalkNumbers n d.walk
 
 -- A parser state at the same place. Its decoder is the same if the other one continues.
 pub record IsWalkAs (w w' : Walk) : Type 0 where

@@ -1,12 +1,12 @@
 -- The next item in a stream that arrives in pieces, and what is stored of it.
-use Rattle.std.specs.Prelude.{ℕ, false, Bool, Option, Some, None}
+use Rattle.std.specs.Prelude.{ℕ, ◌≡◌, false, Bool, Option, Some, None}
 use Rattle.raster_core.specs.declared.place.RowPlace.{RowPlace}
 use Rattle.t85_core.specs.declared.pieces.code.InCode.{InCode}
 use Rattle.t85_core.specs.declared.pieces.head.Head as head
 use Rattle.t85_core.specs.declared.pieces.walk.Stage.{Stage}
 use Rattle.t85_core.specs.declared.pieces.walk.Stage.TheVariants as stage
 use Rattle.t85_core.specs.declared.segments.Code.{Code as CodeItem}
-use Rattle.t85_core.specs.declared.segments.Move.{Move}
+use Rattle.t85_core.specs.declared.segments.atmove.Move.{Move}
 
 -- a marker segment of a stripe or its code, the rest of a comment, a row or the rest of a code, the rest of a row, or nothing
 pub data Kind : Type 0 where
@@ -74,8 +74,12 @@ stage_marker (stage.Code code) = code.marker
 stage_marker stage.Done = None
 
 -- a code of which only the first element was read
-abbrev pub code_start : Option Move → CodeItem → InCode
-code_start at first = record { at = at; row = 0; begun = None; first = Some first; marker = None }
+pub record StartsCode (at : Option Move) (first : CodeItem) (c : InCode) : Type 0 where
+  pub at_is : c.at ≡ at
+  pub row_is : c.row ≡ 0
+  pub begun_is : c.begun ≡ None
+  pub first_is : c.first ≡ Some first
+  pub marker_is : c.marker ≡ None
 
 -- marker segments of which none has arrived
 abbrev pub head_start : head.Head

@@ -28,7 +28,7 @@ pub use height::find_height;
 pub use options::Options;
 pub use parts::{Found, Part, PartKind, PartWalk};
 pub use pieces::held::HeldBytes;
-pub use pieces::numbers::{MoveNumbers, PieceNumbers};
+pub use pieces::numbers::{HeadNumbers, MoveNumbers, PieceNumbers, StageNumbers};
 pub use pieces::steps::marker_at;
 pub use pieces::{More, Outcome, PieceDecoder, Progress};
 pub use summary::{Summary, info, summarize};

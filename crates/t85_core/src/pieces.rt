@@ -1,6 +1,6 @@
 //! Decodes a stream that arrives in pieces, row by row.
 
-ghost use Rattle.std.specs.Prelude.{◌≡◌, ◌≤◌, [], List, IfSome, true, false};
+ghost use Rattle.std.specs.Prelude.{◌≡◌, ◌≤◌, [], List, None, IfSome, true, false};
 ghost use Rattle.qm_core.specs.Place.{Estimate};
 ghost use Rattle.raster_core.specs.Packed.{Held};
 ghost use Rattle.raster_core.specs.Window.{width_of};
@@ -91,7 +91,11 @@ pub struct PieceDecoder {
 
 impl PieceDecoder {
     ghost use Rattle.t85_core.specs.Lent.{KeepsWindow, KeepsLent, decoder_lent, decoder_over, decoder_view};
+    ghost use Rattle.t85_core.specs.Numbers.{ArePieceNumbers};
+    ghost use Rattle.t85_core.specs.Options.{fields_of};
     ghost use Rattle.t85_core.specs.Pieces.{HasDecoded, IsCall, AreCertain, call_of, is_last_piece};
+    ghost use Rattle.t85_core.specs.declared.pieces.PieceDecoder.{PieceDecoder};
+    ghost use Rattle.t85_core.specs.declared.pieces.numbers.PieceNumbers.{PieceNumbers};
 
     /// A decoder before the first byte after the header. Makes the window white, and resets the contexts.
     pub fn start(header: Header, window: &mut Window<'_>, learned: &mut Learned) -> PieceDecoder
@@ -161,7 +165,12 @@ impl PieceDecoder {
     /// The number of first rows that belong to the image, whatever bytes follow: no height that arrives later is below
     /// this.
     pub fn certain(&self) -> u32
-        ensures certain { (rows : Held) (learned : List Estimate) →
+        // It depends only on the header and the numbers.
+        ensures certain { self.now.end ≡ None → (d : PieceDecoder) (numbers : PieceNumbers)
+            (rows : Held) (learned : List Estimate) → fields_of d.header ≡
+            fields_of self.now.header → ArePieceNumbers numbers d →
+            ArePieceNumbers numbers self.now → AreCertain (decoder_view d rows learned) result }
+        ensures own { (rows : Held) (learned : List Estimate) →
             AreCertain (decoder_view self.now rows learned) result }
         ensures ended { IfSome self.now.end (λ _. result ≡ self.now.height) }
     {

@@ -11,8 +11,10 @@ ghost use Rattle.t85_core.specs.Refusal.{move_fault, comment_fault};
 ghost use Rattle.t85_core.specs.Grammar.{NewLength};
 ghost use Rattle.t85_core.specs.Steps.Segments.{code_bytes, IsByteOrMarker, PieceFault, Passes, PassesSegments, SegmentsFault, PassesCode, RestFault, CodeFault};
 
+mod atmove;
 mod length;
 
+pub use self::atmove::Move;
 use crate::fault::Fault;
 use crate::header::Header;
 use crate::input_buffer::{ByteSource, ESCAPE};
@@ -26,13 +28,6 @@ pub struct Place {
     pub height: u32,
     pub entities: u32,
     pub given: bool,
-}
-
-/// A move of the adaptive template pixel (ATMOVE): a row of the stripe, and an offset.
-#[derive(Clone, Copy)]
-pub struct Move {
-    pub row: u32,
-    pub offset: u8,
 }
 
 /// The next element of a code.

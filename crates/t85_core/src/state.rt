@@ -24,7 +24,6 @@ pub fn next_stripe(reset: bool, window: &mut Window<'_>, kept: &mut Kept, learne
         window.new kept.new learned.new) }
     ensures window { StaysWindow window.old window.new }
     ensures offset { kept.new.offset ≡ if reset then 0 else kept.old.offset }
-    ensures low { kept.old.offset ≤ 127 → kept.new.offset ≤ 127 }
     ensures lined { IsLined (held window.old) → IsLined (held window.new) }
 {
     if reset {

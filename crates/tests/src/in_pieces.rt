@@ -269,7 +269,10 @@ fn call_kept(
         return Err("memory of another size")?;
     }
     let mut window = Window::resume(lent, header.xd, kept.place);
-    let mut decoder = PieceDecoder::resume(header, &kept.numbers);
+    let mut decoder = match PieceDecoder::resume(header, &kept.numbers) {
+        Some(decoder) => decoder,
+        None => return Err("numbers of no decoder")?,
+    };
     let outcome = call(&mut decoder, &mut window, learned, &mut None, feed, told);
     if outcome == Outcome::Row {
         rows.extend_from_slice(window.row(0))?;

@@ -9,7 +9,7 @@ use Rattle.t85_core.specs.declared.pieces.Outcome.TheVariants as outcome
 use Rattle.t85_core.specs.declared.pieces.PieceDecoder.{PieceDecoder}
 use Rattle.t85_core.specs.declared.pieces.Progress.{Progress}
 use Rattle.t85_core.specs.Lent.{decoder_over, decoder_view}
-use Rattle.t85_core.specs.Numbers.{piece_numbers}
+use Rattle.t85_core.specs.Numbers.{ArePieceNumbers}
 use Rattle.t85_core.specs.Options.{fields_of}
 use Rattle.t85_core.specs.Feeds.{HasFed, IsFeed, held_bytes}
 use Rattle.t85_core.specs.Pieces.{HasDecoded, StreamGoesOn, call_of, given_with}
@@ -21,7 +21,7 @@ rows_in b = rows_at b.kept.place b.header.xd b.memory
 
 -- the numbers and the memory are those of a decoder and its window
 pub record IsStored (b : Between) (d : PieceDecoder) (window : Window) : Type 0 where
-  pub numbers : b.kept.numbers ≡ piece_numbers d
+  pub numbers : ArePieceNumbers b.kept.numbers d
   pub place : b.kept.place ≡ current_place window
   pub wide : width_of window ≡ b.header.xd
   pub memory : b.memory ≡ window.rows.now
@@ -35,7 +35,7 @@ pub record IsResumed (b : Between) (d : PieceDecoder) (window : Window) : Type 0
   pub header_is : d.header ≡ b.header
   pub rows_are : held window ≡ rows_in b
   pub resumes : (e : PieceDecoder) (rows : Held) (learned : List Estimate) (text out : List ℕ) → HasDecoded (decoder_view e rows learned) text out → fields_of e.header ≡ fields_of b.header →
-      b.kept.numbers ≡ piece_numbers e → HasDecoded (decoder_view d rows learned) text out
+      ArePieceNumbers b.kept.numbers e → HasDecoded (decoder_view d rows learned) text out
 
 module _ {old new : Between} {d d' : PieceDecoder} {window window' : Window} {piece : List ℕ} {is_all : Bool} {progress : Progress} (resumed : IsResumed old d window)
     (stored : IsStored new d' window') (header_is : new.header ≡ old.header)
@@ -66,7 +66,7 @@ module _ {old new : Between} {d d' : PieceDecoder} {window window' : Window} {pi
     goes_on = goes_on progress.outcome refl;
     done = λ height e text out rest k follows. rw (← stream_is) ((call.fed.done height e).1 text out rest (has k) follows);
     broken = λ fault e text out rest k follows.
-        rw (← (ap (λ n. n.height) (sym stored.numbers)))
+        rw stored.numbers.height_is
         (rw (← stream_is) (call.fed.broken fault e text out rest (has k) follows));
   }
 

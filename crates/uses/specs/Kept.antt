@@ -8,7 +8,7 @@ use Rattle.t85_core.specs.declared.pieces.Outcome.TheVariants as outcome
 use Rattle.t85_core.specs.declared.pieces.PieceDecoder.{PieceDecoder}
 use Rattle.t85_core.specs.declared.pieces.Progress.{Progress}
 use Rattle.t85_core.specs.Lent.{decoder_view}
-use Rattle.t85_core.specs.Numbers.{piece_numbers}
+use Rattle.t85_core.specs.Numbers.{ArePieceNumbers}
 use Rattle.t85_core.specs.Options.{fields_of}
 use Rattle.t85_core.specs.Feeds.{HasFed, held_bytes}
 use Rattle.t85_core.specs.Pieces.{HandsOut, HoldsImage, MayFollow, StreamGoesOn, given_with}
@@ -28,7 +28,7 @@ between_calls header kept memory learned = record { header = header; kept = kept
 pub record IsKept (b : Between) (text out : List ℕ) : Type 0 where
   pub decoder : PieceDecoder
   pub stream_is : fields_of decoder.header ≡ fields_of b.header
-  pub numbers_are : b.kept.numbers ≡ piece_numbers decoder
+  pub numbers_are : ArePieceNumbers b.kept.numbers decoder
   pub has : HasFed (decoder_view decoder (rows_at b.kept.place b.header.xd b.memory) b.learned) (held_bytes b.kept.held) text out
 
 -- the current row of the memory

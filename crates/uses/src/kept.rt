@@ -1,6 +1,6 @@
 //! A decoder in pieces that is stored as numbers between calls. It consumes all bytes.
 
-ghost use Rattle.std.specs.Prelude.{◌≡◌, ◌<◌, ◌*◌, [], length};
+ghost use Rattle.std.specs.Prelude.{◌≡◌, ◌<◌, ◌*◌, [], ℕ, List, None, IfSome, length};
 ghost use Rattle.std.specs.Int.{div_ceil};
 ghost use Rattle.t85_core.specs.Pieces.{is_last_piece};
 ghost use Rattle.uses.specs.Kept.{IsKept, KeptOn, between_calls};
@@ -34,7 +34,8 @@ pub fn first_kept(header: Header, memory: &mut [u8], learned: &mut Learned) -> K
     }
 }
 
-/// Continues with a piece, up to the next row, or as far as it goes. The memory then has the row.
+/// Continues with a piece, up to the next row, or as far as it goes. The memory then has the row. Returns none, and
+/// changes nothing, if the numbers are those of no decoder.
 pub fn next_of_kept(
     header: Header,
     kept: &mut KeptDecoder,
@@ -42,16 +43,17 @@ pub fn next_of_kept(
     learned: &mut Learned,
     piece: &[u8],
     more: More,
-) -> Progress
+) -> Option<Progress>
     requires long { length memory.old ≡ 3 * div_ceil header.xd 8 }
     requires place { kept.old.place < 3 }
     ensures place { kept.new.place < 3 }
-    ensures on { KeptOn (between_calls header kept.old memory.old learned.old)
-        (between_calls header kept.new memory.new learned.new) piece.now (is_last_piece more)
-        result }
+    ensures on { IfSome result (KeptOn (between_calls header kept.old memory.old learned.old)
+        (between_calls header kept.new memory.new learned.new) piece.now (is_last_piece more)) }
+    ensures none { result ≡ None → (kept.new ≡ kept.old) × ((text out : List ℕ) →
+        IsKept (between_calls header kept.old memory.old learned.old) text out → ⊥) }
 {
+    let mut decoder = PieceDecoder::resume(header, &kept.numbers)?;
     let mut window = Window::resume(memory, header.xd, kept.place);
-    let mut decoder = PieceDecoder::resume(header, &kept.numbers);
     let mut held = kept.held;
     let progress = decoder.feed(&mut window, learned, &mut held, piece, more);
     *kept = KeptDecoder {
@@ -59,5 +61,5 @@ pub fn next_of_kept(
         held,
         place: window.place(),
     };
-    progress
+    Some(progress)
 }

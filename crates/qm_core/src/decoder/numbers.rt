@@ -20,7 +20,7 @@ impl Decoder {
             code: self.code,
             span: self.span,
             bits: self.bits,
-            has_ended: matches!(self.heard, Heard::Ended),
+            has_ended: u8::from(matches!(self.heard, Heard::Ended)),
         }
     }
 
@@ -44,7 +44,11 @@ impl Decoder {
         if code % unit != 0 || u64::from(code) + u64::from(unit) > u64::from(span) {
             return None;
         }
-        let heard = if has_ended { Heard::Ended } else { Heard::More };
+        let heard = match has_ended {
+            0 => Heard::More,
+            1 => Heard::Ended,
+            _ => return None,
+        };
         Some(Decoder {
             code,
             span,

@@ -12,15 +12,15 @@ use Rattle.raster_core.specs.declared.window.Window.{Window}
 
 -- a row of a window may be coded or decoded in this shape
 abbrev pub MayCodeRow : Shape → Kept → Window → Type 0
-MayCodeRow shape kept window = (kept.offset ≤ 127) × (width_of window ≡ shape.width) × (1 ≤ shape.width)
+MayCodeRow shape kept window = (width_of window ≡ shape.width) × (1 ≤ shape.width)
 
 -- it may be decoded from its position on
 abbrev pub MayGoOnRow : Shape → Kept → RowPlace → Window → Decoder → Type 0
-MayGoOnRow shape kept place window d = (kept.offset ≤ 127) × (width_of window ≡ shape.width) × (place.done < shape.width) × (has_stopped d ≡ false)
+MayGoOnRow shape kept place window d = (width_of window ≡ shape.width) × (place.done < shape.width) × (has_stopped d ≡ false)
 
 -- A row may be decoded from its position on: if its pixels have begun, the decoder has not stopped.
 abbrev pub MayGoOnIn : Shape → Kept → RowPlace → Decoder → Type 0
-MayGoOnIn shape kept place d = (kept.offset ≤ 127) × (place.done < shape.width) × (place.is_begun ≡ true → has_stopped d ≡ false)
+MayGoOnIn shape kept place d = (place.done < shape.width) × (place.is_begun ≡ true → has_stopped d ≡ false)
 
 -- it was decoded with the same offset, or an error left `kept` unchanged and a position inside the row
 abbrev pub LeavesPlace : {T E : Type 0} → Shape → Kept → Kept → RowPlace → Result T E → Type 0

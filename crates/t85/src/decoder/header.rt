@@ -1,6 +1,6 @@
 //! The header of a stream in pieces.
 
-ghost use Rattle.std.specs.Prelude.{◌≡◌, ◌<◌, List, ℕ, length};
+ghost use Rattle.std.specs.Prelude.{◌≡◌, ◌≤◌, ◌<◌, List, ℕ, length};
 ghost use Rattle.t85_core.specs.Pieces.{is_last_piece};
 ghost use Rattle.t85.specs.Decoder.{Answers, ReadsHeader, more_call};
 ghost use Rattle.t85.specs.DecoderLimit.{StaysWithinLimit};
@@ -16,13 +16,14 @@ use t85_core::{Fault, Header, More};
 impl T85Decoder {
     /// Consumes bytes of the header.
     pub(super) fn take_header(&mut self, bytes: &[u8], more: More) -> Report
-        requires version { self.old.version ≡ 1 }
+        requires version { self.old.version ≡ 2 }
         requires next { self.old.next ≡ 0 }
         ensures answers { (window : List ℕ) → Answers (HasRead (hold_of self.old window))
             (hold_of self.old window) (hold_of self.new window)
             (more_call bytes.now more result.taken result.row) result.answer }
         ensures limit { self.new.max_rows ≡ self.old.max_rows }
         ensures within { StaysWithinLimit result.answer self.new }
+        ensures full { 20 ≤ self.old.header_len → result.answer ≡ answer.NotBegun }
         ensures header { (window : List ℕ) → ReadsHeader (hold_of self.old window) bytes.now →
             result.answer ≡ answer.Header }
     {
@@ -66,7 +67,7 @@ impl T85Decoder {
 
     /// Checks the header, which is complete.
     fn judge_header(&mut self) -> Answer
-        requires version { self.old.version ≡ 1 }
+        requires version { self.old.version ≡ 2 }
         ensures judged { IsJudged self.old self.new result }
         ensures limit { self.new.max_rows ≡ self.old.max_rows }
     {
@@ -78,7 +79,7 @@ impl T85Decoder {
                     self.end(24);
                     return Answer::TooManyRows;
                 }
-                self.height = header.yd;
+                self.numbers.height = header.yd;
                 self.next = FIRST_ROW;
                 Answer::Header
             }
@@ -91,7 +92,7 @@ impl T85Decoder {
 
     /// Waits for the rest of the header, unless no more bytes follow.
     fn wait_for_header(&mut self, more: More) -> Answer
-        requires version { self.old.version ≡ 1 }
+        requires version { self.old.version ≡ 2 }
         ensures awaited { IsAwaited self.old self.new (is_last_piece more) result }
         ensures limit { self.new.max_rows ≡ self.old.max_rows }
     {

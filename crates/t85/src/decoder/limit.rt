@@ -10,7 +10,7 @@ use t85_core::Outcome;
 impl T85Decoder {
     /// The result for one of the engine after which this many rows are certain, unless they exceed the limit.
     pub(super) fn limited_answer(&mut self, outcome: Outcome, certain: u32) -> Answer
-        requires version { self.old.version ≡ 1 }
+        requires version { self.old.version ≡ 2 }
         ensures told { IsToldOf outcome self.old self.new certain result }
         ensures same_header { self.new.header ≡ self.old.header }
         ensures limit { self.new.max_rows ≡ self.old.max_rows }
@@ -32,7 +32,7 @@ impl T85Decoder {
 
     /// Returns a row, unless it or the certain rows exceed the limit.
     fn count_row(&mut self, certain: u32) -> Answer
-        requires version { self.old.version ≡ 1 }
+        requires version { self.old.version ≡ 2 }
         ensures told { IsRowTold self.old self.new certain result }
         ensures same_header { self.new.header ≡ self.old.header }
         ensures limit { self.new.max_rows ≡ self.old.max_rows }
@@ -47,7 +47,7 @@ impl T85Decoder {
 
     /// Asks for more bytes, unless the certain rows exceed the limit.
     fn ask(&mut self, certain: u32) -> Answer
-        requires version { self.old.version ≡ 1 }
+        requires version { self.old.version ≡ 2 }
         ensures told { IsMoreTold self.old self.new certain result }
         ensures same_header { self.new.header ≡ self.old.header }
         ensures limit { self.new.max_rows ≡ self.old.max_rows }

@@ -37,7 +37,7 @@ pub extern "C" fn t85_decode_rest(decoder: &mut T85Decoder, bytes: &[u8], taken:
     }
     match entity_len(bytes) {
         Some(len) => {
-            decoder.waits = 0;
+            decoder.numbers.waits = 0;
             *taken = len;
             0
         }
@@ -50,7 +50,7 @@ impl T85Decoder {
     fn ends_late(&self) -> bool
         ensures { result ≡ ends_late self.now }
     {
-        self.is_open != 0 && self.waits != 0 && self.held_len == 0
+        self.numbers.is_open != 0 && self.numbers.waits != 0 && self.held_len == 0
     }
 }
 

@@ -2,8 +2,8 @@
 
 use crate::tests::{DECODED, Decoded, LATE, TWICE, TWO_ROWS, TWO_STRIPES};
 use crate::{
-    T85Decoder, T85Facts, T85Part, t85_decode_bytes, t85_decode_end, t85_decode_height,
-    t85_decode_start, t85_next_part, t85_stream_facts,
+    T85Decoder, T85Facts, T85Part, t85_decode_bytes, t85_decode_certain, t85_decode_end,
+    t85_decode_height, t85_decode_start, t85_next_part, t85_stream_facts,
 };
 
 /// The result for a stream with this version of the struct: the status, the stream's length, and its height.
@@ -234,10 +234,69 @@ fn statuses(version: u32, window: usize) -> (u8, u8) {
 
 #[test]
 fn misuse_of_a_decoder_is_told(rt: HostRuntime) {
-    assert!(rt; statuses(1, 3) == (60, 61));
-    assert!(rt; statuses(1, 2) == (60, 19));
+    assert!(rt; statuses(2, 3) == (60, 61));
+    assert!(rt; statuses(2, 2) == (60, 19));
     assert!(rt; statuses(0, 3) == (53, 53));
-    assert!(rt; statuses(2, 3) == (53, 53));
+    assert!(rt; statuses(1, 3) == (53, 53));
+}
+
+/// The number of ways in which `spoil` changes a struct.
+const WAYS: u32 = 14;
+
+/// Changes a struct among the rows of a stream to one that no call leaves; there are several ways.
+fn spoil(decoder: &mut T85Decoder, way: u32) {
+    let numbers = &mut decoder.numbers;
+    match way {
+        0 => numbers.height = 0,
+        1 => numbers.height = 10,
+        2 => numbers.offset = 128,
+        3 => numbers.stage.next = 5,
+        4 => numbers.stage.ahead = 255,
+        5 => numbers.stage.marker = 3,
+        6 => {
+            numbers.stage.ahead = 256;
+            numbers.stage.marker = 1;
+        }
+        7 => numbers.decoder.has_ended = 2,
+        8 => numbers.decoder.span = 0,
+        9 => {
+            numbers.behind.at.is_there = 1;
+            numbers.behind.at.offset = 128;
+        }
+        10 => decoder.place = 3,
+        11 => decoder.header[0] = 1,
+        12 => decoder.next = 4,
+        13 => decoder.version = 1,
+        _ => {}
+    }
+}
+
+/// The result of a call that follows the first row of `LATE`, after the struct was changed in this way: the status, the
+/// number of bytes consumed, and the number of certain rows.
+fn spoilt(way: u32, window: usize) -> (u8, usize, u32) {
+    let mut decoder = T85Decoder::first(9);
+    let (mut taken, mut row) = (0, 0);
+    let mut lent = [0; 3];
+    let (head, rest) = LATE.split_at(20);
+    t85_decode_bytes(&mut decoder, head, &mut [], &mut taken, &mut row);
+    t85_decode_bytes(&mut decoder, rest, &mut lent, &mut taken, &mut row);
+    let (_, rest) = rest.split_at(taken.min(rest.len()));
+    spoil(&mut decoder, way);
+    let certain = t85_decode_certain(&decoder);
+    let window = &mut lent[..window.min(3)];
+    let status = t85_decode_bytes(&mut decoder, rest, window, &mut taken, &mut row);
+    (status, taken, certain)
+}
+
+#[test]
+fn numbers_of_no_decoder_are_refused(rt: HostRuntime) {
+    for way in 0..WAYS {
+        assert!(rt; spoilt(way, 3) == (53, 0, 0));
+        assert!(rt; spoilt(way, 0) == (53, 0, 0));
+    }
+    let (status, _, certain) = spoilt(WAYS, 3);
+    assert!(rt; status == 61 && certain == 1);
+    assert!(rt; spoilt(WAYS, 0) == (19, 0, 1));
 }
 
 /// The status of initializing a struct of this size, and the version that it then contains.
@@ -251,5 +310,5 @@ fn begun(size: usize) -> (u8, u32) {
 #[test]
 fn struct_of_another_size_is_refused(rt: HostRuntime) {
     assert!(rt; begun(1279) == (50, 7));
-    assert!(rt; begun(1280) == (0, 1));
+    assert!(rt; begun(1280) == (0, 2));
 }

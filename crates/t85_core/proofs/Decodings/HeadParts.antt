@@ -1,6 +1,5 @@
 -- The marker segments of a stripe that came before its code.
-use Rattle.std.proofs.Common.{cond, ◌≡◌, ◌≢◌, ◌<◌, ◌≤◌, ◌+◌, ℕ, Bool, true, false, List, [], ◌∷◌, ◌++◌, length, Option, None, Some, refl, sym, ap, ◌∙◌, subst, append_assoc, arith}
-use Rattle.std.specs.Prelude.{IfSome}
+use Rattle.std.proofs.Common.{cond, ◌≡◌, ◌≢◌, ◌<◌, ◌+◌, ℕ, Bool, true, false, List, [], ◌∷◌, ◌++◌, length, Option, None, Some, refl, sym, ap, ◌∙◌, subst, append_assoc, arith}
 use Rattle.qm_core.specs.Place.{Estimate, start}
 use Rattle.qm_core.specs.Decoder.{DecoderIsAt}
 use Rattle.qm_core.specs.declared.decoder.Decoder.{Decoder}
@@ -13,9 +12,10 @@ use Rattle.t85_core.specs.declared.pieces.head.Head.{Head}
 use Rattle.t85_core.specs.declared.pieces.walk.Stage.TheVariants as stage
 use Rattle.t85_core.specs.declared.pieces.walk.Walk.{Walk}
 use Rattle.t85_core.specs.declared.segments.Code as code_type
-use Rattle.t85_core.specs.declared.segments.Move as move
+use Rattle.t85_core.specs.declared.segments.atmove.Move as move
 use Rattle.t85_core.specs.Lent.{Carried, WalkView, walk_view}
-use Rattle.t85_core.specs.Stages.{code_start, head_kind}
+use Rattle.t85_core.specs.Stages as kind
+use Rattle.t85_core.specs.Stages.{StartsCode, code_kind, head_kind, place_from}
 use Rattle.t85_core.specs.Header.{Fields}
 use Rattle.t85_core.specs.Grammar.{ESC, COMMENT, NewLength, IsLegal, is_valid_length, segment_bytes, stripe_count}
 use Rattle.t85_core.specs.Laws.{IsInUse}
@@ -28,6 +28,27 @@ use Rattle.t85_core.specs.Steps.Pieces.{CutOff, HeadStands, CommentStands, Stage
 use Rattle.t85_core.specs.Steps.SizedImage.{sized}
 use Rattle.t85_core.proofs.Decodings.PieceHead.{head_cut, head_length, head_other, head_code, comment_off}
 use Rattle.t85_core.proofs.Decodings.PieceSteps.{on_same, walk_at, walk_with, at_stage, put_stage}
+
+-- a code of which only the first element was read
+abbrev pub code_started : Walk → Held → List Estimate → Option move.Move → code_type.Code → WalkView
+code_started w rows learned at c = record (walk_view w rows learned) { stage = kind.Code; at = at; comment = 0; row = 0; place = place_from None; first = Some c; marker = None }
+
+pub started_view : (w : Walk) (rows : Held) (learned : List Estimate) {at : Option move.Move} {c : code_type.Code} {code : InCode} → StartsCode at c code → walk_view (record w { stage = stage.Code code }) rows learned ≡ code_started w rows learned at c
+started_view w rows learned s =
+    λ i. record {
+      carried = record { held = rows; kept = w.kept; learned = learned };
+      decoder = w.decoder;
+      stage = (ap code_kind s.begun_is) i;
+      entities = w.entities;
+      left = w.left;
+      given = w.given;
+      at = s.at_is i;
+      comment = 0;
+      row = s.row_is i;
+      place = (ap place_from s.begun_is) i;
+      first = s.first_is i;
+      marker = s.marker_is i;
+    }
 
 -- a place in the marker segments of a stripe, or in a comment among them
 abbrev pub HeadHere : (h : Fields) (height entities : ℕ) (given : Bool) (carried : Carried) → Option move.Move → Option ℕ → (text out : List ℕ) → Type 0
@@ -44,25 +65,25 @@ pub record HeadParts (h : Fields) (height entities : ℕ) (given : Bool) (carrie
   pub fewer : entities < stripe_count height h.l0
   pub behind : BehindStands h (head_at (record { height = height; entities = entities; given = given }) false before) b back
 
-pub parts_of : {h : Fields} {height entities : ℕ} {given : Bool} {carried : Carried} {at : Option move.Move} (comment : Option ℕ) {text out : List ℕ} → IfSome at (λ to. to.offset ≤ 127) → HeadHere h height entities given carried at comment text out →
+pub parts_of : {h : Fields} {height entities : ℕ} {given : Bool} {carried : Carried} {at : Option move.Move} (comment : Option ℕ) {text out : List ℕ} → HeadHere h height entities given carried at comment text out →
     HeadParts h height entities given carried (record { at = at; comment = comment }) text out
-parts_of None low s = record {
+parts_of None s = record {
   before = s.before;
   first = s.front;
   back = s.back;
   text_is = s.text_is;
   stripes = s.stripes;
   fewer = s.fewer;
-  behind = record { front = s.back; comments = s.comments; passed = s.passed; at_is = low; begun = refl };
+  behind = record { front = s.back; comments = s.comments; passed = s.passed; begun = refl };
 }
-parts_of (Some left) low s = record {
+parts_of (Some left) s = record {
   before = s.head.before;
   first = s.head.front;
   back = s.head.back ++ (ESC ∷ COMMENT ∷ (big_bytes 4 (length s.part + left) ++ s.part));
   text_is = s.text_is ∙ ap (λ z. z ++ (ESC ∷ COMMENT ∷ (big_bytes 4 (length s.part + left) ++ s.part))) s.head.text_is ∙ append_assoc s.head.front s.head.back (ESC ∷ COMMENT ∷ (big_bytes 4 (length s.part + left) ++ s.part));
   stripes = s.head.stripes;
   fewer = s.head.fewer;
-  behind = record { front = s.head.back; comments = s.head.comments; passed = s.head.passed; at_is = low; begun = (s.part, s.small, refl) };
+  behind = record { front = s.head.back; comments = s.head.comments; passed = s.head.passed; begun = (s.part, s.small, refl) };
 }
 
 module _ {h : Fields} {height entities : ℕ} {given : Bool} {carried : Carried} {b : Head} {text out : List ℕ} (s : HeadParts h height entities given carried b text out) where
@@ -127,7 +148,7 @@ module _ (h : Fields) (height : ℕ) (w : Walk) (rows : Held) (learned : List Es
 
 module _ {h : Fields} {height : ℕ} (w : Walk) (rows : Held) (learned : List Estimate) (b : Head) where
   parts : {text out : List ℕ} → WalkStands (sized h height) (head_view w rows learned b) text out → HeadParts h height w.entities w.given (carried_with w rows learned) b text out
-  parts {text} {out} s = parts_of b.comment s.at_is (stage_here h height w rows learned text out b.at b.comment s.stands)
+  parts {text} {out} s = parts_of b.comment (stage_here h height w rows learned text out b.at b.comment s.stands)
 
   -- ---- more segments came
 
@@ -138,8 +159,6 @@ module _ {h : Fields} {height : ℕ} (w : Walk) (rows : Held) (learned : List Es
         on_same h height (head_view w rows learned b') text out p p' k.0 k.1 (record {
           left_is = s.left_is;
           width_is = s.width_is;
-          offset_is = s.offset_is;
-          at_is = k.2.behind.at_is;
           code_is = tt;
           behind = tt;
           within = omega (arith, s.within);
@@ -161,14 +180,14 @@ module _ {h : Fields} {height : ℕ} (w : Walk) (rows : Held) (learned : List Es
     pub head_height : {p p' : List ℕ} (n : ℕ) → w.given ≡ false → n ≡ height → IsLegal h (NewLength n) → p ≡ segment_bytes (NewLength n) ++ p' → StepsOn (sized h height) (head_view w rows learned b) (head_view (record w { given = true }) rows learned b) p p' []
     head_height {p} {p'} n none same legal taken text out s =
         on_same h height (head_view (record w { given = true }) rows learned b) text out p p' (segment_bytes (NewLength n)) taken
-        (walk_at s s.at_is tt tt (put_stage h height (head_view (record w { given = true }) rows learned b) (text ++ segment_bytes (NewLength n)) out _ (ap head_kind between) (head_length (at_head s) n none same legal)))
+        (walk_at s tt tt (put_stage h height (head_view (record w { given = true }) rows learned b) (text ++ segment_bytes (NewLength n)) out _ (ap head_kind between) (head_length (at_head s) n none same legal)))
 
     -- another one
     pub head_changes : {p p' : List ℕ} → CoderLaws → IsInUse h height → (n : ℕ) → w.given ≡ false → is_valid_length h w.entities n ≡ true → IsLegal h (NewLength n) → n ≢ height → p ≡ segment_bytes (NewLength n) ++ p' → StepsOff (sized h height) (head_view w rows learned b) p Changed
     head_changes {p} {p'} q use_ n none valid legal other taken text out s = head_other (at_head s) q use_ p p' n none valid legal other taken
 
     -- the code
-    pub head_begins : {p p' : List ℕ} (c : code_type.Code) → IsByteOrMarker c → (d : Decoder) → DecoderIsAt d start [] → (code : InCode) → code ≡ code_start b.at c → p ≡ code_bytes c ++ p' → StepsOn (sized h height) (head_view w rows learned b) (walk_view (record w { decoder = d; stage = stage.Code code }) rows learned) p p' []
+    pub head_begins : {p p' : List ℕ} (c : code_type.Code) → IsByteOrMarker c → (d : Decoder) → DecoderIsAt d start [] → (code : InCode) → StartsCode b.at c code → p ≡ code_bytes c ++ p' → StepsOn (sized h height) (head_view w rows learned b) (walk_view (record w { decoder = d; stage = stage.Code code }) rows learned) p p' []
     head_begins {p} {p'} c is d stands code same taken =
-        subst (λ z. StepsOn (sized h height) (head_view w rows learned b) (walk_view (record w { decoder = d; stage = stage.Code z }) rows learned) p p' []) (sym same)
-        (λ text out s. on_same h height (walk_view (record w { decoder = d; stage = stage.Code (code_start b.at c) }) rows learned) text out p p' (code_bytes c) taken (walk_with s s.at_is is tt (omega (arith, s.within)) (head_code (at_head s) c is d stands)))
+        subst (λ z. StepsOn (sized h height) (head_view w rows learned b) z p p' []) (sym (started_view (record w { decoder = d }) rows learned same))
+        (λ text out s. on_same h height (code_started (record w { decoder = d }) rows learned b.at c) text out p p' (code_bytes c) taken (walk_with s is tt (omega (arith, s.within)) (head_code (at_head s) c is d stands)))

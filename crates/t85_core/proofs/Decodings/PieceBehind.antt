@@ -1,11 +1,11 @@
 -- Segments behind an end marker that come in pieces.
-use Rattle.std.proofs.Common.{◌≡◌, ◌<◌, ◌≤◌, ◌+◌, ◌-◌, ◌^◌, ◌||◌, ℕ, Bool, true, false, List, [], ◌∷◌, ◌++◌, length, min, replicate, inl, inr, Option, None, Some, refl, sym, ap, ◌∙◌, subst, append_assoc, append-nil, length-append, arith}
-use Rattle.std.specs.Prelude.{IfSome, IsTrue, flat_map, is_some}
+use Rattle.std.proofs.Common.{◌≡◌, ◌<◌, ◌+◌, ◌-◌, ◌^◌, ◌||◌, ℕ, Bool, true, false, List, [], ◌∷◌, ◌++◌, length, min, replicate, inl, inr, Option, None, Some, refl, sym, ap, ◌∙◌, subst, append_assoc, append-nil, length-append, arith}
+use Rattle.std.specs.Prelude.{IsTrue, flat_map, is_some}
 use Rattle.std.specs.List.{AllByRecursion}
 use Rattle.std.proofs.lemmas.List.{length-replicate}
 use Rattle.byteorder.specs.Endian.{big_bytes}
 use Rattle.t85_core.specs.declared.pieces.head.Head.{Head}
-use Rattle.t85_core.specs.declared.segments.Move as move
+use Rattle.t85_core.specs.declared.segments.atmove.Move as move
 use Rattle.t85_core.specs.declared.segments.Place.{Place}
 use Rattle.t85_core.specs.Header.{Fields}
 use Rattle.t85_core.specs.Consumed.{AreComments}
@@ -30,7 +30,6 @@ behind_first h place last b at comment = record {
   comments = 0;
   passed = subst (λ z. HasPassed h place last (Some []) (Some []) (segments_so_far z (move_came last z) place.given 0)) (sym at)
       (subst (λ m. HasPassed h place last (Some []) (Some []) (segments_so_far None m place.given 0)) (sym (or_false last)) (passed_none h place last (Some [])));
-  at_is = subst (λ z. IfSome z (λ to. to.offset ≤ 127)) (sym at) tt;
   begun = subst (λ z. CommentBegun z [] []) (sym comment) refl;
 }
 
@@ -91,7 +90,6 @@ module _ {h : Fields} {here : BehindPlace} {b : Head} {back : List ℕ} (s : Beh
         front = s.front;
         comments = s.comments;
         passed = s.passed;
-        at_is = s.at_is;
         begun = (k.0 ++ more, omega (arith, k.1, same), part_more left k more ∙ ap (λ n. s.front ++ (ESC ∷ COMMENT ∷ (big_bytes 4 n ++ (k.0 ++ more)))) same);
       }
 
@@ -105,7 +103,6 @@ module _ {h : Fields} {here : BehindPlace} {b : Head} {back : List ℕ} (s : Beh
         front = s.front ++ segment_bytes (Comment (k.0 ++ more));
         comments = min (s.comments + 1) (2 ^ 64 - 1);
         passed = passed_comment (passed_ext s.passed (segment_bytes (Comment (k.0 ++ more)))) (min (s.comments + 1) (2 ^ 64 - 1)) (k.0 ++ more) (whole_segment (Comment (k.0 ++ more)) (omega (arith, k.1, same))) refl;
-        at_is = s.at_is;
         begun = part_more left k more ∙ ap (λ n. s.front ++ (ESC ∷ COMMENT ∷ (big_bytes 4 n ++ (k.0 ++ more)))) same;
       }
 
@@ -121,7 +118,6 @@ module _ {h : Fields} {here : BehindPlace} {b : Head} {back : List ℕ} (s : Beh
       front = s.front;
       comments = s.comments;
       passed = s.passed;
-      at_is = s.at_is;
       begun = (
         [],
         (let z : length {A = ℕ} [] ≡ 0 = refl in omega (arith, small, z)),
@@ -130,13 +126,12 @@ module _ {h : Fields} {here : BehindPlace} {b : Head} {back : List ℕ} (s : Beh
     }
 
     -- a move
-    pub behind_move : (to : move.Move) → move_came here.last b.at ≡ false → IsLegal h (Move to.row to.offset) → to.offset ≤ 127 → BehindStands h here (record { at = Some to; comment = b.comment }) (back ++ segment_bytes (Move to.row to.offset))
-    behind_move to none legal low = record {
+    pub behind_move : (to : move.Move) → move_came here.last b.at ≡ false → IsLegal h (Move to.row to.offset) → BehindStands h here (record { at = Some to; comment = b.comment }) (back ++ segment_bytes (Move to.row to.offset))
+    behind_move to none legal = record {
       front = s.front ++ segment_bytes (Move to.row to.offset);
       comments = s.comments;
       passed = subst (λ m. HasPassed h (place_at_head here) here.last (Some (s.front ++ segment_bytes (Move to.row to.offset))) (Some []) (segments_so_far (Some to) m here.place.given s.comments)) (sym (or_true here.last))
           (passed_move (passed_ext s.passed (segment_bytes (Move to.row to.offset))) to none (whole_segment (Move to.row to.offset) legal));
-      at_is = low;
       begun = subst (λ z. CommentBegun z (s.front ++ segment_bytes (Move to.row to.offset)) (back ++ segment_bytes (Move to.row to.offset))) (sym between) (ap (λ z. z ++ segment_bytes (Move to.row to.offset)) front_is);
     }
 
@@ -146,7 +141,6 @@ module _ {h : Fields} {here : BehindPlace} {b : Head} {back : List ℕ} (s : Beh
       front = s.front ++ segment_bytes (Comment x);
       comments = min (s.comments + 1) (2 ^ 64 - 1);
       passed = passed_comment (passed_ext s.passed (segment_bytes (Comment x))) (min (s.comments + 1) (2 ^ 64 - 1)) x (whole_segment (Comment x) legal) refl;
-      at_is = s.at_is;
       begun = subst (λ z. CommentBegun z (s.front ++ segment_bytes (Comment x)) (back ++ segment_bytes (Comment x))) (sym between) (ap (λ z. z ++ segment_bytes (Comment x)) front_is);
     }
 

@@ -4,7 +4,7 @@ use Rattle.std.specs.Prelude.{flat_map, is_some, IsTrue}
 use Rattle.std.specs.Int.{div_ceil}
 use Rattle.std.proofs.lemmas.Grind.{flat_map-append}
 use Rattle.std.proofs.lemmas.List.Sums.{sum_by-append}
-use Rattle.t85_core.specs.declared.segments.Move as move
+use Rattle.t85_core.specs.declared.segments.atmove.Move as move
 use Rattle.t85_core.specs.declared.segments.Place.{Place}
 use Rattle.t85_core.specs.Lent.{Carried}
 use Rattle.t85_core.specs.Header.{Fields, is_variable}

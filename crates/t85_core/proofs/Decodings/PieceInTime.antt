@@ -6,7 +6,7 @@ use Rattle.qm_core.specs.declared.decoder.Decoder.{Decoder}
 use Rattle.t85_core.specs.declared.fault.Fault.TheVariants.{Truncated}
 use Rattle.t85_core.specs.declared.segments.Code as code_type
 use Rattle.t85_core.specs.declared.segments.Code.TheVariants as code
-use Rattle.t85_core.specs.declared.segments.Move as move
+use Rattle.t85_core.specs.declared.segments.atmove.Move as move
 use Rattle.t85_core.specs.Header.{Fields}
 use Rattle.t85_core.specs.Grammar.{Stripe, marker_bytes, stripe_bytes}
 use Rattle.t85_core.specs.Laws.{IsInUse}

@@ -13,7 +13,7 @@ use Rattle.t85_core.specs.declared.pieces.head.Head.{Head}
 use Rattle.t85_core.specs.Stages.{head_kind}
 use Rattle.t85_core.specs.Stages as stage
 use Rattle.t85_core.specs.declared.segments.Code as code_type
-use Rattle.t85_core.specs.declared.segments.Move as move
+use Rattle.t85_core.specs.declared.segments.atmove.Move as move
 use Rattle.t85_core.specs.declared.segments.Place.{Place}
 use Rattle.t85_core.specs.Header.{Fields, is_variable}
 use Rattle.t85_core.specs.Options.{fields_of}
@@ -260,8 +260,6 @@ raised_on d e d' n p rest late waits head between comes over header height close
   now = record {
     left_is = (let left = there.left_is in omega (arith, left, over, comes.legal.2));
     width_is = there.width_is;
-    offset_is = there.offset_is;
-    at_is = there.at_is;
     code_is = there.code_is;
     behind = there.behind;
     within = there.within;

@@ -1,7 +1,15 @@
 -- A decoder that is made of another one's numbers.
-use Rattle.std.proofs.Common.{◌≡◌, ◌≢◌, ◌%◌, ℕ, Bool, true, false, List, Option, Some, None, refl, sym, ap, ◌∙◌, subst, arith}
-use Rattle.std.specs.Prelude.{IfSome}
-use Rattle.qm_core.specs.Source.{is_stopped}
+use Rattle.std.proofs.Common.{◌≡◌, ◌≤◌, ◌<◌, ℕ, Bool, true, false, List, Option, Some, None, refl, sym, ap, ◌∙◌, subst, true≢false, arith}
+use Rattle.std.specs.Coded.{le_prop}
+use Rattle.std.specs.Int.{from_bool}
+use Rattle.std.proofs.lemmas.Bool.Decides.{nat_tests}
+use Rattle.std.specs.Option.{unwrap_or}
+use Rattle.std.proofs.Props.{props}
+use mathlib.Core.HLevel.{is_prop→PathP}
+use Rattle.qm_core.specs.Decoder.{decoder_registers, has_stopped}
+use Rattle.qm_core.specs.declared.source.Heard.{Heard}
+use Rattle.qm_core.specs.declared.source.Heard.TheVariants.{More, Ended, Stopped}
+use Rattle.qm_core.specs.Source.{is_stopped, is_ended}
 use Rattle.qm_core.specs.declared.decoder.Decoder.{Decoder}
 use Rattle.qm_core.specs.Place.{Estimate}
 use Rattle.raster_core.specs.Packed.{Held}
@@ -10,16 +18,18 @@ use Rattle.raster_core.specs.declared.place.RowPlace.{RowPlace}
 use Rattle.t85_core.specs.Lent.{PieceView, WalkView, walk_view, decoder_view}
 use Rattle.t85_core.specs.declared.pieces.PieceDecoder.{PieceDecoder}
 use Rattle.t85_core.specs.declared.pieces.walk.Walk.{Walk}
+use Rattle.t85_core.specs.declared.pieces.code.InCode.{InCode}
+use Rattle.t85_core.specs.declared.pieces.numbers.MoveNumbers.{MoveNumbers}
+use Rattle.t85_core.specs.declared.pieces.numbers.PieceNumbers.{PieceNumbers}
 use Rattle.t85_core.specs.declared.pieces.walk.Stage.{Stage}
-use Rattle.t85_core.specs.Stages.{Kind, stage_kind}
+use Rattle.t85_core.specs.Stages.{Kind, stage_comment, stage_first, stage_kind, stage_marker, stage_move, stage_place, stage_row}
 use Rattle.t85_core.specs.Stages as stage
 use Rattle.t85_core.specs.declared.segments.Code as code_type
 use Rattle.t85_core.specs.declared.segments.Code.TheVariants as code
-use Rattle.t85_core.specs.declared.segments.Move as move
+use Rattle.t85_core.specs.declared.segments.atmove.Move as move
 use Rattle.t85_core.specs.Header.{Fields}
 use Rattle.t85_core.specs.Options.{fields_of}
-use Rattle.t85_core.specs.Numbers.{code_number, IsWalkAs}
-use Rattle.t85_core.specs.Steps.Segments.{IsByteOrMarker}
+use Rattle.t85_core.specs.Numbers.{is_set, AreMoveNumbers, AreWalkNumbers, IsWalkAs}
 use Rattle.t85_core.specs.Steps.Pieces.{CodeStands, InRowStands, StageStands, WalkStands, head_place, code_place}
 use Rattle.t85_core.specs.Steps.SizedImage.{sized}
 use Rattle.t85_core.specs.Steps.PieceStands.{DecoderStands, HeightKnown, CodeWalks, WalkWaits}
@@ -27,16 +37,71 @@ use Rattle.t85_core.proofs.Decodings.PieceSteps.{walk_at}
 use Rattle.t85_core.proofs.Decodings.PieceWalk.{in_row_going, going}
 use Rattle.t85_core.proofs.Decodings.PieceStood.{walks_of, code_of, waits_of, put_walks, put_code, put_waits}
 
--- a number that stands for a byte
-pub byte_back : (n : ℕ) (ahead : Option code_type.Code) → IfSome ahead IsByteOrMarker → n ≡ code_number ahead → n ≢ 0 → n ≢ 1 → n ≢ 2 → Some (code.Byte (n % 256)) ≡ ahead
-byte_back n None low e zero one two = absurd (zero e)
-byte_back n (Some (code.Marker false)) low e zero one two = absurd (one e)
-byte_back n (Some (code.Marker true)) low e zero one two = absurd (two e)
-byte_back n (Some (code.Byte b)) low e zero one two = ap (λ z. Some (code.Byte z)) (let same : n % 256 ≡ b = omega (arith, low, e) in same)
+-- ---- what has the same numbers
 
--- a walk of these fields
-abbrev pub walk_of : Kept → Decoder → Stage → ℕ → ℕ → Bool → Walk
-walk_of kept decoder stage entities left given = record { kept = kept; decoder = decoder; stage = stage; entities = entities; left = left; given = given }
+one_move : (a b : move.Move) → a.row ≡ b.row → a.offset ≡ b.offset → a ≡ b
+one_move a b row offset = λ i. record { row = row i; offset = offset i; low = is_prop→PathP (λ j. offset j ≤ 127) (λ j. le_prop) a.low b.low i }
+
+pub flag_clear : (byte : ℕ) → is_set byte ≡ false → byte ≡ 0
+flag_clear byte e = grind (arith, nat_tests)
+
+pub flag_set : (byte : ℕ) → is_set byte ≡ true → byte ≡ 0 → ⊥
+flag_set byte e zero = true≢false (sym e ∙ ap is_set zero)
+
+pub no_move : (n : MoveNumbers) (at : Option move.Move) → n.is_there ≡ 0 → AreMoveNumbers n at → None ≡ at
+no_move n None none k = refl
+no_move n (Some to) none k = absurd (flag_set n.is_there k.0 none)
+
+pub some_move : (n : MoveNumbers) (to : move.Move) (at : Option move.Move) → (n.is_there ≡ 0 → ⊥) → to.row ≡ n.row → to.offset ≡ n.offset → AreMoveNumbers n at → Some to ≡ at
+some_move n to None there row offset k = absurd (there (flag_clear n.is_there k))
+some_move n to (Some other) there row offset k = ap Some (one_move to other (row ∙ k.1) (offset ∙ k.2))
+
+pub one_kept : (a b : Kept) → a.offset ≡ b.offset → a.previous_typical ≡ b.previous_typical → a ≡ b
+one_kept a b offset previous = λ i. record { offset = offset i; previous_typical = previous i; low = is_prop→PathP (λ j. offset j ≤ 127) (λ j. le_prop) a.low b.low i }
+
+pub one_code : (a b : InCode) → a.at ≡ b.at → a.row ≡ b.row → a.begun ≡ b.begun → a.first ≡ b.first → a.marker ≡ b.marker → a ≡ b
+one_code a b at row begun first marker =
+    λ i. record {
+      at = at i;
+      row = row i;
+      begun = begun i;
+      first = first i;
+      marker = marker i;
+      small = is_prop→PathP (λ j. (n : ℕ) → first j ≡ Some (code.Byte n) → n < 256) (λ j. hlevel props) a.small b.small i;
+      behind = is_prop→PathP (λ j. (r : Bool) → marker j ≡ Some r → first j ≡ None) (λ j. hlevel props) a.behind b.behind i;
+    }
+
+-- a decoder that has not stopped has the numbers of any
+pub resumed_decoder : (d : Decoder) → (e : Decoder) × (has_stopped e ≡ false) × (decoder_registers d ≡ decoder_registers e) × (has_stopped d ≡ false → e ≡ d)
+resumed_decoder d = by d.heard refl where
+  by : (h : Heard) → d.heard ≡ h → (e : Decoder) × (has_stopped e ≡ false) × (decoder_registers d ≡ decoder_registers e) × (has_stopped d ≡ false → e ≡ d)
+  by More is = (d, ap is_stopped is, refl, λ _. refl)
+  by Ended is = (d, ap is_stopped is, refl, λ _. refl)
+  by Stopped is = (
+    record d { heard = More; stuck = λ e. absurd (let z : More ≡ Stopped = e in let bot : ⊥ = cc in bot) },
+    refl,
+    ap (λ h. record { code = d.code; span = d.span; bits = d.bits; has_ended = from_bool (is_ended h) }) is,
+    λ going. absurd (true≢false (sym (ap is_stopped is) ∙ going)),
+  )
+
+pub some_is : {A : Type 0} {a b : A} → Some a ≡ Some b → a ≡ b
+some_is {A} {a} e = ap (λ o. unwrap_or o a) e
+
+-- a walk of these numbers
+pub walk_numbers : (w : Walk) {n : PieceNumbers} {kept : Kept} {decoder going : Decoder} {stage : Stage} → AreWalkNumbers n w → kept.offset ≡ n.offset → kept.previous_typical ≡ is_set n.is_previous_typical → decoder ≡ going → (has_stopped w.decoder ≡ false → going ≡ w.decoder) → stage ≡ w.stage →
+    IsWalkAs w (record { kept = kept; decoder = decoder; stage = stage; entities = n.entities; left = n.left; given = is_set n.is_given })
+walk_numbers w {n} {kept} {decoder} k offset typical is same stage_is = record {
+  decoder_is = λ going. is ∙ same going;
+  same =
+      λ i. record {
+        kept = one_kept kept w.kept (offset ∙ k.offset_is) (typical ∙ k.typical_is) i;
+        decoder = decoder;
+        stage = stage_is i;
+        entities = k.entities_are i;
+        left = k.left_is i;
+        given = k.given_is i;
+      };
+}
 
 -- ---- the same, but for a decoder that has stopped
 
@@ -63,7 +128,7 @@ module _ {w w' : Walk} (k : IsWalkAs w w') (rows : Held) (learned : List Estimat
   stage_as h height text out k s = s
 
   walk_there : {h : Fields} {height : ℕ} {text out : List ℕ} → WalkStands (sized h height) before text out → WalkStands (sized h height) there text out
-  walk_there {h} {height} {text} {out} s = walk_at s s.at_is s.code_is s.behind (stage_as h height text out (stage_kind w.stage) s.stands)
+  walk_there {h} {height} {text} {out} s = walk_at s s.code_is s.behind (stage_as h height text out (stage_kind w.stage) s.stands)
 
   walk_as : {h : Fields} {height : ℕ} {text out : List ℕ} → WalkStands (sized h height) before text out → WalkStands (sized h height) (walk_view w' rows learned) text out
   walk_as {h} {height} {text} {out} s = subst (λ z. WalkStands (sized h height) (walk_view z rows learned) text out) (sym k.same) (walk_there s)
@@ -71,14 +136,6 @@ module _ {w w' : Walk} (k : IsWalkAs w w') (rows : Held) (learned : List Estimat
   code_walk_as : {h : Fields} {text out : List ℕ} → CodeWalks h before text out → CodeWalks h (walk_view w' rows learned) text out
   code_walk_as {h} {text} {out} s =
       subst (λ z. CodeWalks h (walk_view z rows learned) text out) (sym k.same) (let t : CodeWalks h there text out = record { walk = walk_there s.walk; in_code = s.in_code; ungiven = s.ungiven; in_time = s.in_time } in t)
-
--- what was read ahead is a byte or an end marker
-pub ahead_of : (d : PieceView) (text out : List ℕ) → DecoderStands d text out → IfSome d.walk.first IsByteOrMarker
-ahead_of d text out s = by d.is_open d.waits refl refl where
-  by : (a b : Bool) → d.is_open ≡ a → d.waits ≡ b → IfSome d.walk.first IsByteOrMarker
-  by false b e f = (walks_of d text out e s).code_is
-  by true false e f = (code_of d text out e f s).walk.code_is
-  by true true e f = (waits_of d text out e f s).walk.code_is
 
 -- the decoder stands where the other one does
 pub stands_as : (d : PieceDecoder) (d' : PieceView) (w' : Walk) (rows : Held) (learned : List Estimate) (text out : List ℕ) → d'.walk ≡ walk_view w' rows learned → fields_of d'.header ≡ fields_of d.header → d'.height ≡ d.height → d'.is_open ≡ d.is_open → d'.waits ≡ d.waits → d'.behind ≡ d.behind → IsWalkAs d.walk w' →

@@ -18,7 +18,7 @@ use Rattle.t85_core.specs.Steps.State.{RowStart, image_start, first_row_start, n
 use Rattle.t85_core.specs.Steps.DecodeRows.{IsCarried}
 use Rattle.t85_core.specs.declared.segments.Code.{Code}
 use Rattle.t85_core.specs.declared.segments.Code.TheVariants as code
-use Rattle.t85_core.specs.declared.segments.Move.{Move}
+use Rattle.t85_core.specs.declared.segments.atmove.Move.{Move}
 use Rattle.t85_core.specs.Steps.Segments.{IsByteOrMarker}
 use Rattle.t85_core.specs.Steps.Pieces.{CutOff, HeadStands, WalkStands, StageStands, StepsOn, StepsOff, StepsToEnd, Step, RowStep, RowLeaves, KeepsPlace, Turn, IsOver, CodeStands, IsInCode, rows_in, head_place, code_place}
 use Rattle.t85_core.specs.Steps.StripeEnds.{StripeEnds}
@@ -46,14 +46,12 @@ put_stage h height w text out k e s = subst (λ z. StageStands z (sized h height
 
 -- a walk that carries the same, at another stage or of another text
 pub walk_with : {h : Fields} {height : ℕ} {w : WalkView} {text out text' out' : List ℕ} {decoder : Decoder} {stage' : Kind} {given : Bool} {at : Option Move} {comment row : ℕ} {place : RowPlace} {first : Option Code} {marker : Option Bool} →
-    WalkStands (sized h height) w text out → IfSome at (λ to. to.offset ≤ 127) → IfSome first IsByteOrMarker → IfSome marker (λ _. first ≡ None) → place.done < h.xd →
+    WalkStands (sized h height) w text out → IfSome first IsByteOrMarker → IfSome marker (λ _. first ≡ None) → place.done < h.xd →
     StageStands stage' (sized h height) (record w { decoder = decoder; stage = stage'; given = given; at = at; comment = comment; row = row; place = place; first = first; marker = marker }) text' out' →
     WalkStands (sized h height) (record w { decoder = decoder; stage = stage'; given = given; at = at; comment = comment; row = row; place = place; first = first; marker = marker }) text' out'
-walk_with s at_is code_is behind within stands = record {
+walk_with s code_is behind within stands = record {
   left_is = s.left_is;
   width_is = s.width_is;
-  offset_is = s.offset_is;
-  at_is = at_is;
   code_is = code_is;
   behind = behind;
   within = within;
@@ -62,10 +60,10 @@ walk_with s at_is code_is behind within stands = record {
 
 -- as far in its row
 pub walk_at : {h : Fields} {height : ℕ} {w : WalkView} {text out text' out' : List ℕ} {decoder : Decoder} {stage' : Kind} {given : Bool} {at : Option Move} {comment row : ℕ} {first : Option Code} {marker : Option Bool} →
-    WalkStands (sized h height) w text out → IfSome at (λ to. to.offset ≤ 127) → IfSome first IsByteOrMarker → IfSome marker (λ _. first ≡ None) →
+    WalkStands (sized h height) w text out → IfSome first IsByteOrMarker → IfSome marker (λ _. first ≡ None) →
     StageStands stage' (sized h height) (record w { decoder = decoder; stage = stage'; given = given; at = at; comment = comment; row = row; first = first; marker = marker }) text' out' →
     WalkStands (sized h height) (record w { decoder = decoder; stage = stage'; given = given; at = at; comment = comment; row = row; first = first; marker = marker }) text' out'
-walk_at s at_is code_is behind stands = walk_with s at_is code_is behind s.within stands
+walk_at s code_is behind stands = walk_with s code_is behind s.within stands
 
 pub nil_of : (xs : List ℕ) → length xs ≡ 0 → xs ≡ []
 nil_of [] e = refl

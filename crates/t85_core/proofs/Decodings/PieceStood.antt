@@ -381,11 +381,12 @@ part_broken d p front behind fault late going p_is off other not_end is_all text
 
 -- an end marker is read ahead
 pub walk_ahead : (h : Fields) (height : ℕ) (w : WalkView) (text out : List ℕ) (reset : Bool) → IsInCode w.stage → w.first ≡ None → w.marker ≡ None → WalkStands (sized h height) w text out →
-    WalkStands (sized h height) (record w { first = Some (code.Marker reset) }) (text ++ marker_bytes reset) out
-walk_ahead h height w text out reset in_code none unmarked s = walk_at s s.at_is tt (subst (λ z. IfSome z (λ _. Some (code.Marker reset) ≡ None)) (sym unmarked) tt) (by in_code) where
-  by : IsInCode w.stage → StageStands w.stage (sized h height) (record w { first = Some (code.Marker reset) }) (text ++ marker_bytes reset) out
-  by (inl e) = put_stage h height (record w { first = Some (code.Marker reset) }) (text ++ marker_bytes reset) out stage.Code e (code_ahead reset none unmarked (at_stage e s))
-  by (inr e) = put_stage h height (record w { first = Some (code.Marker reset) }) (text ++ marker_bytes reset) out stage.Row e (row_ahead reset none unmarked (at_stage e s))
+    WalkStands (sized h height) (record w { first = Some (code.Marker reset); marker = None }) (text ++ marker_bytes reset) out
+walk_ahead h height w text out reset in_code none unmarked s = subst (λ m. WalkStands (sized h height) (record w { first = Some (code.Marker reset); marker = m }) (text ++ marker_bytes reset) out) unmarked
+    (walk_at s tt (subst (λ z. IfSome z (λ _. Some (code.Marker reset) ≡ None)) (sym unmarked) tt) (by in_code)) where
+      by : IsInCode w.stage → StageStands w.stage (sized h height) (record w { first = Some (code.Marker reset) }) (text ++ marker_bytes reset) out
+      by (inl e) = put_stage h height (record w { first = Some (code.Marker reset) }) (text ++ marker_bytes reset) out stage.Code e (code_ahead reset none unmarked (at_stage e s))
+      by (inr e) = put_stage h height (record w { first = Some (code.Marker reset) }) (text ++ marker_bytes reset) out stage.Row e (row_ahead reset none unmarked (at_stage e s))
 
 -- ---- the stripe before
 
@@ -467,10 +468,10 @@ module _ (h : Fields) (w : WalkView) (b : Head) (place : Place) (done back out :
   -- a walk there
   pub entered_walk : (comment : Option ℕ) → b.comment ≡ comment →
       WalkStands (sized h h.yd) (record w { stage = head_kind comment; at = b.at; comment = comment_left comment; row = 0; place = place_from None; first = None; marker = None }) (done ++ back) out
-  entered_walk None between = walk_with s bs.at_is tt tt (omega (arith, s.within)) (subst (λ z. HeadStands (sized h h.yd) (head_place w.entities w.given b.at w.carried) (done ++ z) out) (sym (front_is bs between)) full)
+  entered_walk None between = walk_with s tt tt (omega (arith, s.within)) (subst (λ z. HeadStands (sized h h.yd) (head_place w.entities w.given b.at w.carried) (done ++ z) out) (sym (front_is bs between)) full)
   entered_walk (Some left) inside =
       let k = part_of bs left inside in
-      walk_with s bs.at_is tt tt (omega (arith, s.within)) (record {
+      walk_with s tt tt (omega (arith, s.within)) (record {
         before = done ++ bs.front;
         head = full;
         part = k.0;
@@ -529,7 +530,7 @@ code_entered q d e d' c dec p rest late waits head between is at p_is header hei
 
   now : CodeWalks (fields_of d.header) (record e.walk { decoder = dec; stage = stage.Code; comment = 0; row = 0; place = place_from None; first = Some c; marker = None }) (text ++ code_bytes c) (out ++ [])
   now = record {
-    walk = subst (WalkStands (sized (fields_of d.header) d.header.yd) (record e.walk { decoder = dec; stage = stage.Code; comment = 0; row = 0; place = place_from None; first = Some c; marker = None }) (text ++ code_bytes c)) (sym (append-nil out)) (walk_with there there.at_is is tt (omega (arith, there.within)) (head_code in_head c is dec at));
+    walk = subst (WalkStands (sized (fields_of d.header) d.header.yd) (record e.walk { decoder = dec; stage = stage.Code; comment = 0; row = 0; place = place_from None; first = Some c; marker = None }) (text ++ code_bytes c)) (sym (append-nil out)) (walk_with there is tt (omega (arith, there.within)) (head_code in_head c is dec at));
     in_code = inl refl;
     ungiven = head.given;
     in_time = in_time_empty q (own_height d.header) in_head c;

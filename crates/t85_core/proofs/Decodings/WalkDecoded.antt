@@ -13,7 +13,7 @@ use Rattle.raster_core.specs.Lines.{numbers_from}
 use Rattle.std.proofs.lemmas.List.{length-map}
 use Rattle.raster_core.specs.declared.shape.Shape.{Shape}
 use Rattle.t85_core.specs.declared.segments.Code as code_type
-use Rattle.t85_core.specs.declared.segments.Move as move
+use Rattle.t85_core.specs.declared.segments.atmove.Move as move
 use Rattle.t85_core.specs.Lent.{Carried}
 use Rattle.t85_core.specs.Header.{Fields}
 use Rattle.t85_core.specs.Grammar.{Segment, segment_bytes, marker_bytes, stripe_bytes}

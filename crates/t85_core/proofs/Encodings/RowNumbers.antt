@@ -1,5 +1,7 @@
 -- A row encoder that is made of another one's numbers.
-use Rattle.std.proofs.Common.{◌≡◌, ℕ, sym, ◌∙◌, ap}
+use Rattle.std.proofs.Common.{◌≡◌, ◌≤◌, ℕ, sym, ◌∙◌, ap}
+use Rattle.std.specs.Coded.{le_prop}
+use mathlib.Core.HLevel.{is_prop→PathP}
 use Rattle.raster_core.specs.declared.shape.Shape.{Shape}
 use Rattle.t85_core.specs.Jbg.{Settings}
 use Rattle.t85_core.specs.Steps.EncodeRows.{IsShape}
@@ -29,10 +31,10 @@ one_plan p q =
 pub one_view : {image : Image} {v w : RowView} → IsPlan image v.plan → IsPlan image w.plan →
     (v.kept.offset ≡ w.kept.offset) × (v.kept.previous_typical ≡ w.kept.previous_typical) → v.learned ≡ w.learned →
     v.tally ≡ w.tally → v.encoder ≡ w.encoder → v.rows ≡ w.rows → v.in_stripe ≡ w.in_stripe → v.is_counted ≡ w.is_counted → v.named ≡ w.named → v ≡ w
-one_view p q kept learned tally encoder rows in_stripe is_counted named =
+one_view {v = v} {w} p q kept learned tally encoder rows in_stripe is_counted named =
     λ i. record {
       plan = (one_plan p q) i;
-      kept = record { offset = kept.0 i; previous_typical = kept.1 i };
+      kept = record { offset = kept.0 i; previous_typical = kept.1 i; low = is_prop→PathP (λ j. kept.0 j ≤ 127) (λ j. le_prop) v.kept.low w.kept.low i };
       learned = learned i;
       tally = tally i;
       encoder = encoder i;

@@ -7,7 +7,7 @@ use Rattle.std.proofs.lemmas.List.Sums.{sum_by-append}
 use Rattle.qm_core.specs.Code.{stuffed}
 use Rattle.t85_core.specs.declared.fault.Fault.{Fault}
 use Rattle.t85_core.specs.declared.fault.Fault.TheVariants.{Truncated, Changed}
-use Rattle.t85_core.specs.declared.segments.Move as move
+use Rattle.t85_core.specs.declared.segments.atmove.Move as move
 use Rattle.t85_core.specs.Header.{Fields}
 use Rattle.t85_core.specs.Grammar.{Segment, NewLength, Move, Comment, lengths, segment_bytes, is_move, is_comment, marker_bytes, Stripe, all_segments, IsLegal, is_valid_length}
 use Rattle.t85_core.specs.Coding.{move_of}

@@ -1,11 +1,11 @@
 -- The marker segments of a stripe that arrive in pieces: those before its code, and those behind an end marker, while a height may
 -- still follow.
-use Rattle.std.specs.Prelude.{ℕ, ◌+◌, ◌^◌, ◌≡◌, ◌≤◌, ◌<◌, Bool, true, false, ◌||◌, List, [], ◌∷◌, ◌++◌, length, Option, Some, None, IfSome, is_some}
+use Rattle.std.specs.Prelude.{ℕ, ◌+◌, ◌^◌, ◌≡◌, ◌≤◌, ◌<◌, Bool, true, false, ◌||◌, List, [], ◌∷◌, ◌++◌, length, Option, Some, None, is_some}
 use Rattle.byteorder.specs.Endian.{big_bytes}
 use Rattle.t85_core.specs.declared.fault.Fault.{Fault}
 use Rattle.t85_core.specs.declared.fault.Fault.TheVariants.{Truncated}
 use Rattle.t85_core.specs.declared.pieces.head.Head.{Head}
-use Rattle.t85_core.specs.declared.segments.Move as move
+use Rattle.t85_core.specs.declared.segments.atmove.Move as move
 use Rattle.t85_core.specs.declared.segments.Next.{Next}
 use Rattle.t85_core.specs.declared.segments.Next.TheVariants as next
 use Rattle.t85_core.specs.declared.segments.Place.{Place}
@@ -45,7 +45,6 @@ pub record BehindStands (h : Fields) (here : BehindPlace) (b : Head) (back : Lis
   pub front : List ℕ
   pub comments : ℕ
   pub passed : HasPassed h (place_at_head here) here.last (Some front) (Some []) (segments_so_far b.at (move_came here.last b.at) here.place.given comments)
-  pub at_is : IfSome b.at (λ to. to.offset ≤ 127)
   pub begun : CommentBegun b.comment front back
 
 -- More bytes followed.

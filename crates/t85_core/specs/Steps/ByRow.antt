@@ -85,7 +85,6 @@ IsLined window = (lines : Lines) × HasLines window lines
 -- The precondition of a call that encodes a row.
 pub record IsAble (e : RowEncoder) : Type 0 where
   pub wide : e.shape.width ≡ e.size.width
-  pub offset : e.kept.offset ≤ 127
   pub named : IfSome e.named (λ t. t ≤ 127)
   pub most : e.most_offset ≤ 127
   pub few : e.in_stripe ≤ e.stripe_rows

@@ -10,7 +10,7 @@ use Rattle.raster_core.specs.Window.{shape_mode}
 use Rattle.raster_core.specs.Packed.{HasLines, packed_row}
 use Rattle.raster_core.specs.declared.shape.Shape.{Shape}
 use Rattle.t85_core.specs.Lent.{Carried}
-use Rattle.t85_core.specs.declared.segments.Move.{Move}
+use Rattle.t85_core.specs.declared.segments.atmove.Move.{Move}
 use Rattle.t85_core.specs.Header.{Fields}
 use Rattle.t85_core.specs.Grammar.{Segment}
 use Rattle.t85_core.specs.Coding.{FlaggedRows, flagged, mode_of, move_of}

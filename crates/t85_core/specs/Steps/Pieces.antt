@@ -10,7 +10,7 @@ use Rattle.t85_core.specs.declared.fault.Fault.{Fault}
 use Rattle.t85_core.specs.declared.fault.Fault.TheVariants.{Truncated, Changed}
 use Rattle.t85_core.specs.declared.segments.Code.{Code}
 use Rattle.t85_core.specs.declared.segments.Code.TheVariants as code
-use Rattle.t85_core.specs.declared.segments.Move as move
+use Rattle.t85_core.specs.declared.segments.atmove.Move as move
 use Rattle.t85_core.specs.declared.pieces.walk.Walk.{Walk}
 use Rattle.t85_core.specs.declared.pieces.code.InCode.{InCode}
 use Rattle.raster_core.specs.declared.shape.Kept.{Kept}
@@ -134,8 +134,6 @@ StageStands stage.Done image w text out = ImageRead image.fields image.height (p
 pub record WalkStands (image : SizedImage) (w : WalkView) (text out : List ℕ) : Type 0 where
   pub left_is : w.left ≡ image.height - w.entities * image.fields.l0
   pub width_is : w.carried.held.width ≡ image.fields.xd
-  pub offset_is : w.carried.kept.offset ≤ 127
-  pub at_is : IfSome w.at (λ to. to.offset ≤ 127)
   pub code_is : IfSome w.first IsByteOrMarker
   pub behind : IfSome w.marker (λ _. w.first ≡ None)
   pub within : w.place.done < image.fields.xd
@@ -196,13 +194,9 @@ abbrev pub HasMarker : WalkView → Type 0
 HasMarker w = MarkerRead w.marker w.first
 
 -- A row of this width can be decoded from here.
-pub record RowFits (width : ℕ) (c : InCode) (kept : Kept) (rows : Held) : Type 0 where
+pub record RowFits (width : ℕ) (c : InCode) (rows : Held) : Type 0 where
   pub width_is : rows.width ≡ width
   pub within : IfSome c.begun (λ place. place.done < width)
-  pub offset_is : kept.offset ≤ 127
-  pub at_is : IfSome c.at (λ to. to.offset ≤ 127)
-  pub code_is : IfSome c.first IsByteOrMarker
-  pub behind : IfSome c.marker (λ _. c.first ≡ None)
 
 -- the stripe stays the same
 pub record KeepsPlace (w w' : WalkView) : Type 0 where

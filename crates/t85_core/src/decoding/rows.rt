@@ -92,7 +92,6 @@ pub fn put_copies<P: ByteTarget>(bytes: &[u8], count: u32, target: &mut P) -> Re
 
 /// The offset in a row of a stripe, given the offset in the row before.
 pub fn offset_in(at: Option<Move>, row: u32, before: u8) -> u8
-    requires at { IfSome at (λ to. to.offset ≤ 127) }
     requires before { before ≤ 127 }
     ensures bound { result ≤ 127 }
     ensures is { result ≡ offset_at (option_map pair_of at) row before }

@@ -76,9 +76,7 @@ pub fn move_pixel<P: ByteTarget>(
     tally: &Tally,
     target: &mut P,
 ) -> Result<(), Fault>
-    requires offset { kept.old.offset ≤ 127 }
     requires named { IfSome named (λ t. t ≤ 127) }
-    ensures offset { kept.new.offset ≤ 127 }
     ensures ok { OnOk result ((s : Settings) (width : ℕ) (at : EncoderStart) →
         kept.old.offset ≡ at.carry.offset → named ≡ named_for s at.stripe →
         IsTallied s width at tally.now →
@@ -160,18 +158,17 @@ pub fn end_entity<P: ByteTarget>(encoder: Encoder, reset: bool, target: &mut P) 
 }
 
 /// Counts the window's current row, with the given offset, if there is one.
-pub fn count_row(counted: Option<u8>, width: u32, window: &Window<'_>, tally: &mut Tally)
-    requires width { width_of window.now ≡ width }
+pub fn count_row(counted: Option<u8>, window: &Window<'_>, tally: &mut Tally)
     requires offset { IfSome counted (λ offset. offset ≤ 127) }
     ensures counts { (lines : List Lines) (l : Lines) → length lines < 2 ^ 32 - 1 →
-        HasLines (held window.now) l → IsCountedTo width counted tally.old lines →
-        IsCountedTo width counted tally.new (lines ++ l ∷ []) }
+        HasLines (held window.now) l → IsCountedTo (width_of window.now) counted tally.old lines →
+        IsCountedTo (width_of window.now) counted tally.new (lines ++ l ∷ []) }
     ensures none { counted ≡ None → tally.new ≡ tally.old }
     ensures two_line { is_two_line tally.new ≡ is_two_line tally.old }
     ensures most { most_of tally.new ≡ most_of tally.old }
 {
     if let Some(offset) = counted {
-        tally.add_row(window, width, offset);
+        tally.add_row(window, offset);
     }
 }
 

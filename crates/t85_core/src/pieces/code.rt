@@ -1,28 +1,19 @@
 //! The code of a stripe that arrives in pieces.
 
-ghost use Rattle.std.specs.Prelude.{◌≡◌, ◌≢◌, ◌≤◌, ◌<◌, ◌+◌, ◌⊎◌, ◌++◌, Bool, List, ℕ, length, min, None, Option, IfErr, IfOk, IsErrOf, IsOk, OnOk, Some, false, true};
-ghost use Rattle.qm_core.specs.Place.{Estimate};
-ghost use Rattle.raster_core.specs.Window.{held};
+ghost use Rattle.std.specs.Prelude.{◌≡◌, ◌<◌, Bool, ℕ, None, Some};
 ghost use Rattle.t85_core.specs.declared.segments.Code.TheVariants as code;
-ghost use Rattle.t85_core.specs.declared.fault.Fault.TheVariants.{Truncated, Changed};
-ghost use Rattle.t85_core.specs.Lent.{KeepsLent, StripeAt, code_lent};
-ghost use Rattle.t85_core.specs.Stages.{code_start};
-ghost use Rattle.t85_core.specs.Steps.Buffers.{copies};
-ghost use Rattle.t85_core.specs.Steps.InTime.{ReachesMarker};
-ghost use Rattle.t85_core.specs.Steps.PieceCode.{FindsMarker, MissesMarker, KeepsCode, SkipsSome, SkipBreaks};
-ghost use Rattle.t85_core.specs.Steps.Pieces.{AfterRows, MarkerIs, MarkerRead, SomeStands, Step, WalkStands};
-ghost use Rattle.t85_core.specs.Steps.SizedImage.{sized_of};
 
+mod find;
 mod row;
 
 use crate::decoding::rows::{is_settled, skip_many};
 use crate::fault::Fault;
 use crate::header::SizedImage;
-use crate::input_buffer::ByteSource;
 use crate::laws::coder_laws;
 use crate::lent::Lent;
+use crate::pieces::code::find::find_marker;
 use crate::pieces::piece::Piece;
-use crate::segments::{Code, Move, next_code};
+use crate::segments::{Code, Move};
 use qm_core::Decoder;
 use raster_core::{Kept, RowPlace};
 
@@ -39,12 +30,24 @@ pub struct InCode {
     pub first: Option<Code>,
     /// Whether the end marker resets, once a row has read it.
     pub marker: Option<bool>,
+    ghost small: { (b : ℕ) → first ≡ Some (code.Byte b) → b < 256 },
+    ghost behind: { (r : Bool) → marker ≡ Some r → first ≡ None },
 }
 
 impl InCode {
+    ghost use Rattle.std.specs.Prelude.{◌≢◌, ◌≤◌, ◌++◌, List, length, min, IfErr, IfOk, OnOk};
+    ghost use Rattle.raster_core.specs.Window.{held};
+    ghost use Rattle.t85_core.specs.declared.fault.Fault.TheVariants.{Changed};
+    ghost use Rattle.t85_core.specs.Lent.{KeepsLent, StripeAt, code_lent};
+    ghost use Rattle.t85_core.specs.Stages.{StartsCode};
+    ghost use Rattle.t85_core.specs.Steps.Buffers.{copies};
+    ghost use Rattle.t85_core.specs.Steps.InTime.{ReachesMarker};
+    ghost use Rattle.t85_core.specs.Steps.Pieces.{AfterRows, MarkerIs, MarkerRead, SomeStands, Step, WalkStands};
+    ghost use Rattle.t85_core.specs.Steps.SizedImage.{sized_of};
+
     /// Before the first row of a stripe with this move. The first element of its code has been read.
     pub fn start(at: Option<Move>, first: Code) -> InCode
-        ensures { result ≡ code_start at first }
+        ensures { StartsCode at first result }
     {
         InCode {
             at,
@@ -122,52 +125,5 @@ impl InCode {
         let reset = find_marker(&mut self.first, self.marker, piece)?;
         self.first = Some(Code::Marker(reset));
         Ok(reset)
-    }
-}
-
-/// Skips the rest of a code, and returns whether its end marker resets. If the marker has not arrived yet, skips what
-/// has.
-pub fn find_marker(
-    first: &mut Option<Code>,
-    marker: Option<bool>,
-    piece: &mut Piece<'_>,
-) -> Result<bool, Fault>
-    ensures ok { IfOk result (FindsMarker first.old marker piece.old.rest.now piece.new.rest.now) }
-    ensures err { IfErr result (MissesMarker first.old marker piece.old.rest.now) }
-    ensures more { IsErrOf result Truncated → KeepsCode first.old first.new marker
-        piece.old.rest.now piece.new.rest.now }
-    ensures gone { IfErr result (λ _. first.new ≡ None) }
-    ensures few { IsErrOf result Truncated → length piece.new.rest.now ≤ 1 }
-    ensures no_more { length piece.new.rest.now ≤ length piece.old.rest.now }
-    ensures whole { (reset : Bool) → (marker ≡ Some reset) ⊎ (first.old ≡ Some (code.Marker reset))
-        → IsOk result }
-{
-    if let Some(reset) = marker {
-        return Ok(reset);
-    }
-    match first.take() {
-        Some(Code::Marker(reset)) => Ok(reset),
-        Some(Code::Byte(_)) => skip_some(piece),
-        None => skip_some(piece),
-    }
-}
-
-/// Skips bytes of a code, and its end marker, as far as they have arrived.
-fn skip_some(piece: &mut Piece<'_>) -> Result<bool, Fault>
-    ensures ok { IfOk result (SkipsSome piece.old.rest.now piece.new.rest.now) }
-    ensures err { IfErr result (SkipBreaks piece.old.rest.now piece.new.rest.now) }
-    ensures no_more { length piece.new.rest.now ≤ length piece.old.rest.now }
-{
-    'code: loop {
-        piece.skip_plain();
-        let rest = piece.rest;
-        match next_code(piece) {
-            Ok(Code::Byte(_)) => {}
-            Ok(Code::Marker(reset)) => return Ok(reset),
-            Err(fault) => {
-                piece.rest = rest;
-                return Err(fault);
-            }
-        }
     }
 }

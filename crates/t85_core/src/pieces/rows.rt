@@ -28,7 +28,6 @@ pub fn go_on_in_row<const PART: usize>(
     code: &mut PieceCode<'_, PART>,
 ) -> Result<(), Fault>
     requires row { MayGoOnRow shape kept.old place.old lent.old.window.now decoder.old }
-    requires ahead { IfSome code.old.first IsByteOrMarker }
     requires unbroken { code.old.fault ≡ None }
     ensures ok { OnOk result (EndsRow shape
         (row_state lent.old kept.old decoder.old place.old code.old)
@@ -39,7 +38,6 @@ pub fn go_on_in_row<const PART: usize>(
         (row_state lent.old kept.old decoder.old place.old code.old)
         (row_state lent.new kept.new decoder.new place.new code.new) }
     ensures lent { KeepsLent lent.old lent.new }
-    ensures offset { kept.new.offset ≤ 127 }
     ensures within { place.new.done < shape.width }
     ensures start { OnOk result (IsRowStart place.new) }
     ensures drained { IfErr result (λ _. LeavesEscape code.old.piece.rest.now

@@ -172,9 +172,10 @@ impl Walk {
     /// Stores the end marker of the code that has begun, and whether it resets, as read ahead.
     pub fn read_ahead(&mut self, reset: bool)
         ensures ahead { IsInCode (stage_kind self.old.stage) → Alone (λ w w'. w' ≡ record w
-            { first = Some (code.Marker reset) }) self.old self.new }
+            { first = Some (code.Marker reset); marker = None }) self.old self.new }
     {
         if let Stage::Code(code) = &mut self.stage {
+            code.marker = None;
             code.first = Some(Code::Marker(reset));
         }
     }

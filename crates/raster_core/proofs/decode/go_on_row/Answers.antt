@@ -9,5 +9,5 @@ returns-else-is_ok-clause-row g c = λ s answers lines h.
     let l : c.learned-1.given.0 ≡ c.decode_at-outcome.new.reader.learned.now = search rules in
     rw (to, d, l)
     (passes (λ _. refl) c.resume.ensures.unchanged c.decode_at-outcome.ensures.reads.0.1 c.resume.ensures.stands
-    (same_goes (rw (c.requires.row.1) refl) (rw (c.requires.row.1) refl)
+    (same_goes (rw (c.requires.row.0) refl) (rw (c.requires.row.0) refl)
     (c.decode_at-outcome.ensures.row s answers lines) h))

@@ -14,13 +14,13 @@ returns-in_err-encode_as-clause-row g c = λ p pushed lines going at w.
 
 pub returns-clause-fails : goal.returns-clause-fails
 returns-clause-fails g c =
-    let width : c.rows-rows.result.width ≡ c.args.shape.width = ap (λ (h : Held). h.width) c.rows-rows.ensures ∙ c.requires.row.1 in
+    let width : c.rows-rows.result.width ≡ c.args.shape.width = ap (λ (h : Held). h.width) c.rows-rows.ensures ∙ c.requires.row.0 in
     let some = coded_some (shape_mode c.args.shape) _ c.rows-rows.result c.args.kept.now.previous_typical c.is_typical-flag.result c.is_typical-flag.ensures.typical (omega arith) in
     put_or_failed (search rules) (search rules) some c.in_ok-encode_as.ensures
 
 pub returns-clause-events : goal.returns-clause-events
 returns-clause-events g c =
-    let width : c.rows-rows.result.width ≡ c.args.shape.width = ap (λ (h : Held). h.width) c.rows-rows.ensures ∙ c.requires.row.1 in
+    let width : c.rows-rows.result.width ≡ c.args.shape.width = ap (λ (h : Held). h.width) c.rows-rows.ensures ∙ c.requires.row.0 in
     let most = counts_to _ _ _ _ _ c.in_ok-encode_as.ensures in
     let few = most in
     grind (arith, common_steps)

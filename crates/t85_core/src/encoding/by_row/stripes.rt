@@ -149,14 +149,14 @@ impl RowEncoder {
             target,
         )?;
         let counted = self.counted();
-        count_row(counted, self.size.width, window, &mut learning.tally);
+        count_row(counted, window, &mut learning.tally);
         Ok(())
     }
 
     /// The offset with which the rows of this stripe are counted, if they are counted.
     fn counted(&self) -> Option<u8>
         ensures is { (learning : Learning) → result ≡ counted_of (view_of self.now learning) }
-        ensures small { self.now.kept.offset ≤ 127 → IfSome result (λ offset. offset ≤ 127) }
+        ensures small { IfSome result (λ offset. offset ≤ 127) }
     {
         if self.is_counted {
             Some(if self.reset { 0 } else { self.kept.offset })

@@ -86,7 +86,7 @@ impl Trial {
             &mut self.sink,
         );
         let counted = self.counted();
-        count_row(counted, shape.width, window, &mut self.tally);
+        count_row(counted, window, &mut self.tally);
     }
 
     /// The offset with which the row just encoded is counted, if it is counted.

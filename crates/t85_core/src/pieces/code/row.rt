@@ -25,9 +25,6 @@ use qm_core::Decoder;
 use raster_core::{Kept, RowPlace, Window};
 use std::mem::replace;
 
-/// The greatest offset of the adaptive template pixel in T.85.
-const MOST_OFFSET: u8 = 127;
-
 /// A whole row, and the rest of a row: each is compiled separately.
 const WHOLE_ROW: usize = 0;
 
@@ -56,7 +53,7 @@ impl InCode {
         ensures whole { OnOk result (self.new.begun ≡ None) }
         ensures lent { KeepsLent lent.old lent.new }
     {
-        if !self.has_row_that_fits(*kept, &image.header, lent.window) {
+        if !self.has_row_that_fits(&image.header, lent.window) {
             drop_rest(piece);
             return Err(Fault::Truncated);
         }
@@ -72,7 +69,7 @@ impl InCode {
 
     /// Moves down to the next row of a stripe, and performs its move.
     fn enter_row(&self, kept: &mut Kept, window: &mut Window<'_>)
-        requires fits { RowFits (width_of window.old) self.now kept.old (held window.old) }
+        requires fits { RowFits (width_of window.old) self.now (held window.old) }
         ensures enters { (h : Fields) (height : ℕ) (s : StripeAt) (d : Decoder) (place : RowPlace)
             (learned : List Estimate) (text out : List ℕ) → self.now.begun ≡ None →
             self.now.row < min s.left h.l0 → IsRowStart place → place.done < h.xd →
@@ -80,8 +77,7 @@ impl InCode {
             text out → WalkStands (sized h height) (code_over s (record self.now
             { begun = Some place }) kept.new d window.new learned) text out }
         ensures fits { (place : RowPlace) → place.done < width_of window.old → RowFits
-            (width_of window.old) (record self.now { begun = Some place }) kept.new
-            (held window.new) }
+            (width_of window.old) (record self.now { begun = Some place }) (held window.new) }
         ensures window { KeepsWindow window.old window.new }
     {
         kept.offset = offset_in(self.at, self.row, kept.offset);
@@ -100,7 +96,7 @@ impl InCode {
         piece: &mut Piece<'_>,
     ) -> Result<(), Fault>
         requires fits { RowFits image.now.header.xd (record self.old { begun = Some place })
-            kept.old (held lent.old.window.now) }
+            (held lent.old.window.now) }
         ensures step { (s : StripeAt) → RowStep (sized_of image.now) (code_lent s (record self.old
             { begun = Some place }) kept.old decoder.old lent.old) (code_lent s self.new kept.new
             decoder.new lent.new) piece.old.rest.now piece.new.rest.now result }
@@ -143,20 +139,11 @@ impl InCode {
     }
 
     /// Whether a row of this image can be decoded from here.
-    fn has_row_that_fits(&self, kept: Kept, header: &Header, window: &Window<'_>) -> bool
-        ensures yes { result ≡ true → RowFits header.now.xd self.now kept (held window.now) }
-        ensures no { result ≡ false → RowFits header.now.xd self.now kept (held window.now) → ⊥ }
+    fn has_row_that_fits(&self, header: &Header, window: &Window<'_>) -> bool
+        ensures yes { result ≡ true → RowFits header.now.xd self.now (held window.now) }
+        ensures no { result ≡ false → RowFits header.now.xd self.now (held window.now) → ⊥ }
     {
-        if window.width() != header.xd || kept.offset > MOST_OFFSET {
-            return false;
-        }
-        if !self.has_low_move() || !self.has_place_within(header.xd) {
-            return false;
-        }
-        if self.is_ahead() {
-            return self.marker.is_none();
-        }
-        true
+        window.width() == header.xd && self.has_place_within(header.xd)
     }
 
     /// Whether the next row has not begun, or has not reached this width.
@@ -167,30 +154,6 @@ impl InCode {
         match self.begun {
             Some(place) => place.done() < width,
             None => true,
-        }
-    }
-
-    /// Whether the move of the stripe, if there is one, has an allowed offset.
-    fn has_low_move(&self) -> bool
-        ensures yes { result ≡ true → IfSome self.now.at (λ to. to.offset ≤ 127) }
-        ensures no { result ≡ false → IfSome self.now.at (λ to. to.offset ≤ 127) → ⊥ }
-    {
-        match self.at {
-            Some(to) => to.offset <= MOST_OFFSET,
-            None => true,
-        }
-    }
-
-    /// Whether a byte of the code, or its end marker, was read ahead.
-    fn is_ahead(&self) -> bool
-        ensures code { IfSome self.now.first IsByteOrMarker }
-        ensures yes { result ≡ true → self.now.first ≢ None }
-        ensures no { result ≡ false → self.now.first ≡ None }
-    {
-        match self.first {
-            Some(Code::Byte(_byte)) => true,
-            Some(Code::Marker(_reset)) => true,
-            None => false,
         }
     }
 }

@@ -4,8 +4,8 @@ use Rattle.uses.proofs.kept.next_of_kept.Goals as goal
 
 pub returns-clause-on : goal.returns-clause-on
 returns-clause-on c =
-    kept_call {d = c.resume-decoder.result} {d' = c.feed-progress.new.self} {window = c.resume-window.result} {window' = c.feed-progress.new.window}
-    (record { header_is = c.resume-decoder.ensures.stream; rows_are = c.resume-window.ensures.held; resumes = c.resume-decoder.ensures.resumes })
+    kept_call {d = c.in_ok-decoder.decoder} {d' = c.feed-progress.new.self} {window = c.resume-window.result} {window' = c.feed-progress.new.window}
+    (record { header_is = c.in_ok-decoder.ensures.is.0; rows_are = c.resume-window.ensures.held; resumes = c.in_ok-decoder.ensures.resumes })
     (record {
       numbers = c.numbers.ensures;
       place = c.place.ensures.place;

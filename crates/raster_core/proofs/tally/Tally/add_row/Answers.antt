@@ -1,4 +1,4 @@
-use Rattle.std.proofs.Common.{ℕ, ◌≡◌, subst, ◌*◌, ◌≤◌, ◌∙◌, arith, length, min, ◌==◌, refl}
+use Rattle.std.proofs.Common.{ℕ, ◌≡◌, subst, ◌*◌, ◌≤◌, ◌∙◌, arith, length, min, ◌==◌}
 use Rattle.std.specs.Int.{div_ceil}
 use Rattle.raster_core.specs.Offset.{agreements}
 use Rattle.raster_core.specs.Tally.{least_lag, last_lag}
@@ -9,29 +9,31 @@ use Rattle.raster_core.proofs.tally.Tally.add_row.Goals as goal
 
 pub returns-clause-counts : goal.returns-clause-counts
 returns-clause-counts c rows lines few k w =
-    let long = w.row_wide ∙ c.requires.width in
+    let is = c.width-width.ensures in
+    let long = w.row_wide in
     let e = c.row-row.ensures ∙ w.row_is in
     let f = c.row-above.ensures ∙ w.above_is in
-    let whole : c.args.width ≤ 64 * div_ceil c.args.width 64 = omega arith in
+    let whole : c.args.window.now.width ≤ 64 * div_ceil c.args.window.now.width 64 = omega arith in
     let wide_row : (lag : ℕ) → part_agreement lines c.count_row.new.self.last.width lag 0 (64 * div_ceil c.count_row.new.self.last.width 64) ≡ agreements lag lines =
-    (λ lag. rw (c.count_row.ensures.last.0) (part_all lines c.args.width lag (64 * div_ceil c.args.width 64) long whole)) in
+    (λ lag. rw (c.count_row.ensures.last.0 ∙ is) (part_all lines c.args.window.now.width lag (64 * div_ceil c.args.window.now.width 64) long whole)) in
     let more = length_push rows lines in
     record {
       number = omega (arith, more, k.number, c.count_row.ensures.same.rows, few);
-      width_is = λ some. refl;
-      wide = all_push (λ l. length l.row ≡ c.args.width) rows lines k.wide long;
+      width_is = λ some. is;
+      wide = all_push (λ l. length l.row ≡ c.args.window.now.width) rows lines k.wide long;
       none = λ empty. absurd (omega arith);
       each = λ lag from' to'.
           let from : least_lag (c.args.self.now.two_line == 1) ≤ lag = rw (← c.count_row.ensures.same.two_line) from' in
-          let to : lag ≤ last_lag (c.args.self.now.two_line == 1) (min c.args.self.now.most 127) c.args.width =
-          rw (← c.count_row.ensures.same.most) (subst (λ t. lag ≤ last_lag (t == 1) (min c.count_row.new.self.most 127) c.args.width) c.count_row.ensures.same.two_line to') in
+          let to : lag ≤ last_lag (c.args.self.now.two_line == 1) (min c.args.self.now.most 127) c.args.window.now.width =
+          rw (← c.count_row.ensures.same.most) (subst (λ t. lag ≤ last_lag (t == 1) (min c.count_row.new.self.most 127) c.args.window.now.width) c.count_row.ensures.same.two_line to') in
           let low : c.least_lag-least.result ≤ lag = omega (arith, c.least_lag-least.ensures.lag, from) in
-          let high : lag ≤ c.last_lag-most.result = omega (arith, to, c.last_lag-most.ensures) in
+          let top : c.last_lag-most.result ≡ last_lag (c.args.self.now.two_line == 1) (min c.args.self.now.most 127) c.args.window.now.width = subst (λ n. c.last_lag-most.result ≡ last_lag (c.args.self.now.two_line == 1) (min c.args.self.now.most 127) n) is c.last_lag-most.ensures in
+          let high : lag ≤ c.last_lag-most.result = omega (arith, to, top) in
           let counted = c.count_row.ensures.counts k.kept lines e lag (omega (arith, low, c.count_row.ensures.last.1)) (omega (arith, high, c.count_row.ensures.last.2)) in
           rw (c.agreeing-agreeing.ensures.same, once_more, c.count_row.ensures.same.counted lag low high, k.each lag from to, counted, wide_row lag)
-          (row_more rows lines c.args.width lag k.wide long (omega arith) (omega arith));
+          (row_more rows lines c.args.window.now.width lag k.wide long (omega arith) (omega arith));
       agreeing =
           rw (c.count_row.ensures.same.agreeing, k.agreeing, c.agreeing-agreeing.ensures.agreed lines (c.count_row.ensures.kept k.kept) (c.count_row.ensures.counts k.kept) e f, wide_row c.args.offset)
-          (row_more rows lines c.args.width c.args.offset k.wide long (omega arith) (omega arith));
+          (row_more rows lines c.args.window.now.width c.args.offset k.wide long (omega arith) (omega arith));
       kept = c.agreeing-agreeing.ensures.kept (c.count_row.ensures.kept k.kept);
     }

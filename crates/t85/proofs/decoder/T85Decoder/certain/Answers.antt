@@ -1,7 +1,23 @@
-use Rattle.std.proofs.Common.{◌∙◌, sym}
+use Rattle.std.proofs.Common.{◌∙◌, ap, inr, sym, rules}
 use Rattle.t85_core.specs.Options.{fields_of}
+use Rattle.t85.specs.DecoderState.{hold_of}
+use Rattle.t85.proofs.DecoderCalls.{decoder_certain, never_begun, none_resumed, one_resumed}
 use Rattle.t85.proofs.DecoderHeader.{not_some}
 use Rattle.t85.proofs.decoder.T85Decoder.certain.Goals as goal
 
-pub returns-in-Err : goal.returns-in-Err
-returns-in-Err c = λ window stream out k. absurd (not_some _ (sym (c.headers.ensures.not_refused c.args.self.now.header (fields_of k.decoder.header) k.header_of) ∙ c.in-Err.ensures.refused))
+pub returns-in-Err-clause-certain : goal.returns-in-Err-clause-certain
+returns-in-Err-clause-certain c = λ window stream out k. absurd (not_some _ (sym (c.headers.ensures.not_refused c.args.self.now.header (fields_of k.decoder.header) k.header_of) ∙ c.in-Err.ensures.refused))
+
+pub returns-in-Some-clause-certain : goal.returns-in-Some-clause-certain
+returns-in-Some-clause-certain c =
+    let is = c.in-Some.ensures.is in
+    decoder_certain c.headers.ensures c.args.self.now c.in-Ok.header c.in-Some.decoder c.certain.result c.in-Ok.ensures.accepted (ap fields_of is.0) is.2 (c.certain.ensures.certain is.1)
+
+pub returns-in-Some-clause-not_begun : goal.returns-in-Some-clause-not_begun
+returns-in-Some-clause-not_begun c = λ no.
+    let is = c.in-Some.ensures.is in
+    absurd (never_begun c.args.self.now (fields_of c.in-Ok.header) c.requires.version (inr c.requires.next) c.in-Ok.ensures.accepted
+    (λ rows. one_resumed c.args.self.now c.in-Ok.header c.in-Some.decoder (search rules) c.in-Ok.ensures.accepted is.0 is.2) no)
+
+pub returns-in-None-clause-certain : goal.returns-in-None-clause-certain
+returns-in-None-clause-certain c = λ window stream out k. absurd (none_resumed c.headers.ensures (hold_of c.args.self.now window) c.in-Ok.header c.in-Ok.ensures.accepted (λ d header numbers. (let none = c.in-None.ensures.all d header numbers in let bot : ⊥ = cc in bot)) k)

@@ -11,10 +11,9 @@ returns-clause-has c = λ stream out.
       next_is = search rules;
       place_to = search rules;
       header_is = started.stream;
-      header_of = rw (c.hold.ensures.same.header, c.keep.ensures.same.header) c.requires.may.header_of;
+      header_of = rw c.hold.ensures.same.header c.requires.may.header_of;
       long = search rules;
       over = record { place_is = search rules; width_is = started.window.0 ∙ c.over-window.ensures.width; rows_are = search rules };
       learned_is = search rules;
-      numbers_are = search rules;
     })
     (search rules) started.none (search rules) (search rules)

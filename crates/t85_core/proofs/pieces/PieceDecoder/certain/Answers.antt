@@ -1,14 +1,29 @@
-use Rattle.std.proofs.Common.{◌+◌, ◌^◌, ◌-◌, min, ℕ, ap, ◌∙◌, true≢false}
+use Rattle.std.proofs.Common.{◌≡◌, ◌+◌, ◌^◌, ◌-◌, min, ℕ, ap, sym, subst, ◌∙◌, true≢false}
 use Rattle.std.specs.Prelude.{is_some}
+use Rattle.t85_core.specs.Options.{fields_of}
+use Rattle.t85_core.specs.Pieces.{IsLeastHeight}
 use Rattle.t85_core.proofs.Decodings.PieceCertain.{least_known, least_late}
 use Rattle.t85_core.proofs.pieces.PieceDecoder.certain.Goals as goal
 use Rattle.t85_core.proofs.pieces.PieceDecoder.certain.Goals.{then-not-self-via-then-not-self, then-not-self-via-else-not-self+then-is_some}
 
 pub returns-then-not-self-clause-certain : goal.returns-then-not-self-clause-certain
-returns-then-not-self-clause-certain c = λ rows learned text out s. elim c.then-not-self.branch [
+returns-then-not-self-clause-certain c = λ going d numbers rows learned header k own text out s. elim c.then-not-self.branch [
+  | then-not-self-via-then-not-self w ↦ subst (IsLeastHeight (fields_of d.header) text) (sym k.height_is ∙ own.height_is) (least_known _ text out s.stands (sym k.open_is ∙ own.open_is ∙ w.if-not-self.true))
+  | then-not-self-via-else-not-self+then-is_some w ↦ absurd (true≢false (w.if-is_some.ensures ∙ ap is_some going))
+]
+
+pub returns-clause-certain : goal.returns-clause-certain
+returns-clause-certain c = λ going d numbers rows learned header k own text out s.
+    let yd : c.args.self.now.header.yd ≡ d.header.yd = sym (ap (λ h. h.yd) header) in
+    let left : c.args.self.now.walk.left ≡ d.walk.left = sym own.walk_is.left_is ∙ k.walk_is.left_is in
+    least_late _ text out s.stands (sym k.open_is ∙ own.open_is ∙ c.if-not-self.false) _
+    (c.saturating_add.ensures ∙ ap (λ (n : ℕ). min (n + 1) (2 ^ 32 - 1)) (c.saturating_sub.ensures ∙ (λ i. yd i - left i)))
+
+pub returns-then-not-self-clause-own : goal.returns-then-not-self-clause-own
+returns-then-not-self-clause-own c = λ rows learned text out s. elim c.then-not-self.branch [
   | then-not-self-via-then-not-self w ↦ least_known _ text out s.stands w.if-not-self.true
   | then-not-self-via-else-not-self+then-is_some w ↦ absurd (true≢false (w.if-is_some.ensures ∙ ap is_some s.going))
 ]
 
-pub returns-clause-certain : goal.returns-clause-certain
-returns-clause-certain c = λ rows learned text out s. least_late _ text out s.stands c.if-not-self.false _ (c.saturating_add.ensures ∙ ap (λ (n : ℕ). min (n + 1) (2 ^ 32 - 1)) c.saturating_sub.ensures)
+pub returns-clause-own : goal.returns-clause-own
+returns-clause-own c = λ rows learned text out s. least_late _ text out s.stands c.if-not-self.false _ (c.saturating_add.ensures ∙ ap (λ (n : ℕ). min (n + 1) (2 ^ 32 - 1)) c.saturating_sub.ensures)

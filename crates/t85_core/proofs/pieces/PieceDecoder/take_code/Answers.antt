@@ -6,6 +6,8 @@ use Rattle.t85_core.specs.Lent.{decoder_lent, walk_lent}
 use Rattle.t85_core.specs.Stages.{place_from}
 use Rattle.t85_core.specs.Stages as kind
 use Rattle.t85_core.specs.declared.pieces.walk.Stage.TheVariants as stage
+use Rattle.raster_core.specs.Window.{held}
+use Rattle.t85_core.proofs.Decodings.HeadParts.{started_view}
 use Rattle.t85_core.proofs.Decodings.PieceStood.{leaves_of, leaves_on, code_entered, on_where, row_where}
 use Rattle.t85_core.proofs.Decodings.PieceBelow.{leaves_code}
 use Rattle.t85_core.proofs.pieces.PieceDecoder.take_code.Goals as goal
@@ -20,7 +22,7 @@ there : (c : goal.After-self-3-1) (h : HeadEntered (decoder_lent c.gives_below.n
     walk_lent (record c.enter_head.new.self.walk { decoder = c.start-self.result; stage = stage.Code c.start.result }) c.enter_head.new.lent ≡
     record (walk_lent c.enter_head.new.self.walk c.enter_head.new.lent) { decoder = c.start-self.result; stage = kind.Code; comment = 0; row = 0; place = place_from None; first = Some c.args.code; marker = None }
 there c h =
-    ap (λ z. walk_lent (record c.enter_head.new.self.walk { decoder = c.start-self.result; stage = stage.Code z }) c.enter_head.new.lent) c.start.ensures
+    started_view (record c.enter_head.new.self.walk { decoder = c.start-self.result }) (held c.enter_head.new.lent.window.now) c.enter_head.new.lent.learned.now c.start.ensures
     ∙ ap (λ a. record (walk_lent c.enter_head.new.self.walk c.enter_head.new.lent) { decoder = c.start-self.result; stage = kind.Code; at = a; comment = 0; row = 0; place = place_from None; first = Some c.args.code; marker = None }) (ap (λ b. b.at) h.keeps.behind ∙ sym h.at)
 
 pub returns-clause-leaves : goal.returns-clause-leaves

@@ -1,8 +1,7 @@
 use Rattle.std.specs.Prelude.{OnErr, List, Bool, ◌++◌, ◌∷◌, []}
-use Rattle.std.proofs.Common.{sym, subst, arith, ◌∙◌}
+use Rattle.std.proofs.Common.{arith, ◌∙◌}
 use Rattle.raster_core.specs.Packed.{Held}
 use Rattle.raster_core.specs.Window.{held}
-use Rattle.t85_core.specs.Steps.EncodeRows.{IsCountedTo}
 use Rattle.t85_core.specs.Steps.Written.{row_start_in}
 use Rattle.t85_core.specs.Steps.State.{lines_with}
 use Rattle.t85_core.specs.Steps.Sent.{Origin}
@@ -31,19 +30,17 @@ returns-clause-ok g c image rows row before origin below r =
     c.code_row.new.encoder
     (c.in_ok-code_row.ensures.row (row_start_in image.settings image.width r.at r.part).state.place r.pushed (lines_with (row_start_in image.settings image.width r.at r.part) row) r.running.codes
     (lines_are row (held c.args.window.now) (g.P.ByteTarget.view c.args.target.now).text below c.requires.lined.1 r)).ok
-    (λ lines l few has counted. rw (← is) (c.count_row.ensures.counts lines l few has (subst (λ o. IsCountedTo c.args.self.now.size.width o c.args.learning.now.tally lines) (sym is) counted)))
+    (λ lines l few has counted. rw (← is, ← c.requires.lined.1) (c.count_row.ensures.counts lines l few has (rw (c.requires.lined.1, is) counted)))
     c.count_row.ensures.two_line c.count_row.ensures.most
 
 pub returns-clause-able : goal.returns-clause-able
 returns-clause-able g c =
     let able = c.requires.ready.1.able in
-    let offset = c.in_ok-code_row.ensures.able.2 in
     let more = c.in_ok-code_row.ensures.able.1 in
     let somewhere = able.somewhere in
     let put = (c.in_ok-code_row.ensures.row somewhere.0 somewhere.1 c.requires.lined.0.0 somewhere.2 c.requires.lined.0.1).ok in
     record {
       wide = able.wide;
-      offset = omega arith;
       named = able.named;
       most = able.most;
       few = omega arith;

@@ -11,8 +11,6 @@ returns-clause-enters c = λ h height s d place learned text out none wants star
     record {
       left_is = w.left_is;
       width_is = ap (λ r. r.width) c.turn.ensures.turned ∙ w.width_is;
-      offset_is = c.offset_in-kept.ensures.bound;
-      at_is = w.at_is;
       code_is = w.code_is;
       behind = w.behind;
       within = within;
@@ -23,10 +21,6 @@ pub returns-clause-fits : goal.returns-clause-fits
 returns-clause-fits c = λ place within. record {
   width_is = ap (λ w. w.width) c.turn.ensures.turned ∙ c.requires.fits.width_is;
   within = within;
-  offset_is = c.offset_in-kept.ensures.bound;
-  at_is = c.requires.fits.at_is;
-  code_is = c.requires.fits.code_is;
-  behind = c.requires.fits.behind;
 }
 
 pub returns-clause-window : goal.returns-clause-window

@@ -31,8 +31,6 @@ returns-in-Err-clause-step g c = λ s.
             on_same (fields_of c.args.image.now.header) c.args.image.now.height _ text out c.args.piece.now.rest.now c.go_on_in_row-went.new.code.piece.rest.now m.given m.taken (record {
               left_is = w.left_is;
               width_is = c.go_on_in_row-went.ensures.lent.2.0 ∙ w.width_is;
-              offset_is = c.go_on_in_row-went.ensures.offset;
-              at_is = w.at_is;
               code_is = ahead_is c.go_on_in_row-went.new.code.first c.go_on_in_row-went.new.code.marker _ [] _ m.code_is;
               behind = behind_is c.go_on_in_row-went.new.code.first c.go_on_in_row-went.new.code.marker _ [] _ m.code_is;
               within = (let within = c.go_on_in_row-went.ensures.within in let width = c.shape-shape.ensures.width in omega arith);
@@ -69,8 +67,6 @@ returns-in-Ok-clause-step g c = λ s. record {
         record {
           left_is = w.left_is;
           width_is = c.go_on_in_row-went.ensures.lent.2.0 ∙ w.width_is;
-          offset_is = c.go_on_in_row-went.ensures.offset;
-          at_is = w.at_is;
           code_is = ahead_is c.go_on_in_row-went.new.code.first c.go_on_in_row-went.new.code.marker m.read.answers [] _ m.code_is;
           behind = behind_is c.go_on_in_row-went.new.code.first c.go_on_in_row-went.new.code.marker m.read.answers [] _ m.code_is;
           within = omega (arith, w.within);

@@ -31,8 +31,6 @@ returns-clause-on c = λ s text out rows w.
     record {
       left_is = w.left_is;
       width_is = ap (λ r. r.width) c.repeat.ensures.repeated ∙ w.width_is;
-      offset_is = w.offset_is;
-      at_is = w.at_is;
       code_is = w.code_is;
       behind = w.behind;
       within = w.within;

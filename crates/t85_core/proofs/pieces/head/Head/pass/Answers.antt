@@ -45,7 +45,7 @@ segments-preserved-in-Move c =
           (λ back s. (
             segment_bytes (Move c.in-Move.to.row c.in-Move.to.offset),
             h.1.taken,
-            behind_move s c.in_ok-leave_comment.ensures.ok c.in-Move.to (sym c.is_moved.ensures ∙ h.0) h.1.legal (let low = h.1.legal.1 in let most = c.args.header.now.in_range in omega (arith, low, most)),
+            behind_move s c.in_ok-leave_comment.ensures.ok c.in-Move.to (sym c.is_moved.ensures ∙ h.0) h.1.legal,
           ));
       no_more = (let less = taken_less c.leave_comment.new.piece.rest.now (segment_bytes (Move c.in-Move.to.row c.in-Move.to.offset)) c.next_element.new.stream.rest.now h.1.taken in omega (arith, c.segments.invariant.no_more, c.leave_comment.ensures.no_more, less));
     }

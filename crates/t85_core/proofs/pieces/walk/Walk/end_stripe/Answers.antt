@@ -17,7 +17,7 @@ use Rattle.t85_core.specs.Steps.State.{RowStart, first_row_start, next_stripe_st
 use Rattle.t85_core.proofs.Decodings.ImagePut.{in_use, few_rows}
 use Rattle.t85_core.proofs.Decodings.PieceFits.{none_begun, rows_all}
 use Rattle.t85_core.proofs.Decodings.PieceMarker.{found_marker}
-use Rattle.t85_core.proofs.Decodings.PieceSteps.{kept_wide, at_stage, last_stripe, next_stripe, offset_low, walk_few}
+use Rattle.t85_core.proofs.Decodings.PieceSteps.{kept_wide, at_stage, last_stripe, next_stripe, walk_few}
 use Rattle.t85_core.proofs.Decodings.PieceStood.{no_bytes}
 use Rattle.t85_core.proofs.Decodings.PieceWalk.{whole, stripe_last, stripe_on}
 use Rattle.t85_core.proofs.pieces.walk.Walk.end_stripe.Goals.{then-self-eq0, else-self-eq0}
@@ -68,8 +68,6 @@ module _ (c : goal.After-self-3-1) (code : IsInCode (stage_kind c.args.self.now.
         subst (λ n. WalkStands (sized (fields_of c.args.image.now.header) c.args.image.now.height) (record (there c stage.Done n) { stage = k }) text out) (sym (few s)) (record {
           left_is = left_is;
           width_is = c.next_stripe.ensures.window.0.0 ∙ s.width_is;
-          offset_is = offset_low c.args.reset _ _ s.offset_is c.next_stripe.ensures.offset;
-          at_is = tt;
           code_is = tt;
           behind = tt;
           within = omega (arith, s.within);

@@ -13,8 +13,6 @@ returns-clause-stands c =
     subst (λ b. WalkStands (sized (fields_of c.args.image.now.header) c.args.image.now.height) (walk_over (record { kept = c.restart.new.kept; decoder = c.start.result; stage = stage.Head b; entities = 0; left = c.args.image.now.height; given = false }) c.restart.new.window c.restart.new.learned) [] []) (sym c.start-2.ensures) (record {
       left_is = (let z : 0 * c.args.image.now.header.l0 ≡ 0 = omega arith in omega (arith, z));
       width_is = c.restart.ensures.window.0.0 ∙ c.requires.width;
-      offset_is = omega (arith, c.restart.ensures.offset);
-      at_is = tt;
       code_is = tt;
       behind = tt;
       within = omega (arith, c.args.image.now.header.some_width);

@@ -19,7 +19,7 @@ code-requires-clause-ready c =
     let narrow : w ≤ 1048576 = omega arith in
     let events = ready.few in
     record {
-      row = (ready.row.0, c.take_row.ensures.window.0.0 ∙ ready.row.1, ready.row.2);
+      row = (c.take_row.ensures.window.0.0 ∙ ready.row.0, ready.row.1);
       going = ready.going;
       few = omega arith;
     }
@@ -37,7 +37,7 @@ loop-k-preserved c =
     let pixels = ap (λ b. pixels_of w (slice_range rows (k * b) (k * b + b))) c.row_bytes-long.ensures in
     let sum = add-mul k 1 (c.args.shape.width + 1) in
     let after = c.code.ensures.going (k * (c.args.shape.width + 1)) (record {
-      row = (ready.row.0, c.take_row.ensures.window.0.0 ∙ ready.row.1, ready.row.2);
+      row = (c.take_row.ensures.window.0.0 ∙ ready.row.0, ready.row.1);
       going = ready.going;
       few = ready.few;
     }) in

@@ -1,6 +1,6 @@
 use Rattle.std.proofs.Common.{length, Some}
 use Rattle.t85_core.proofs.Walks.Passed.{HasSkipped}
-use Rattle.t85_core.proofs.pieces.code.skip_some.Given as goal
+use Rattle.t85_core.proofs.pieces.code.find.skip_some.Given as goal
 
 abbrev pub invariant-code : goal.invariant-code
 invariant-code l = HasSkipped (Some l.fn.piece.rest.now) (Some l.piece.rest.now)

@@ -3,7 +3,7 @@ use Rattle.t85_core.specs.declared.segments.Code.TheVariants as code
 use Rattle.t85_core.proofs.Decodings.Entities.{none_of}
 use Rattle.t85_core.proofs.Decodings.PieceMarker.{found_before, found_ahead, none_ahead, byte_ahead, finds_on, misses_on, keeps_on}
 use Rattle.t85_core.proofs.Decodings.PieceFew.{skip_few}
-use Rattle.t85_core.proofs.pieces.code.find_marker.Goals as goal
+use Rattle.t85_core.proofs.pieces.code.find.find_marker.Goals as goal
 
 pub returns-in-Some-clause-ok : goal.returns-in-Some-clause-ok
 returns-in-Some-clause-ok c = found_before c.args.first.now c.args.marker c.args.piece.now.rest.now c.in-Some.reset c.in-Some.is

@@ -2,7 +2,7 @@ use Rattle.std.proofs.Common.{Some, sym, subst}
 use Rattle.t85_core.specs.Steps.PieceCode.{SkipsSome}
 use Rattle.t85_core.proofs.Walks.Passed.{skipped_plain, skipped_byte, code_ends}
 use Rattle.t85_core.proofs.Decodings.PieceMarker.{skip_breaks}
-use Rattle.t85_core.proofs.pieces.code.skip_some.Goals as goal
+use Rattle.t85_core.proofs.pieces.code.find.skip_some.Goals as goal
 
 pub code-preserved : goal.code-preserved
 code-preserved c =

@@ -1,0 +1,161 @@
+//! The next item in a stream as numbers.
+
+ghost use Rattle.std.specs.Prelude.{◌≡◌, ◌<◌, Bool, Option, Some, ℕ, IfSome};
+ghost use Rattle.raster_core.specs.declared.place.RowPlace.{RowPlace};
+ghost use Rattle.t85_core.specs.Numbers.{AreCodeNumbers, AreMoveNumbers, AreStageNumbers, IsCodeNext, code_number, marker_number};
+ghost use Rattle.t85_core.specs.declared.pieces.code.InCode.{InCode};
+ghost use Rattle.t85_core.specs.declared.pieces.walk.Stage.{Stage};
+ghost use Rattle.t85_core.specs.declared.segments.atmove.Move.{Move};
+ghost use Rattle.t85_core.specs.declared.segments.Code.{Code};
+ghost use Rattle.t85_core.specs.declared.segments.Code.TheVariants as code;
+
+use crate::pieces::code::InCode;
+use crate::pieces::head::Head;
+use crate::pieces::numbers::StageNumbers;
+use crate::pieces::walk::Stage;
+use crate::segments::Code;
+use raster_core::RowPlace;
+
+fn number_of_code(code: Option<Code>) -> u16
+    ensures { result ≡ code_number code }
+{
+    match code {
+        None => 0,
+        Some(Code::Marker(reset)) => { if reset { 2 } else { 1 } }
+        Some(Code::Byte(byte)) => 256 + u16::from(byte),
+    }
+}
+
+/// The byte or marker read ahead, or none, that has this number.
+fn code_of(number: u16) -> Option<Option<Code>>
+    ensures all { (ahead : Option Code) → ((b : ℕ) → ahead ≡ Some (code.Byte b) → b < 256) →
+        number ≡ code_number ahead → result ≡ Some ahead }
+    ensures is { IfSome result (λ ahead. number ≡ code_number ahead) }
+    ensures small { IfSome result (λ ahead. (b : ℕ) → ahead ≡ Some (code.Byte b) → b < 256) }
+{
+    match number {
+        0 => Some(None),
+        1 => Some(Some(Code::Marker(false))),
+        2 => Some(Some(Code::Marker(true))),
+        256..=511 => Some(Some(Code::Byte((number - 256) as u8))),
+        _ => None,
+    }
+}
+
+fn number_of_marker(marker: Option<bool>) -> u8
+    ensures { result ≡ marker_number marker }
+{
+    match marker {
+        None => 0,
+        Some(false) => 1,
+        Some(true) => 2,
+    }
+}
+
+/// The end marker that was read, or none, that has this number.
+fn marker_of(number: u8) -> Option<Option<bool>>
+    ensures all { (marker : Option Bool) → number ≡ marker_number marker → result ≡ Some marker }
+    ensures is { IfSome result (λ marker. number ≡ marker_number marker) }
+{
+    match number {
+        0 => Some(None),
+        1 => Some(Some(false)),
+        2 => Some(Some(true)),
+        _ => None,
+    }
+}
+
+impl StageNumbers {
+    /// Stores the next item.
+    #[inline(always)]
+    pub(super) fn store(&mut self, stage: &Stage)
+        ensures { AreStageNumbers self.new stage.now }
+    {
+        match stage {
+            Stage::Head(head) => {
+                self.at.store(head.at);
+                match head.comment {
+                    None => self.next = 0,
+                    Some(left) => {
+                        self.comment = left;
+                        self.next = 1;
+                    }
+                }
+            }
+            Stage::Code(code) => self.store_code(code),
+            Stage::Done => self.next = 4,
+        }
+    }
+
+    /// Stores the code of a stripe.
+    #[inline(always)]
+    fn store_code(&mut self, code: &InCode)
+        ensures { AreCodeNumbers self.new code.now }
+    {
+        self.at.store(code.at);
+        self.row = code.row;
+        self.ahead = number_of_code(code.first);
+        self.marker = number_of_marker(code.marker);
+        match code.begun {
+            None => self.next = 2,
+            Some(place) => {
+                self.place = place.numbers();
+                self.next = 3;
+            }
+        }
+    }
+
+    /// The next item that has these numbers, if there is one.
+    #[inline(always)]
+    pub(super) fn stage(&self) -> Option<Stage>
+        ensures all { (stage : Stage) → AreStageNumbers self.now stage → result ≡ Some stage }
+        ensures is { IfSome result (AreStageNumbers self.now) }
+    {
+        match self.next {
+            0 => Some(Stage::Head(self.head(None)?)),
+            1 => Some(Stage::Head(self.head(Some(self.comment))?)),
+            2 => Some(Stage::Code(self.code(None)?)),
+            3 => {
+                let place = RowPlace::from_numbers(self.place)?;
+                Some(Stage::Code(self.code(Some(place))?))
+            }
+            4 => Some(Stage::Done),
+            _ => None,
+        }
+    }
+
+    /// The marker segments of a stripe, with this many bytes of a comment still to come.
+    #[inline(always)]
+    fn head(&self, comment: Option<u32>) -> Option<Head>
+        ensures all { (at : Option Move) → AreMoveNumbers self.now.at at →
+            result ≡ Some (record { at = at; comment = comment }) }
+        ensures is { IfSome result (λ head. AreMoveNumbers self.now.at head.at ×
+            (head.comment ≡ comment)) }
+    {
+        Some(Head {
+            at: self.at.at()?,
+            comment,
+        })
+    }
+
+    /// The code of a stripe, the next row of which is decoded so far.
+    #[inline(always)]
+    fn code(&self, begun: Option<RowPlace>) -> Option<InCode>
+        ensures all { (c : InCode) → c.begun ≡ begun → AreCodeNumbers self.now c →
+            result ≡ Some c }
+        ensures is { IsCodeNext self.now begun → IfSome result (AreCodeNumbers self.now) }
+    {
+        let first = code_of(self.ahead)?;
+        let marker = marker_of(self.marker)?;
+        if first.is_some() && marker.is_some() {
+            return None;
+        }
+        Some(InCode {
+            at: self.at.at()?,
+            row: self.row,
+            begun,
+            first,
+            marker,
+        })
+    }
+}
