@@ -234,8 +234,9 @@ typedef struct {
 #define T85_DECODER_BYTES 1280
 
 /* The state of a decoder for a stream in pieces. It may be on the stack or on the heap, and may be
-   moved between calls. Calls are memory-safe whatever bytes it contains. For a decoder of all
-   zeros, t85_decode_bytes and t85_decode_end return T85_NOT_BEGUN. */
+   moved between calls. Calls are memory-safe whatever bytes it contains. If these are
+   all zeros, or numbers that no decoder has, t85_decode_bytes and t85_decode_end return
+   T85_NOT_BEGUN, and t85_decode_certain returns 0. */
 typedef struct {
     uint64_t opaque[T85_DECODER_BYTES / 8];
 } t85_decoder;
@@ -422,7 +423,8 @@ uint8_t t85_decode_start(t85_decoder *decoder, size_t size, uint32_t max_rows);
      determine row max_rows + 1, even if a height might still cut it off. An error of the stream
      that the same call finds is returned instead.
    19: the window is too short. Nothing was consumed or changed.
-   53: the decoder is not initialized. Nothing was consumed or changed.
+   53: the decoder is not initialized, or no decoder has its numbers. Nothing was consumed or
+   changed.
    After 0, 1 to 15 or 24, further calls return the same status and consume nothing. */
 T85_NO_NULL((1, 6, 7))
 uint8_t t85_decode_bytes(t85_decoder *decoder, const uint8_t *bytes, size_t len, uint8_t *window,
