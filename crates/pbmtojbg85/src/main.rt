@@ -2,7 +2,7 @@
 #![tactic(auto)]
 
 use pbm_core::ToWrite;
-use program_core::pbmtojbg85::{Job, NAME, job, open, run_on};
+use program_core::pbmtojbg85::{Job, NAME, job, open, run};
 use program_core::{Places, end, refuse, words_of};
 use std::process::ExitCode;
 
@@ -14,7 +14,7 @@ fn perform(rt: &HostRuntime, job: &Job) -> ExitCode {
         Err(code) => return code,
     };
     let mut messages = ToWrite::new(rt.stderr());
-    end(run_on(rt.alloc(), job, &mut files, &mut messages))
+    end(run(rt.alloc(), job, &mut files, &mut messages))
 }
 
 fn main(rt: HostRuntime) -> ExitCode {

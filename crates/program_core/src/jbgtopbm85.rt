@@ -65,8 +65,10 @@ pub fn open(rt: &HostRuntime, job: &Job) -> Result<Opened, ExitCode>
     })
 }
 
-/// Does the job on its files.
-pub fn run_on<R: Input, Second: Input, W: Output, M: Output>(
+/// Does the job on its files, reports an error to `messages`, and returns the exit status: 0, or 1 after an error. The
+/// second reading contains the same bytes as the input, from the beginning. It is needed if the header allows the height
+/// to change.
+pub fn run<R: Input, Second: Input, W: Output, M: Output>(
     alloc: Global,
     job: &Job,
     files: &mut Files<R, Second, W>,
@@ -77,26 +79,7 @@ pub fn run_on<R: Input, Second: Input, W: Output, M: Output>(
         (written W.view files.old.output files.new.output)
         (written M.view messages.old messages.new) result }
 {
-    let input = &mut files.input;
-    let output = &mut files.output;
-    run(alloc, job, input, &mut files.again, output, messages)
-}
-
-/// Does the job, reports an error to `messages`, and returns the exit status: 0, or 1 after an error. `again` contains
-/// the same bytes as the input, from the beginning. It is needed if the header allows the height to change.
-pub fn run<R: Input, Second: Input, W: Output, M: Output>(
-    alloc: Global,
-    job: &Job,
-    input: &mut R,
-    again: &mut Option<Second>,
-    output: &mut W,
-    messages: &mut M,
-) -> u8
-    ensures { RunsDecoding job.now (input_change R.view input.old input.new)
-        (second_reading_of Second.view again.old again.new) (written W.view output.old output.new)
-        (written M.view messages.old messages.new) result }
-{
-    let outcome = work_on(alloc, job, input, again, output);
+    let outcome = work_on(alloc, job, files);
     report(NAME, outcome, messages)
 }
 
@@ -104,19 +87,20 @@ pub fn run<R: Input, Second: Input, W: Output, M: Output>(
 fn work_on<R: Input, Second: Input, W: Output>(
     alloc: Global,
     job: &Job,
-    input: &mut R,
-    again: &mut Option<Second>,
-    output: &mut W,
+    files: &mut Files<R, Second, W>,
 ) -> Result<(), Fault>
-    ensures does { Does job.now.info (limit_of job.now) (input_change R.view input.old input.new)
-        (second_reading_of Second.view again.old again.new)
-        (delivery_of W.view output.old output.new) result }
-    ensures flushes { FlushesOutput (W.view output.old) (W.view output.new) result }
+    ensures does { Does job.now.info (limit_of job.now)
+        (input_change R.view files.old.input files.new.input)
+        (second_reading_of Second.view files.old.again files.new.again)
+        (delivery_of W.view files.old.output files.new.output) result }
+    ensures flushes { FlushesOutput (W.view files.old.output) (W.view files.new.output) result }
 {
+    let input = &mut files.input;
+    let output = &mut files.output;
     if job.info {
         info(input, output)
     } else {
         let limit = job.max_rows.unwrap_or(u32::MAX);
-        to_pbm(alloc, input, again, limit, output)
+        to_pbm(alloc, input, &mut files.again, limit, output)
     }
 }

@@ -51,8 +51,8 @@ pub fn open(rt: &HostRuntime, job: &Job) -> Result<Opened, ExitCode>
     })
 }
 
-/// Does the job on its files.
-pub fn run_on<R: Input, W: Output, M: Output>(
+/// Does the job on its files, reports an error to `messages`, and returns the exit status: 0, or 1 after an error.
+pub fn run<R: Input, W: Output, M: Output>(
     alloc: Global,
     job: &Job,
     files: &mut Files<R, W>,
@@ -62,20 +62,6 @@ pub fn run_on<R: Input, W: Output, M: Output>(
         (written W.view files.old.output files.new.output)
         (written M.view messages.old messages.new) result }
 {
-    run(alloc, job, &mut files.input, &mut files.output, messages)
-}
-
-/// Does the job, reports an error to `messages`, and returns the exit status: 0, or 1 after an error.
-pub fn run<R: Input, W: Output, M: Output>(
-    alloc: Global,
-    job: &Job,
-    input: &mut R,
-    output: &mut W,
-    messages: &mut M,
-) -> u8
-    ensures { RunsEncoding job.now (input_change R.view input.old input.new)
-        (written W.view output.old output.new) (written M.view messages.old messages.new) result }
-{
-    let outcome = to_jbg(alloc, input, output, &job.options());
+    let outcome = to_jbg(alloc, &mut files.input, &mut files.output, &job.options());
     report(NAME, outcome, messages)
 }

@@ -4,7 +4,7 @@ use crate::trial::Bytes::{Hex, Raw};
 use crate::trial::{Devices, Run, SMOOTH, Trial, all_stand, leaves, stands};
 use pbm_core::trial::{Drip, Pieces};
 use program_core::LineFault;
-use program_core::jbgtopbm85::{job, run};
+use program_core::jbgtopbm85::{Files, job, run};
 use std::alloc::Global;
 use std::test::Fail;
 
@@ -227,20 +227,16 @@ fn reads_ahead(rt: HostRuntime) -> Result<(), Fail> {
 /// Whether a run reports an error only by its status, if the second piece of the message cannot be written.
 fn loses(alloc: Global) -> Result<bool, LineFault> {
     let job = job(alloc, &["jbgtopbm85", "--info"])?;
-    let mut input = Pieces::new(b"", 1, None);
+    let again: Option<Pieces<'_>> = None;
     let mut held = [0; 8];
-    let mut output = Drip::new(&mut held, 8, None, false);
+    let mut files = Files {
+        input: Pieces::new(b"", 1, None),
+        again,
+        output: Drip::new(&mut held, 8, None, false),
+    };
     let mut told = [0; 64];
     let mut messages = Drip::new(&mut told, 8, Some(2), false);
-    let mut again: Option<Pieces<'_>> = None;
-    let status = run(
-        alloc,
-        &job,
-        &mut input,
-        &mut again,
-        &mut output,
-        &mut messages,
-    );
+    let status = run(alloc, &job, &mut files, &mut messages);
     Ok(status == 1 && messages.written() == b"jbgtopbm".as_slice())
 }
 

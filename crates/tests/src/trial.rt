@@ -34,20 +34,31 @@ impl Program {
         }
     }
 
-    /// Runs it on these devices, and returns the exit status. Only the decoder has a second reading.
+    /// Runs it on these devices, and returns the exit status and the devices. Only the decoder has a second reading.
     pub fn run<R: Input, Second: Input, W: Output, M: Output>(
         &self,
         alloc: Global,
-        input: &mut R,
-        again: &mut Option<Second>,
-        output: &mut W,
+        input: R,
+        again: Option<Second>,
+        output: W,
         messages: &mut M,
-    ) -> u8 {
+    ) -> (u8, R, Option<Second>, W) {
         match self {
-            Program::Encoder(job) => pbmtojbg85::run(alloc, job, input, output, messages),
+            Program::Encoder(job) => {
+                let mut files = pbmtojbg85::Files { input, output };
+                let status = pbmtojbg85::run(alloc, job, &mut files, messages);
+                let pbmtojbg85::Files { input, output } = files;
+                (status, input, again, output)
+            }
             Program::Decoder(job) => {
-                jbgtopbm85::run(alloc, job, input, again, output, messages)
-            },
+                let mut files = jbgtopbm85::Files {
+                    input,
+                    again,
+                    output,
+                };
+                let status = jbgtopbm85::run(alloc, job, &mut files, messages);
+                (status, files.input, files.again, files.output)
+            }
         }
     }
 
@@ -146,17 +157,17 @@ fn run_on(
     room: usize,
 ) -> Result<Ran, AllocError> {
     let most = devices.most.max(1);
-    let mut input = Pieces::new(bytes, most, devices.failing_read);
-    let mut again = if devices.twice {
+    let input = Pieces::new(bytes, most, devices.failing_read);
+    let again = if devices.twice {
         Some(Pieces::new(bytes, most, devices.failing_again))
     } else {
         None
     };
     let mut held = vec![in alloc; 0u8; room]?;
-    let mut output = Drip::new(&mut held, most, devices.failing_write, devices.flush_fails);
+    let output = Drip::new(&mut held, most, devices.failing_write, devices.flush_fails);
     let mut told = [0; 128];
     let mut messages = Drip::new(&mut told, 128, None, false);
-    let status = program.run(alloc, &mut input, &mut again, &mut output, &mut messages);
+    let (status, _, _, output) = program.run(alloc, input, again, output, &mut messages);
     Ok(Ran {
         status,
         output: output.written().to_vec(alloc)?,

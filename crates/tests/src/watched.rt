@@ -164,26 +164,21 @@ impl Watched {
 /// byte that it read.
 fn watch(alloc: Global, program: &Program, bytes: &[u8]) -> (u8, u64, [u64; MOST]) {
     let taken = Cell::new(0);
-    let mut input = Watcher {
+    let input = Watcher {
         rest: bytes,
         came: 0,
         taken: &taken,
         seen: [0; MOST],
     };
-    let mut output = Counter {
+    let output = Counter {
         taken: &taken,
         flushed: false,
         flushes: 0,
     };
     let mut told = [0; 128];
     let mut messages = Drip::new(&mut told, 128, None, false);
-    let status = program.run(
-        alloc,
-        &mut input,
-        &mut None::<Pieces<'_>>,
-        &mut output,
-        &mut messages,
-    );
+    let again = None::<Pieces<'_>>;
+    let (status, input, _, _) = program.run(alloc, input, again, output, &mut messages);
     (status, taken.get(), input.seen)
 }
 

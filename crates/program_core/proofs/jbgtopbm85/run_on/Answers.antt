@@ -1,4 +1,0 @@
-use Rattle.program_core.proofs.jbgtopbm85.run_on.Goals as goal
-
-pub returns : goal.returns
-returns g c = c.run.ensures
