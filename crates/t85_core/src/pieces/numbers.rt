@@ -92,7 +92,7 @@ const MOST_OFFSET: u8 = 127;
 impl PieceNumbers {
     ghost use Rattle.t85_core.specs.declared.pieces.PieceDecoder.{PieceDecoder};
 
-    /// Numbers of no decoder, all 0.
+    /// Numbers that no decoder has, since their height is 0.
     pub fn none() -> PieceNumbers
         ensures { result.height ≡ 0 }
     {
