@@ -1,8 +1,11 @@
 -- A decoder in pieces, as plain numbers.
 use Rattle.std.specs.Prelude.{ℕ, ◌+◌, ◌≡◌, ◌==◌, not, Bool, true, false, Option, Some, None}
+use Rattle.std.specs.Int.{from_bool}
+use Rattle.std.specs.Option.{unwrap_or}
 use Rattle.qm_core.specs.Decoder.{decoder_registers, has_stopped}
 use Rattle.raster_core.specs.Row.{row_place_numbers}
 use Rattle.raster_core.specs.declared.place.RowPlace.{RowPlace}
+use Rattle.raster_core.specs.declared.place.RowPlaceNumbers.{RowPlaceNumbers}
 use Rattle.t85_core.specs.declared.pieces.PieceDecoder.{PieceDecoder}
 use Rattle.t85_core.specs.declared.pieces.code.InCode.{InCode}
 use Rattle.t85_core.specs.declared.pieces.head.Head.{Head}
@@ -35,6 +38,69 @@ abbrev pub code_number : Option Code → ℕ
 code_number None = 0
 code_number (Some (code.Marker reset)) = reset_number reset
 code_number (Some (code.Byte b)) = 256 + b
+
+-- ---- the numbers that a decoder stores: one that its state does not have is 0
+
+abbrev pub move_numbers : Option Move → MoveNumbers
+move_numbers None = record { row = 0; offset = 0; is_there = 0 }
+move_numbers (Some to) = record { row = to.row; offset = to.offset; is_there = 1 }
+
+abbrev pub comment_number : Option ℕ → ℕ
+comment_number comment = unwrap_or comment 0
+
+abbrev pub is_there_number : Option ℕ → ℕ
+is_there_number None = 0
+is_there_number (Some _) = 1
+
+abbrev pub head_numbers : Head → HeadNumbers
+head_numbers head = record { at = move_numbers head.at; comment = comment_number head.comment; has_comment = is_there_number head.comment }
+
+abbrev pub place_numbers : Option RowPlace → RowPlaceNumbers
+place_numbers None = record { is_begun = 0; done = 0; past_high = 0; past_low = 0 }
+place_numbers (Some place) = row_place_numbers place
+
+abbrev pub code_next : Option RowPlace → ℕ
+code_next None = 2
+code_next (Some _) = 3
+
+abbrev pub stage_numbers : Stage → StageNumbers
+stage_numbers (stage.Head head) = record {
+  at = move_numbers head.at;
+  comment = comment_number head.comment;
+  row = 0;
+  place = place_numbers None;
+  ahead = 0;
+  marker = 0;
+  next = is_there_number head.comment;
+}
+stage_numbers (stage.Code c) = record {
+  at = move_numbers c.at;
+  comment = 0;
+  row = c.row;
+  place = place_numbers c.begun;
+  ahead = code_number c.first;
+  marker = marker_number c.marker;
+  next = code_next c.begun;
+}
+stage_numbers stage.Done = record { at = move_numbers None; comment = 0; row = 0; place = place_numbers None; ahead = 0; marker = 0; next = 4 }
+
+-- the numbers of a decoder, without its end
+abbrev pub piece_numbers : PieceDecoder → PieceNumbers
+piece_numbers d = record {
+  stage = stage_numbers d.walk.stage;
+  decoder = decoder_registers d.walk.decoder;
+  behind = head_numbers d.behind;
+  height = d.height;
+  entities = d.walk.entities;
+  left = d.walk.left;
+  offset = d.walk.kept.offset;
+  is_previous_typical = from_bool d.walk.kept.previous_typical;
+  is_open = from_bool d.is_open;
+  waits = from_bool d.waits;
+  is_given = from_bool d.walk.given;
+}
+
+-- ---- the numbers from which a decoder resumes: one that its state does not have may be any
 
 -- These are the numbers of a move, or of none.
 abbrev pub AreMoveNumbers : MoveNumbers → Option Move → Type 0
@@ -80,7 +146,7 @@ pub record AreWalkNumbers (n : PieceNumbers) (w : Walk) : Type 0 where
   pub typical_is : is_set n.is_previous_typical ≡ w.kept.previous_typical
   pub decoder_is : n.decoder ≡ decoder_registers w.decoder
 
--- These are the numbers of a decoder, without its end. A number that the state does not have may be any.
+-- the numbers of a decoder, without its end
 pub record ArePieceNumbers (n : PieceNumbers) (d : PieceDecoder) : Type 0 where
   pub height_is : n.height ≡ d.height
   pub open_is : is_set n.is_open ≡ d.is_open

@@ -3,7 +3,7 @@
 ghost use Rattle.std.specs.Prelude.{◌≡◌, List, None, ℕ, IfSome, IsSome, IsSomeAnd};
 ghost use Rattle.qm_core.specs.Place.{Estimate};
 ghost use Rattle.raster_core.specs.Packed.{Held};
-ghost use Rattle.t85_core.specs.Numbers.{ArePieceNumbers, AreWalkNumbers, IsWalkAs};
+ghost use Rattle.t85_core.specs.Numbers.{ArePieceNumbers, AreWalkNumbers, IsWalkAs, piece_numbers};
 ghost use Rattle.t85_core.specs.Options.{fields_of};
 
 mod head;
@@ -59,8 +59,8 @@ pub struct StageNumbers {
 }
 
 /// The state of a decoder in pieces that has not ended, as numbers that anyone may store. To continue, it also needs
-/// its header, and for each call the window and the contexts. A flag is set unless it is 0; a number that a state does
-/// not have is ignored.
+/// its header, and for each call the window and the contexts. A flag is 0 or 1, and a number that a state does not have is
+/// 0; to resume, a flag is set unless it is 0, and such a number is ignored.
 #[repr(C)]
 #[derive(Clone, Copy, PartialEq, Eq, Debug)]
 pub struct PieceNumbers {
@@ -96,26 +96,9 @@ impl PieceNumbers {
     pub fn none() -> PieceNumbers
         ensures { result.height ≡ 0 }
     {
-        let at = MoveNumbers {
-            row: 0,
-            offset: 0,
-            is_there: 0,
-        };
+        let at = MoveNumbers::none();
         PieceNumbers {
-            stage: StageNumbers {
-                at,
-                comment: 0,
-                row: 0,
-                place: RowPlaceNumbers {
-                    is_begun: 0,
-                    done: 0,
-                    past_high: 0,
-                    past_low: 0,
-                },
-                ahead: 0,
-                marker: 0,
-                next: 0,
-            },
+            stage: StageNumbers::done(),
             decoder: DecoderRegisters {
                 code: 0,
                 span: 0,
@@ -168,7 +151,8 @@ impl PieceDecoder {
 
     /// The state as numbers, except for how the stream has ended.
     pub fn numbers(&self) -> PieceNumbers
-        ensures { ArePieceNumbers result self.now }
+        ensures exact { result ≡ piece_numbers self.now }
+        ensures are { ArePieceNumbers result self.now }
     {
         let mut numbers = PieceNumbers::none();
         self.store(&mut numbers);
@@ -178,7 +162,8 @@ impl PieceDecoder {
     /// Stores these numbers.
     #[inline(always)]
     pub fn store(&self, numbers: &mut PieceNumbers)
-        ensures { ArePieceNumbers numbers.new self.now }
+        ensures exact { numbers.new ≡ piece_numbers self.now }
+        ensures are { ArePieceNumbers numbers.new self.now }
     {
         let walk = &self.walk;
         numbers.stage.store(&walk.stage);

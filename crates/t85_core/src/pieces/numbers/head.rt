@@ -1,7 +1,7 @@
 //! Marker segments as numbers.
 
-ghost use Rattle.std.specs.Prelude.{◌≡◌, Option, Some, IfSome};
-ghost use Rattle.t85_core.specs.Numbers.{AreHeadNumbers, AreMoveNumbers};
+ghost use Rattle.std.specs.Prelude.{◌≡◌, Option, Some, None, IfSome};
+ghost use Rattle.t85_core.specs.Numbers.{AreHeadNumbers, AreMoveNumbers, head_numbers, move_numbers};
 ghost use Rattle.t85_core.specs.declared.pieces.head.Head.{Head};
 ghost use Rattle.t85_core.specs.declared.segments.atmove.Move.{Move};
 
@@ -10,13 +10,25 @@ use crate::pieces::numbers::{HeadNumbers, MOST_OFFSET, MoveNumbers};
 use crate::segments::Move;
 
 impl MoveNumbers {
+    /// The numbers of no move.
+    #[inline(always)]
+    pub(super) fn none() -> MoveNumbers
+        ensures { result ≡ move_numbers None }
+    {
+        MoveNumbers {
+            row: 0,
+            offset: 0,
+            is_there: 0,
+        }
+    }
+
     /// Stores a move, or none.
     #[inline(always)]
     pub(super) fn store(&mut self, at: Option<Move>)
-        ensures { AreMoveNumbers self.new at }
+        ensures { self.new ≡ move_numbers at }
     {
         match at {
-            None => self.is_there = 0,
+            None => *self = MoveNumbers::none(),
             Some(to) => {
                 self.row = to.row;
                 self.offset = to.offset;
@@ -48,16 +60,11 @@ impl HeadNumbers {
     /// Stores the marker segments that have arrived.
     #[inline(always)]
     pub(super) fn store(&mut self, head: Head)
-        ensures { AreHeadNumbers self.new head }
+        ensures { self.new ≡ head_numbers head }
     {
         self.at.store(head.at);
-        match head.comment {
-            None => self.has_comment = 0,
-            Some(left) => {
-                self.comment = left;
-                self.has_comment = 1;
-            }
-        }
+        self.comment = head.comment.unwrap_or(0);
+        self.has_comment = u8::from(head.comment.is_some());
     }
 
     /// The marker segments that have these numbers, unless an offset is too large.

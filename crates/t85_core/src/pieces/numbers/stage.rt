@@ -1,20 +1,21 @@
 //! The next item in a stream as numbers.
 
-ghost use Rattle.std.specs.Prelude.{◌≡◌, ◌<◌, Bool, Option, Some, ℕ, IfSome};
+ghost use Rattle.std.specs.Prelude.{◌≡◌, ◌<◌, Bool, Option, Some, None, ℕ, IfSome};
 ghost use Rattle.raster_core.specs.declared.place.RowPlace.{RowPlace};
-ghost use Rattle.t85_core.specs.Numbers.{AreCodeNumbers, AreMoveNumbers, AreStageNumbers, IsCodeNext, code_number, marker_number};
+ghost use Rattle.t85_core.specs.Numbers.{AreCodeNumbers, AreMoveNumbers, AreStageNumbers, IsCodeNext, code_number, marker_number, place_numbers, stage_numbers};
 ghost use Rattle.t85_core.specs.declared.pieces.code.InCode.{InCode};
 ghost use Rattle.t85_core.specs.declared.pieces.walk.Stage.{Stage};
+ghost use Rattle.t85_core.specs.declared.pieces.walk.Stage.TheVariants as stage_type;
 ghost use Rattle.t85_core.specs.declared.segments.atmove.Move.{Move};
 ghost use Rattle.t85_core.specs.declared.segments.Code.{Code};
 ghost use Rattle.t85_core.specs.declared.segments.Code.TheVariants as code;
 
 use crate::pieces::code::InCode;
 use crate::pieces::head::Head;
-use crate::pieces::numbers::StageNumbers;
+use crate::pieces::numbers::{MoveNumbers, StageNumbers};
 use crate::pieces::walk::Stage;
 use crate::segments::Code;
-use raster_core::RowPlace;
+use raster_core::{RowPlace, RowPlaceNumbers};
 
 fn number_of_code(code: Option<Code>) -> u16
     ensures { result ≡ code_number code }
@@ -65,39 +66,76 @@ fn marker_of(number: u8) -> Option<Option<bool>>
     }
 }
 
+/// The numbers of no place in a row.
+fn no_place() -> RowPlaceNumbers
+    ensures { result ≡ place_numbers None }
+{
+    RowPlaceNumbers {
+        is_begun: 0,
+        done: 0,
+        past_high: 0,
+        past_low: 0,
+    }
+}
+
 impl StageNumbers {
+    /// Nothing comes next.
+    #[inline(always)]
+    pub(super) fn done() -> StageNumbers
+        ensures { result ≡ stage_numbers stage_type.Done }
+    {
+        StageNumbers {
+            at: MoveNumbers::none(),
+            comment: 0,
+            row: 0,
+            place: no_place(),
+            ahead: 0,
+            marker: 0,
+            next: 4,
+        }
+    }
+
     /// Stores the next item.
     #[inline(always)]
     pub(super) fn store(&mut self, stage: &Stage)
-        ensures { AreStageNumbers self.new stage.now }
+        ensures { self.new ≡ stage_numbers stage.now }
     {
         match stage {
-            Stage::Head(head) => {
-                self.at.store(head.at);
-                match head.comment {
-                    None => self.next = 0,
-                    Some(left) => {
-                        self.comment = left;
-                        self.next = 1;
-                    }
-                }
-            }
+            Stage::Head(head) => self.store_head(*head),
             Stage::Code(code) => self.store_code(code),
-            Stage::Done => self.next = 4,
+            Stage::Done => *self = StageNumbers::done(),
         }
+    }
+
+    /// Stores the marker segments of a stripe.
+    #[inline(always)]
+    fn store_head(&mut self, head: Head)
+        ensures { self.new ≡ stage_numbers (stage_type.Head head) }
+    {
+        self.at.store(head.at);
+        self.comment = head.comment.unwrap_or(0);
+        self.row = 0;
+        self.place = no_place();
+        self.ahead = 0;
+        self.marker = 0;
+        self.next = u8::from(head.comment.is_some());
     }
 
     /// Stores the code of a stripe.
     #[inline(always)]
     fn store_code(&mut self, code: &InCode)
-        ensures { AreCodeNumbers self.new code.now }
+        ensures { self.new ≡ stage_numbers (stage_type.Code code.now) }
     {
         self.at.store(code.at);
+        self.comment = 0;
         self.row = code.row;
         self.ahead = number_of_code(code.first);
         self.marker = number_of_marker(code.marker);
         match code.begun {
-            None => self.next = 2,
+            None => {
+                self.place = no_place();
+                self.next = 2;
+            }
             Some(place) => {
                 self.place = place.numbers();
                 self.next = 3;
