@@ -54,7 +54,7 @@ pub record IsFed (old kept : T85Decoder) (memory memory' : List ℕ) (header : H
   pub head : length old.header ≡ 20
   pub long : length memory ≡ window_bytes header.xd
   pub long' : length memory' ≡ window_bytes header.xd
-  pub header_is : e.header ≡ header
+  pub header_is : e.image.header ≡ header
   pub same : KeepsRest (with_learned old learned') kept
   pub small : kept.place < 3
   pub numbers : ArePieceNumbers kept.numbers e'
@@ -65,13 +65,13 @@ pub record IsFed (old kept : T85Decoder) (memory memory' : List ℕ) (header : H
 module _ {old kept : T85Decoder} {memory memory' : List ℕ} {header : Header} {e e' : PieceDecoder} {learned' : List Estimate} {held' bytes : List ℕ} {is_all : Bool} {progress : Progress} {certain : ℕ}
     (new : T85Decoder) (told : Report) (laws : HeaderLaws) (done : IsFed old kept memory memory' header e e' learned' held' bytes is_all progress) (certain_is : end_in progress.outcome ≡ None → TellsCertain kept certain)
     (taken : told.taken ≡ progress.taken) (at : told.row ≡ kept.place * div_ceil header.xd 8) where
-  fields_same : fields_of e'.header ≡ fields_of header
+  fields_same : fields_of e'.image.header ≡ fields_of header
   fields_same = done.call.fed.same ∙ ap fields_of done.header_is
 
   rows_of : {stream text out' : List ℕ} → stream ≡ old.header ++ text → HasFed (decoder_view e' (rows_at kept.place header.xd memory') learned') held' text out' →
       InRows (hold_of kept memory') stream out'
   rows_of {text = text} is has =
-      let wide : e'.header.xd ≡ header.xd = ap (λ f. f.xd) fields_same in
+      let wide : e'.image.header.xd ≡ header.xd = ap (λ f. f.xd) fields_same in
       record {
         version_is = done.same.version ∙ done.may.version_is;
         next_is = done.same.next ∙ done.may.next_is;
@@ -96,7 +96,7 @@ module _ {old kept : T85Decoder} {memory memory' : List ℕ} {header : Header} {
   bound : told.taken ≤ length bytes
   bound = subst (λ n. n ≤ length bytes) (sym taken) done.call.fed.bound
 
-  height_of : kept.numbers.height ≡ e'.height
+  height_of : kept.numbers.height ≡ e'.image.height
   height_of = done.numbers.height_is
 
   told_as : (what : Answer) → told.answer ≡ what → IsOfEngine what →
@@ -115,10 +115,10 @@ module _ {old kept : T85Decoder} {memory memory' : List ℕ} {header : Header} {
   row' : List ℕ
   row' = (rows_at kept.place header.xd memory').current
 
-  count_of : {stream out : List ℕ} → ContinuesRows header e (hold_of old memory) stream out → length out ≡ kept.given * div_ceil e'.header.xd 8
+  count_of : {stream out : List ℕ} → ContinuesRows header e (hold_of old memory) stream out → length out ≡ kept.given * div_ceil e'.image.header.xd 8
   count_of k = rw (done.same.given, ap (λ f. f.xd) fields_same) k.count_is
 
-  row_long : length row' ≡ div_ceil e'.header.xd 8
+  row_long : length row' ≡ div_ceil e'.image.header.xd 8
   unfolding row'
   row_long = placed_within (div_ceil header.xd 8) kept.place memory' done.small done.long' ∙ ap (λ f. div_ceil f.xd 8) (sym fields_same)
 
@@ -147,7 +147,7 @@ module _ {old kept : T85Decoder} {memory memory' : List ℕ} {header : Header} {
     whole = row_long;
     why = elim why [
       | inl more ↦ inl (certain_of_more (ap end_in e1) more over (with_row e1 k))
-      | inr more ↦ inr (rw (count_of k) (mul-le-mul_right {m = new.max_rows} {n = kept.given} (div_ceil e'.header.xd 8) (subst (λ n. n ≤ kept.given) (sym over.limit_is) more)))
+      | inr more ↦ inr (rw (count_of k) (mul-le-mul_right {m = new.max_rows} {n = kept.given} (div_ceil e'.image.header.xd 8) (subst (λ n. n ≤ kept.given) (sym over.limit_is) more)))
     ];
     height_is = over.height_is;
   }
@@ -199,7 +199,7 @@ module _ {old kept : T85Decoder} {memory memory' : List ℕ} {header : Header} {
         stands = stands_placed (div_ceil header.xd 8) kept.place told.row memory' done.small done.long' at;
         has = record {
           rows = rows_moved (one_moved is.counts) (with_row e1 k);
-          count_is = length-append out row' ∙ one_more (length out) (length row') kept.given new.given (div_ceil e'.header.xd 8) (count_of k) row_long is.counts.given;
+          count_is = length-append out row' ∙ one_more (length out) (length row') kept.given new.given (div_ceil e'.image.header.xd 8) (count_of k) row_long is.counts.given;
         };
         whole = row_long;
         within = subst (λ n. new.given ≤ n) (sym is.counts.limit) is.given_to;
@@ -251,7 +251,7 @@ module _ {old kept : T85Decoder} {memory memory' : List ℕ} {header : Header} {
       told_as (answer.Broken fault) is tt (
         ended,
         λ stream out rest k follows.
-            let high : e'.height ≡ new.numbers.height = sym (same ∙ height_of) in
+            let high : e'.image.height ≡ new.numbers.height = sym (same ∙ height_of) in
             subst (λ s. IsBrokenStream s new.numbers.height fault out) (sym (all_of rest k))
             (inr (record {
               header = fields_of header;

@@ -30,11 +30,11 @@ use Rattle.t85.proofs.DecoderRows.{KeepsRows, fed_as, rows_moved}
 -- ---- the certain rows, if the stream goes on
 
 -- those of a decoder with the numbers of the struct
-pub decoder_certain : HeaderLaws → (d : T85Decoder) (header : Header) (e : PieceDecoder) (certain : ℕ) → HeaderOf d.header (fields_of header) → fields_of e.header ≡ fields_of header → ArePieceNumbers d.numbers e →
-    ((other : PieceDecoder) (numbers : PieceNumbers) (rows : Held) (learned : List Estimate) → fields_of other.header ≡ fields_of e.header → ArePieceNumbers numbers other → ArePieceNumbers numbers e → AreCertain (decoder_view other rows learned) certain) → TellsCertain d certain
+pub decoder_certain : HeaderLaws → (d : T85Decoder) (header : Header) (e : PieceDecoder) (certain : ℕ) → HeaderOf d.header (fields_of header) → fields_of e.image.header ≡ fields_of header → ArePieceNumbers d.numbers e →
+    ((other : PieceDecoder) (numbers : PieceNumbers) (rows : Held) (learned : List Estimate) → fields_of other.image.header ≡ fields_of e.image.header → ArePieceNumbers numbers other → ArePieceNumbers numbers e → AreCertain (decoder_view other rows learned) certain) → TellsCertain d certain
 decoder_certain laws d header e certain header_of header_is numbers is = λ window stream out k.
-    is k.decoder d.numbers (rows_at d.place k.decoder.header.xd (take (window_bytes k.decoder.header.xd) window)) d.learned
-    (laws.one d.header (fields_of k.decoder.header) (fields_of header) k.header_of header_of ∙ sym header_is) k.numbers_are numbers k.has.decoded out k.has.has
+    is k.decoder d.numbers (rows_at d.place k.decoder.image.header.xd (take (window_bytes k.decoder.image.header.xd) window)) d.learned
+    (laws.one d.header (fields_of k.decoder.image.header) (fields_of header) k.header_of header_of ∙ sym header_is) k.numbers_are numbers k.has.decoded out k.has.has
 
 -- no greater number of rows is certain
 least_to : (h : Fields) (text : List ℕ) (rows certain limit : ℕ) → IsLeastHeight h text rows → IsLeastHeight h text certain → certain ≤ limit → rows ≤ limit
@@ -42,14 +42,14 @@ least_to h text rows certain limit least is to = (let most : rows ≤ certain = 
 
 asked_within : (d d' : T85Decoder) (certain : ℕ) → d' ≡ d → TellsCertain d certain → certain ≤ d.max_rows → IsWithinLimit d'
 asked_within d d' certain same is to = subst IsWithinLimit (sym same)
-    (λ window stream out k rows least. least_to (fields_of k.decoder.header) k.has.decoded rows certain d.max_rows least (is window stream out k) to)
+    (λ window stream out k rows least. least_to (fields_of k.decoder.image.header) k.has.decoded rows certain d.max_rows least (is window stream out k) to)
 
 counted_within : (d d' : T85Decoder) (certain : ℕ) → CountsOneMore d d' → TellsCertain d certain → certain ≤ d.max_rows → IsWithinLimit d'
 unfolding rows_moved
 counted_within d d' certain c is to = λ window stream out k rows least.
     let same : KeepsRows d' d =
     record { version = sym c.version; next = sym c.next; header = sym c.header; learned = sym c.learned; place = sym c.place; numbers = sym c.numbers; held = sym c.held } in
-    least_to (fields_of k.decoder.header) k.has.decoded rows certain d'.max_rows least (is window stream out (rows_moved same k)) (rw c.limit to)
+    least_to (fields_of k.decoder.image.header) k.has.decoded rows certain d'.max_rows least (is window stream out (rows_moved same k)) (rw c.limit to)
 
 pub told_within : (d d' : T85Decoder) (certain : ℕ) (outcome : Outcome) (what : Answer) → (end_in outcome ≡ None → TellsCertain d certain) → IsToldOf outcome d d' certain what → StaysWithinLimit what d'
 told_within d d' certain outcome.Row what is (inl counted) = subst (λ a. StaysWithinLimit a d') (sym counted.what_is) (counted_within d d' certain counted.counts (is refl) counted.certain_to)
@@ -75,14 +75,14 @@ never_begun d h version next header some (inr (inr (inr (inl (rows, none))))) = 
 never_begun d h version next header some (inr (inr (inr (inr (rows, none))))) = some rows none
 
 -- a decoder was resumed
-pub one_resumed : (d : T85Decoder) (header : Header) (decoder : PieceDecoder) → d.place < 3 → HeaderOf d.header (fields_of header) → decoder.header ≡ header → ArePieceNumbers d.numbers decoder → HasNoDecoder d → ⊥
+pub one_resumed : (d : T85Decoder) (header : Header) (decoder : PieceDecoder) → d.place < 3 → HeaderOf d.header (fields_of header) → decoder.image.header ≡ header → ArePieceNumbers d.numbers decoder → HasNoDecoder d → ⊥
 one_resumed d header decoder place header_of same numbers (inl far) = omega (arith, place, far)
 one_resumed d header decoder place header_of same numbers (inr never) = never decoder (subst (λ h. HeaderOf d.header (fields_of h)) (sym same) header_of) numbers
 
 -- none was
-pub none_resumed : HeaderLaws → (hold : Hold) (header : Header) → HeaderOf hold.decoder.header (fields_of header) → ((decoder : PieceDecoder) → fields_of decoder.header ≡ fields_of header → ArePieceNumbers hold.decoder.numbers decoder → ⊥) →
+pub none_resumed : HeaderLaws → (hold : Hold) (header : Header) → HeaderOf hold.decoder.header (fields_of header) → ((decoder : PieceDecoder) → fields_of decoder.image.header ≡ fields_of header → ArePieceNumbers hold.decoder.numbers decoder → ⊥) →
     {stream out : List ℕ} → InRows hold stream out → ⊥
-none_resumed laws hold header header_of all k = all k.decoder (laws.one hold.decoder.header (fields_of k.decoder.header) (fields_of header) k.header_of header_of) k.numbers_are
+none_resumed laws hold header header_of all k = all k.decoder (laws.one hold.decoder.header (fields_of k.decoder.image.header) (fields_of header) k.header_of header_of) k.numbers_are
 
 pub rows_next : (n : ℕ) → (n ≡ 1) ⊎ (n ≡ 2) → (n ≡ 1 → ⊥) → n ≡ 2
 rows_next n (inl one) not = absurd (not one)
@@ -115,7 +115,7 @@ take_long n xs = subst (λ k. k ≤ n) (sym (length-take n xs)) (omega arith)
 
 -- other memory with the same window
 rows_with : (d : T85Decoder) (memory memory' stream out : List ℕ) (k : InRows (hold_of d memory) stream out) →
-    take (window_bytes k.decoder.header.xd) memory ≡ take (window_bytes k.decoder.header.xd) memory' → InRows (hold_of d memory') stream out
+    take (window_bytes k.decoder.image.header.xd) memory ≡ take (window_bytes k.decoder.image.header.xd) memory' → InRows (hold_of d memory') stream out
 rows_with d memory memory' stream out k same = record {
   version_is = k.version_is;
   next_is = k.next_is;
@@ -125,16 +125,16 @@ rows_with d memory memory' stream out k same = record {
   numbers_are = k.numbers_are;
   text = k.text;
   stream_is = k.stream_is;
-  has = fed_as k.decoder (ap (rows_at d.place k.decoder.header.xd) (sym same)) refl refl k.has;
+  has = fed_as k.decoder (ap (rows_at d.place k.decoder.image.header.xd) (sym same)) refl refl k.has;
 }
 
 counted_with : (d : T85Decoder) (memory memory' stream out : List ℕ) (k : CountsRows (hold_of d memory) stream out) →
-    take (window_bytes k.rows.decoder.header.xd) memory ≡ take (window_bytes k.rows.decoder.header.xd) memory' → CountsRows (hold_of d memory') stream out
+    take (window_bytes k.rows.decoder.image.header.xd) memory ≡ take (window_bytes k.rows.decoder.image.header.xd) memory' → CountsRows (hold_of d memory') stream out
 unfolding rows_with
 counted_with d memory memory' stream out k same = record { rows = rows_with d memory memory' stream out k.rows same; count_is = k.count_is }
 
 read_with : (d : T85Decoder) (memory memory' : List ℕ) →
-    ((stream out : List ℕ) (k : InRows (hold_of d memory) stream out) → take (window_bytes k.decoder.header.xd) memory ≡ take (window_bytes k.decoder.header.xd) memory') →
+    ((stream out : List ℕ) (k : InRows (hold_of d memory) stream out) → take (window_bytes k.decoder.image.header.xd) memory ≡ take (window_bytes k.decoder.image.header.xd) memory') →
     (stream out : List ℕ) → HasRead (hold_of d memory) stream out → HasRead (hold_of d memory') stream out
 read_with d memory memory' same stream out (inl h) = inl h
 read_with d memory memory' same stream out (inr (inl h)) = inr (inl h)
@@ -142,16 +142,16 @@ read_with d memory memory' same stream out (inr (inr k)) = inr (inr (counted_wit
 
 module _ (laws : HeaderLaws) (d d' : T85Decoder) (window memory' rest : List ℕ) (needed : ℕ) (header : Header) (header_of : HeaderOf d.header (fields_of header)) (same : d'.header ≡ d.header)
     (needed_is : needed ≡ window_bytes header.xd) (long' : length memory' ≡ needed) where
-  wide : (hold : Hold) (stream out : List ℕ) → hold.decoder.header ≡ d.header → (k : InRows hold stream out) → window_bytes k.decoder.header.xd ≡ needed
-  wide hold stream out is k = ap (λ f. window_bytes f.xd) (laws.one d.header (fields_of k.decoder.header) (fields_of header) (rw is at k.header_of) header_of) ∙ sym needed_is
+  wide : (hold : Hold) (stream out : List ℕ) → hold.decoder.header ≡ d.header → (k : InRows hold stream out) → window_bytes k.decoder.image.header.xd ≡ needed
+  wide hold stream out is k = ap (λ f. window_bytes f.xd) (laws.one d.header (fields_of k.decoder.image.header) (fields_of header) (rw is at k.header_of) header_of) ∙ sym needed_is
 
   lent : (stream out : List ℕ) → HasRead (hold_of d window) stream out → HasRead (hold_of d (take needed window)) stream out
   lent = read_with d window (take needed window)
       (λ stream out k. subst (λ n. take n window ≡ take n (take needed window)) (sym (wide (hold_of d window) stream out refl k))
       (sym (take_all needed (take needed window) (take_long needed window))))
 
-  same_back : (stream out : List ℕ) (k : InRows (hold_of d' memory') stream out) → take (window_bytes k.decoder.header.xd) memory' ≡ take (window_bytes k.decoder.header.xd) (memory' ++ rest)
-  same_back stream out k = sym (take-append-le (window_bytes k.decoder.header.xd) memory' rest (omega (arith, wide (hold_of d' memory') stream out same k, long')))
+  same_back : (stream out : List ℕ) (k : InRows (hold_of d' memory') stream out) → take (window_bytes k.decoder.image.header.xd) memory' ≡ take (window_bytes k.decoder.image.header.xd) (memory' ++ rest)
+  same_back stream out k = sym (take-append-le (window_bytes k.decoder.image.header.xd) memory' rest (omega (arith, wide (hold_of d' memory') stream out same k, long')))
 
   row_back : (call : BytesCall) (stream out : List ℕ) → GivesRowAt (hold_of d' memory') call stream out → GivesRowAt (hold_of d' (memory' ++ rest)) call stream out
   unfolding rows_with counted_with

@@ -36,7 +36,7 @@ pub record IsStored (d : T85Decoder) (header : Header) (e : PieceDecoder) (windo
   pub version_is : d.version ≡ 2
   pub next_is : d.next ≡ 2
   pub place_to : d.place < 3
-  pub header_is : e.header ≡ header
+  pub header_is : e.image.header ≡ header
   pub header_of : HeaderOf d.header (fields_of header)
   pub long : length memory ≡ window_bytes header.xd
   pub over : IsOver window d.place header.xd memory
@@ -68,8 +68,8 @@ rows_entered {old} {new} {memory} {memory'} {header} {e} {stream = stream} {out}
 pub rows_resumed : {d : T85Decoder} {memory : List ℕ} {header : Header} {e : PieceDecoder} → HeaderLaws → HeaderOf d.header (fields_of header) → length memory ≡ window_bytes header.xd → IsResumed header e d →
     (stream out : List ℕ) → CountsRows (hold_of d memory) stream out → ContinuesRows header e (hold_of d memory) stream out
 rows_resumed {d} {memory} {header} {e} laws header_of long resumes stream out k =
-    let same = laws.one d.header (fields_of k.rows.decoder.header) (fields_of header) k.rows.header_of header_of in
-    let wide : k.rows.decoder.header.xd ≡ header.xd = ap (λ f. f.xd) same in
+    let same = laws.one d.header (fields_of k.rows.decoder.image.header) (fields_of header) k.rows.header_of header_of in
+    let wide : k.rows.decoder.image.header.xd ≡ header.xd = ap (λ f. f.xd) same in
     record {
       text = k.rows.text;
       stream_is = k.rows.stream_is;
@@ -96,7 +96,7 @@ none_refused laws hold fault stream out (inl e) refused has =
     not_some fault (sym (laws.not_refused hold.decoder.header was.header was.header_of) ∙ refused)
 none_refused laws hold fault stream out (inr e) refused has =
     let was = in_rows hold stream out e has in
-    not_some fault (sym (laws.not_refused hold.decoder.header (fields_of was.decoder.header) was.header_of) ∙ refused)
+    not_some fault (sym (laws.not_refused hold.decoder.header (fields_of was.decoder.image.header) was.header_of) ∙ refused)
 
 -- and the stream of a decoder behind its header begins with that
 pub short_of : HeaderLaws → (hold : Hold) (header : Header) (stream out : List ℕ) → (hold.decoder.next ≡ 1) ⊎ (hold.decoder.next ≡ 2) → HeaderOf hold.decoder.header (fields_of header) →
@@ -157,7 +157,7 @@ rows_moved {d} {d'} {memory} same k = record {
   has = record {
     decoded = k.has.decoded;
     text_is = k.has.text_is ∙ ap (λ b. k.has.decoded ++ b) (sym same.held);
-    has = decoded_as k.decoder (ap (λ p. rows_at p k.decoder.header.xd (take (window_bytes k.decoder.header.xd) memory)) same.place) same.learned refl k.has.has;
+    has = decoded_as k.decoder (ap (λ p. rows_at p k.decoder.image.header.xd (take (window_bytes k.decoder.image.header.xd) memory)) same.place) same.learned refl k.has.has;
   };
 }
 

@@ -64,7 +64,7 @@ pub record GivesRowAt (new : Hold) (call : BytesCall) (stream out : List ℕ) : 
   pub row : List ℕ
   pub stands : StandAt call.row row new.window
   pub has : CountsRows new stream (out ++ row)
-  pub whole : length row ≡ div_ceil has.rows.decoder.header.xd 8
+  pub whole : length row ≡ div_ceil has.rows.decoder.image.header.xd 8
   pub within : new.decoder.given ≤ new.decoder.max_rows
 
 -- a stream with a whole image, of this height and with these rows
@@ -164,7 +164,7 @@ pub record Answers (Has : List ℕ → List ℕ → Type 0) (old new : Hold) (ca
 
 -- no decoder of the engine has the header and the numbers of the struct, or its rows have no place in the window
 abbrev pub HasNoDecoder : T85Decoder → Type 0
-HasNoDecoder d = (2 < d.place) ⊎ ((decoder : PieceDecoder) → HeaderOf d.header (fields_of decoder.header) → ArePieceNumbers d.numbers decoder → ⊥)
+HasNoDecoder d = (2 < d.place) ⊎ ((decoder : PieceDecoder) → HeaderOf d.header (fields_of decoder.image.header) → ArePieceNumbers d.numbers decoder → ⊥)
 
 -- No call leaves this struct: its version or its next event is unknown, its header is complete before it was read, or rejected, or its
 -- numbers are those of no decoder.
@@ -209,4 +209,4 @@ pub record IsAnswered (old new : Hold) (call : BytesCall) (status : ℕ) : Type 
 
 -- This many rows are certain: no height that can still arrive is lower, and one is equal.
 abbrev pub TellsCertain : T85Decoder → ℕ → Type 0
-TellsCertain d rows = (window stream out : List ℕ) (k : InRows (hold_of d window) stream out) → IsLeastHeight (fields_of k.decoder.header) k.has.decoded rows
+TellsCertain d rows = (window stream out : List ℕ) (k : InRows (hold_of d window) stream out) → IsLeastHeight (fields_of k.decoder.image.header) k.has.decoded rows

@@ -19,7 +19,7 @@ pub record AnnouncesMore (stream : List ℕ) (rows : ℕ) : Type 0 where
 -- More rows than the limit are certain for a decoder in this state.
 pub record IsCertainOfMore {hold : Hold} {stream out : List ℕ} (has : InRows hold stream out) (limit : ℕ) : Type 0 where
   pub rows : ℕ
-  pub certain : IsLeastHeight (fields_of has.decoder.header) has.has.decoded rows
+  pub certain : IsLeastHeight (fields_of has.decoder.image.header) has.has.decoded rows
   pub more : limit < rows
 
 -- The stream is rejected in place of a row: these bytes determine one more row. With it, more rows than the limit are certain, or
@@ -28,13 +28,13 @@ pub record ReplacesRow (d : T85Decoder) (stream out : List ℕ) : Type 0 where
   pub hold : Hold
   pub row : List ℕ
   pub has : InRows hold stream (out ++ row)
-  pub whole : length row ≡ div_ceil has.decoder.header.xd 8
-  pub why : IsCertainOfMore has d.max_rows ⊎ (d.max_rows * div_ceil has.decoder.header.xd 8 ≤ length out)
+  pub whole : length row ≡ div_ceil has.decoder.image.header.xd 8
+  pub why : IsCertainOfMore has d.max_rows ⊎ (d.max_rows * div_ceil has.decoder.image.header.xd 8 ≤ length out)
   pub height_is : d.numbers.height ≡ hold.decoder.numbers.height
 
 -- no more rows than the limit are certain
 abbrev pub IsWithinLimit : T85Decoder → Type 0
-IsWithinLimit d = (window stream out : List ℕ) (k : InRows (hold_of d window) stream out) (rows : ℕ) → IsLeastHeight (fields_of k.decoder.header) k.has.decoded rows → rows ≤ d.max_rows
+IsWithinLimit d = (window stream out : List ℕ) (k : InRows (hold_of d window) stream out) (rows : ℕ) → IsLeastHeight (fields_of k.decoder.image.header) k.has.decoded rows → rows ≤ d.max_rows
 
 -- This holds if the stream goes on.
 abbrev pub StaysWithinLimit : Answer → T85Decoder → Type 0

@@ -55,16 +55,16 @@ pub record InRows (hold : Hold) (stream out : List ℕ) : Type 0 where
   pub next_is : hold.decoder.next ≡ 2
   pub place_to : hold.decoder.place < 3
   pub decoder : PieceDecoder
-  pub header_of : HeaderOf hold.decoder.header (fields_of decoder.header)
+  pub header_of : HeaderOf hold.decoder.header (fields_of decoder.image.header)
   pub numbers_are : ArePieceNumbers hold.decoder.numbers decoder
   pub text : List ℕ
   pub stream_is : stream ≡ hold.decoder.header ++ text
-  pub has : HasFed (decoder_view decoder (rows_at hold.decoder.place decoder.header.xd (take (window_bytes decoder.header.xd) hold.window)) hold.decoder.learned) (bytes_held_by hold.decoder) text out
+  pub has : HasFed (decoder_view decoder (rows_at hold.decoder.place decoder.image.header.xd (take (window_bytes decoder.image.header.xd) hold.window)) hold.decoder.learned) (bytes_held_by hold.decoder) text out
 
 -- among the rows, where the struct counts those that were returned
 pub record CountsRows (hold : Hold) (stream out : List ℕ) : Type 0 where
   pub rows : InRows hold stream out
-  pub count_is : length out ≡ hold.decoder.given * div_ceil rows.decoder.header.xd 8
+  pub count_is : length out ≡ hold.decoder.given * div_ceil rows.decoder.image.header.xd 8
 
 -- The struct and the window are as calls leave them that consumed these bytes of a stream, and returned these rows, packed.
 abbrev pub HasRead : Hold → List ℕ → List ℕ → Type 0

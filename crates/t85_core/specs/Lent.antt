@@ -125,8 +125,8 @@ waits_behind d = d.is_open && d.waits
 
 abbrev pub decoder_view : PieceDecoder → Held → List Estimate → PieceView
 decoder_view d rows learned = record {
-  header = d.header;
-  height = d.height;
+  header = d.image.header;
+  height = d.image.height;
   walk = walk_view d.walk rows learned;
   is_open = d.is_open;
   waits = d.waits;

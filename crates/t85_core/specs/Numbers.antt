@@ -90,7 +90,7 @@ piece_numbers d = record {
   stage = stage_numbers d.walk.stage;
   decoder = decoder_registers d.walk.decoder;
   behind = head_numbers d.behind;
-  height = d.height;
+  height = d.image.height;
   entities = d.walk.entities;
   left = d.walk.left;
   offset = d.walk.kept.offset;
@@ -148,7 +148,7 @@ pub record AreWalkNumbers (n : PieceNumbers) (w : Walk) : Type 0 where
 
 -- the numbers of a decoder, without its end
 pub record ArePieceNumbers (n : PieceNumbers) (d : PieceDecoder) : Type 0 where
-  pub height_is : n.height ≡ d.height
+  pub height_is : n.height ≡ d.image.height
   pub open_is : is_set n.is_open ≡ d.is_open
   pub waits_is : is_set n.waits ≡ d.waits
   pub behind_is : AreHeadNumbers n.behind d.behind

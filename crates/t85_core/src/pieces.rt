@@ -73,9 +73,8 @@ pub struct Progress {
 /// determine or, behind an end marker, that the bytes before the marker determine.
 #[derive(Drop)]
 pub struct PieceDecoder {
-    header: Header,
-    /// The current height: the header's, until another has arrived.
-    height: u32,
+    /// The current height is the header's, until another has arrived.
+    image: SizedImage,
     walk: Walk,
     /// Whether a height may still arrive.
     is_open: bool,
@@ -85,8 +84,6 @@ pub struct PieceDecoder {
     behind: Head,
     /// How the stream has ended, if it has.
     end: Option<End>,
-    ghost from: { 1 ≤ height },
-    ghost to: { height ≤ header.yd },
 }
 
 impl PieceDecoder {
@@ -100,7 +97,7 @@ impl PieceDecoder {
     /// A decoder before the first byte after the header. Makes the window white, and resets the contexts.
     pub fn start(header: Header, window: &mut Window<'_>, learned: &mut Learned) -> PieceDecoder
         requires width { width_of window.old ≡ header.xd }
-        ensures stream { result.header ≡ header }
+        ensures stream { result.image.header ≡ header }
         ensures none { HasDecoded (decoder_over result window.new learned.new) [] [] }
         ensures window { KeepsWindow window.old window.new }
     {
@@ -111,8 +108,7 @@ impl PieceDecoder {
             height: header.yd,
         };
         PieceDecoder {
-            header,
-            height: header.yd,
+            image,
             walk: Walk::start(&image, &mut lent),
             is_open,
             waits: is_open,
@@ -149,7 +145,7 @@ impl PieceDecoder {
     {
         if let Some(end) = self.end {
             return Progress {
-                outcome: end.outcome(self.height),
+                outcome: end.outcome(self.image.height),
                 taken: 0,
             };
         }
@@ -167,18 +163,19 @@ impl PieceDecoder {
     pub fn certain(&self) -> u32
         // It depends only on the header and the numbers.
         ensures certain { self.now.end ≡ None → (d : PieceDecoder) (numbers : PieceNumbers)
-            (rows : Held) (learned : List Estimate) → fields_of d.header ≡
-            fields_of self.now.header → ArePieceNumbers numbers d →
+            (rows : Held) (learned : List Estimate) → fields_of d.image.header ≡
+            fields_of self.now.image.header → ArePieceNumbers numbers d →
             ArePieceNumbers numbers self.now → AreCertain (decoder_view d rows learned) result }
         ensures own { (rows : Held) (learned : List Estimate) →
             AreCertain (decoder_view self.now rows learned) result }
-        ensures ended { IfSome self.now.end (λ _. result ≡ self.now.height) }
+        ensures ended { IfSome self.now.end (λ _. result ≡ self.now.image.height) }
     {
         if !self.is_open || self.end.is_some() {
-            return self.height;
+            return self.image.height;
         }
         // Each stripe that has begun contains a row of the image.
-        self.header
+        self.image
+            .header
             .yd
             .saturating_sub(self.walk.left)
             .saturating_add(1)
@@ -186,9 +183,9 @@ impl PieceDecoder {
 
     /// The current height: the header's, until another has arrived.
     pub fn height(&self) -> u32
-        ensures { result ≡ self.now.height }
+        ensures { result ≡ self.now.image.height }
     {
-        self.height
+        self.image.height
     }
 }
 

@@ -32,15 +32,15 @@ stored_rows {b} {window = window} s =
 
 -- whatever decoder had these numbers, this one has taken and given the same, with this window
 pub record IsResumed (b : Between) (d : PieceDecoder) (window : Window) : Type 0 where
-  pub header_is : d.header ≡ b.header
+  pub header_is : d.image.header ≡ b.header
   pub rows_are : held window ≡ rows_in b
-  pub resumes : (e : PieceDecoder) (rows : Held) (learned : List Estimate) (text out : List ℕ) → HasDecoded (decoder_view e rows learned) text out → fields_of e.header ≡ fields_of b.header →
+  pub resumes : (e : PieceDecoder) (rows : Held) (learned : List Estimate) (text out : List ℕ) → HasDecoded (decoder_view e rows learned) text out → fields_of e.image.header ≡ fields_of b.header →
       ArePieceNumbers b.kept.numbers e → HasDecoded (decoder_view d rows learned) text out
 
 module _ {old new : Between} {d d' : PieceDecoder} {window window' : Window} {piece : List ℕ} {is_all : Bool} {progress : Progress} (resumed : IsResumed old d window)
     (stored : IsStored new d' window') (header_is : new.header ≡ old.header)
     (called : IsFeed (decoder_over d window old.learned) (held_bytes old.kept.held) (held_bytes new.kept.held) (call_of piece is_all progress (decoder_over d' window' new.learned))) where
-  stream_is : fields_of d.header ≡ fields_of old.header
+  stream_is : fields_of d.image.header ≡ fields_of old.header
   stream_is = ap fields_of resumed.header_is
 
   call : IsFeed (decoder_view d (rows_in old) old.learned) (held_bytes old.kept.held) (held_bytes new.kept.held) (call_of piece is_all progress (decoder_view d' (rows_in new) new.learned))
@@ -71,7 +71,7 @@ module _ {old new : Between} {d d' : PieceDecoder} {window window' : Window} {pi
   }
 
 -- before the first byte
-pub kept_first : {b : Between} {d : PieceDecoder} {window : Window} → IsStored b d window → d.header ≡ b.header → held_bytes b.kept.held ≡ [] →
+pub kept_first : {b : Between} {d : PieceDecoder} {window : Window} → IsStored b d window → d.image.header ≡ b.header → held_bytes b.kept.held ≡ [] →
     HasDecoded (decoder_over d window b.learned) [] [] → IsKept b [] []
 kept_first {d = d} stored header_is none has =
     record { decoder = d; stream_is = ap fields_of header_is; numbers_are = stored.numbers; has = record { decoded = []; text_is = sym none; has = rw (stored_rows stored) at has } }

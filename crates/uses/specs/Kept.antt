@@ -27,7 +27,7 @@ between_calls header kept memory learned = record { header = header; kept = kept
 -- The state is that of a decoder that can continue. It has consumed these bytes, and returned these rows, packed.
 pub record IsKept (b : Between) (text out : List ℕ) : Type 0 where
   pub decoder : PieceDecoder
-  pub stream_is : fields_of decoder.header ≡ fields_of b.header
+  pub stream_is : fields_of decoder.image.header ≡ fields_of b.header
   pub numbers_are : ArePieceNumbers b.kept.numbers decoder
   pub has : HasFed (decoder_view decoder (rows_at b.kept.place b.header.xd b.memory) b.learned) (held_bytes b.kept.held) text out
 

@@ -91,7 +91,7 @@ impl T85Decoder {
         requires may { MayEnterRows header.now self.old }
         requires next { self.old.next ≡ 1 }
         ensures may { MayTakeRows header.now self.new }
-        ensures header { result.header ≡ header.now }
+        ensures header { result.image.header ≡ header.now }
         ensures has { (stream out : List ℕ) → HasRead (hold_of self.old memory.old) stream out →
             ContinuesRows header.now result (hold_of self.new memory.new) stream out }
         ensures same_header { self.new.header ≡ self.old.header }
@@ -118,7 +118,7 @@ impl T85Decoder {
     ) -> Report
         requires long { length memory.old ≡ window_of header.now.xd }
         requires may { MayTakeRows header.now self.old }
-        requires header { decoder.old.header ≡ header.now }
+        requires header { decoder.old.image.header ≡ header.now }
         ensures answers { Answers (ContinuesRows header.now decoder.old (hold_of self.old
             memory.old)) (hold_of self.old memory.old) (hold_of self.new memory.new)
             (more_call bytes.now more result.taken result.row) result.answer }

@@ -138,22 +138,22 @@ module _ {w w' : Walk} (k : IsWalkAs w w') (rows : Held) (learned : List Estimat
       subst (λ z. CodeWalks h (walk_view z rows learned) text out) (sym k.same) (let t : CodeWalks h there text out = record { walk = walk_there s.walk; in_code = s.in_code; ungiven = s.ungiven; in_time = s.in_time } in t)
 
 -- the decoder stands where the other one does
-pub stands_as : (d : PieceDecoder) (d' : PieceView) (w' : Walk) (rows : Held) (learned : List Estimate) (text out : List ℕ) → d'.walk ≡ walk_view w' rows learned → fields_of d'.header ≡ fields_of d.header → d'.height ≡ d.height → d'.is_open ≡ d.is_open → d'.waits ≡ d.waits → d'.behind ≡ d.behind → IsWalkAs d.walk w' →
+pub stands_as : (d : PieceDecoder) (d' : PieceView) (w' : Walk) (rows : Held) (learned : List Estimate) (text out : List ℕ) → d'.walk ≡ walk_view w' rows learned → fields_of d'.header ≡ fields_of d.image.header → d'.height ≡ d.image.height → d'.is_open ≡ d.is_open → d'.waits ≡ d.waits → d'.behind ≡ d.behind → IsWalkAs d.walk w' →
     DecoderStands (decoder_view d rows learned) text out → DecoderStands d' text out
 stands_as d d' w' rows learned text out walk header height is_open waits behind k s = by d.is_open d.waits refl refl where
   known : HeightKnown (fields_of d'.header) d'.height d'.is_open text
-  known = subst (λ h. HeightKnown h d'.height d'.is_open text) (sym header) (subst (λ n. HeightKnown (fields_of d.header) n d'.is_open text) (sym height) (subst (λ b. HeightKnown (fields_of d.header) d.height b text) (sym is_open) s.height))
+  known = subst (λ h. HeightKnown h d'.height d'.is_open text) (sym header) (subst (λ n. HeightKnown (fields_of d.image.header) n d'.is_open text) (sym height) (subst (λ b. HeightKnown (fields_of d.image.header) d.image.height b text) (sym is_open) s.height))
 
   by : (a b : Bool) → d.is_open ≡ a → d.waits ≡ b → DecoderStands d' text out
   by false b e f = put_walks d' text out (is_open ∙ e) known
       (subst (λ h. WalkStands (sized h d'.height) d'.walk text out) (sym header)
-      (subst (λ n. WalkStands (sized (fields_of d.header) n) d'.walk text out) (sym height)
-      (subst (λ z. WalkStands (sized (fields_of d.header) d.height) z text out) (sym walk) (walk_as k rows learned (walks_of (decoder_view d rows learned) text out e s)))))
+      (subst (λ n. WalkStands (sized (fields_of d.image.header) n) d'.walk text out) (sym height)
+      (subst (λ z. WalkStands (sized (fields_of d.image.header) d.image.height) z text out) (sym walk) (walk_as k rows learned (walks_of (decoder_view d rows learned) text out e s)))))
   by true false e f = put_code d' text out (is_open ∙ e) (waits ∙ f) known
-      (subst (λ h. CodeWalks h d'.walk text out) (sym header) (subst (λ z. CodeWalks (fields_of d.header) z text out) (sym walk) (code_walk_as k rows learned (code_of (decoder_view d rows learned) text out e f s))))
+      (subst (λ h. CodeWalks h d'.walk text out) (sym header) (subst (λ z. CodeWalks (fields_of d.image.header) z text out) (sym walk) (code_walk_as k rows learned (code_of (decoder_view d rows learned) text out e f s))))
   by true true e f =
       let w = waits_of (decoder_view d rows learned) text out e f s in
-      let t : WalkWaits (fields_of d.header) (walk_view (record d.walk { decoder = w'.decoder }) rows learned) d.behind text out = record {
+      let t : WalkWaits (fields_of d.image.header) (walk_view (record d.walk { decoder = w'.decoder }) rows learned) d.behind text out = record {
         done = w.done;
         back = w.back;
         text_is = w.text_is;
@@ -165,6 +165,6 @@ stands_as d d' w' rows learned text out walk header height is_open waits behind 
       } in
       put_waits d' text out (is_open ∙ e) (waits ∙ f) known
       (subst (λ h. WalkWaits h d'.walk d'.behind text out) (sym header)
-      (subst (λ b. WalkWaits (fields_of d.header) d'.walk b text out) (sym behind)
-      (subst (λ z. WalkWaits (fields_of d.header) z d.behind text out) (sym walk)
-      (subst (λ z. WalkWaits (fields_of d.header) (walk_view z rows learned) d.behind text out) (sym k.same) t))))
+      (subst (λ b. WalkWaits (fields_of d.image.header) d'.walk b text out) (sym behind)
+      (subst (λ z. WalkWaits (fields_of d.image.header) z d.behind text out) (sym walk)
+      (subst (λ z. WalkWaits (fields_of d.image.header) (walk_view z rows learned) d.behind text out) (sym k.same) t))))

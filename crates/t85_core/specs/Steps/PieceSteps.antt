@@ -148,11 +148,11 @@ LookIsOver is_all d piece =
 
 -- whether the last stripe is over there that the header's height makes
 abbrev pub is_last_of : PieceDecoder → Bool
-is_last_of d = last_behind (fields_of d.header) (stage_kind d.walk.stage) d.walk.left
+is_last_of d = last_behind (fields_of d.image.header) (stage_kind d.walk.stage) d.walk.left
 
 -- where what comes behind stands
 abbrev pub place_after : PieceDecoder → Place
-place_after d = place_behind (fields_of d.header) (stage_kind d.walk.stage) d.walk.entities
+place_after d = place_behind (fields_of d.image.header) (stage_kind d.walk.stage) d.walk.entities
 
 -- how many steps may be left: each takes bytes, or is the one that begins to wait
 abbrev pub steps_left : Bool → List ℕ → ℕ

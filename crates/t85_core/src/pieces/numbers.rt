@@ -9,7 +9,7 @@ ghost use Rattle.t85_core.specs.Options.{fields_of};
 mod head;
 mod stage;
 
-use crate::header::Header;
+use crate::header::{Header, SizedImage};
 use crate::pieces::PieceDecoder;
 use crate::pieces::walk::Walk;
 use qm_core::{Decoder, DecoderRegisters};
@@ -169,7 +169,7 @@ impl PieceDecoder {
         numbers.stage.store(&walk.stage);
         numbers.decoder = walk.decoder.registers();
         numbers.behind.store(self.behind);
-        numbers.height = self.height;
+        numbers.height = self.image.height;
         numbers.entities = walk.entities;
         numbers.left = walk.left;
         numbers.offset = walk.kept.offset;
@@ -183,21 +183,23 @@ impl PieceDecoder {
     /// borrow the window and the contexts as the last call left them; with others it is only safe.
     #[inline(always)]
     pub fn resume(header: Header, numbers: &PieceNumbers) -> Option<PieceDecoder>
-        ensures is { IfSome result (λ d. (d.header ≡ header) × (d.end ≡ None) ×
+        ensures is { IfSome result (λ d. (d.image.header ≡ header) × (d.end ≡ None) ×
             ArePieceNumbers numbers.now d) }
-        ensures all { (d : PieceDecoder) → fields_of d.header ≡ fields_of header →
+        ensures all { (d : PieceDecoder) → fields_of d.image.header ≡ fields_of header →
             ArePieceNumbers numbers.now d → IsSome result }
         ensures resumes { (d : PieceDecoder) (rows : Held) (learned : List Estimate)
             (text out : List ℕ) → HasDecoded (decoder_view d rows learned) text out →
-            fields_of d.header ≡ fields_of header → ArePieceNumbers numbers.now d →
+            fields_of d.image.header ≡ fields_of header → ArePieceNumbers numbers.now d →
             IfSome result (λ r. HasDecoded (decoder_view r rows learned) text out) }
     {
         if numbers.height < 1 || header.yd < numbers.height {
             return None;
         }
         Some(PieceDecoder {
-            header,
-            height: numbers.height,
+            image: SizedImage {
+                header,
+                height: numbers.height,
+            },
             walk: numbers.walk()?,
             is_open: numbers.is_open != 0,
             waits: numbers.waits != 0,

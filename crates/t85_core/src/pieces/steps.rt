@@ -74,13 +74,9 @@ impl PieceDecoder {
             lent.new) piece.old.rest.now piece.new.rest.now (Some result) }
         ensures lent { KeepsLent lent.old lent.new }
     {
-        let image = SizedImage {
-            header: self.header,
-            height: self.height,
-        };
-        match self.walk.next(&image, lent, piece) {
+        match self.walk.next(&self.image, lent, piece) {
             Ok(true) => Outcome::Row,
-            Ok(false) => Outcome::Done(self.height),
+            Ok(false) => Outcome::Done(self.image.height),
             Err(fault) => outcome_of(fault, is_all),
         }
     }
@@ -106,7 +102,10 @@ impl PieceDecoder {
             self.behind = Head::start();
             return None;
         }
-        if self.walk.wants_row(self.walk.left.min(self.header.l0)) {
+        if self
+            .walk
+            .wants_row(self.walk.left.min(self.image.header.l0))
+        {
             self.step_in_rows(lent, piece, is_all)
         } else {
             self.step_to_marker(piece, is_all)
@@ -118,15 +117,15 @@ impl PieceDecoder {
         requires in_code { DecodesCode self.old }
         requires unmarked { MarkerRead (stage_marker self.old.walk.stage) (stage_first
             self.old.walk.stage) → ⊥ }
-        requires all { HasAllRows self.old.header.l0 self.old.walk }
+        requires all { HasAllRows self.old.image.header.l0 self.old.walk }
         ensures leaves { (rows : Held) (learned : List Estimate) → StepLeaves is_all (decoder_view
             self.old rows learned) (decoder_view self.new rows learned) piece.old.rest.now
             piece.new.rest.now result }
         ensures lowers { Lowers self.old self.new piece.old.rest.now piece.new.rest.now result }
     {
         let image = SizedImage {
-            header: self.header,
-            height: self.header.yd,
+            header: self.image.header,
+            height: self.image.header.yd,
         };
         match self.walk.find_end(&image, piece) {
             Ok(_) => {
@@ -148,7 +147,7 @@ impl PieceDecoder {
         requires in_code { DecodesCode self.old }
         requires unmarked { MarkerRead (stage_marker self.old.walk.stage) (stage_first
             self.old.walk.stage) → ⊥ }
-        requires wants { RowIsLeft self.old.header.l0 (walk_lent self.old.walk lent.old) }
+        requires wants { RowIsLeft self.old.image.header.l0 (walk_lent self.old.walk lent.old) }
         ensures leaves { StepLeaves is_all (over self.old lent.old) (over self.new
             lent.new) piece.old.rest.now piece.new.rest.now result }
         ensures lowers { Lowers self.old self.new piece.old.rest.now piece.new.rest.now result }
@@ -158,8 +157,8 @@ impl PieceDecoder {
         let (front, behind) = bytes.split_at(code_len(bytes));
         let mut part = Piece { rest: front };
         let image = SizedImage {
-            header: self.header,
-            height: self.header.yd,
+            header: self.image.header,
+            height: self.image.header.yd,
         };
         match self.walk.next_row(&image, lent, &mut part) {
             Ok(()) => {
@@ -187,7 +186,7 @@ impl PieceDecoder {
     /// Consumes the end marker, if it comes next, and waits there.
     fn wait_at_marker(&mut self, piece: &mut Piece<'_>)
         requires in_code { DecodesCode self.old }
-        ensures header { self.new.header ≡ self.old.header }
+        ensures header { self.new.image.header ≡ self.old.image.header }
         ensures end { self.new.end ≡ self.old.end }
         ensures on { stage_first self.old.walk.stage ≡ None →
             stage_marker self.old.walk.stage ≡ None → IsInCode (stage_kind self.old.walk.stage) →

@@ -42,7 +42,7 @@ impl PieceDecoder {
         }
         let place = self.place_behind();
         let is_last = self.is_last();
-        match self.behind.pass(&self.header, place, is_last, piece) {
+        match self.behind.pass(&self.image.header, place, is_last, piece) {
             Ok(coming) => self.take_coming(lent, coming, is_last, is_all, piece),
             Err(fault) => {
                 if is_open_end(fault, is_all) {
@@ -65,7 +65,7 @@ impl PieceDecoder {
         requires looks { LooksForHeight self.old }
         requires between { self.old.behind.comment ≡ None }
         requires last { is_last ≡ is_last_of self.old }
-        requires comes { ComesBehind (fields_of self.old.header) (place_after self.old) coming.next
+        requires comes { ComesBehind (fields_of self.old.image.header) (place_after self.old) coming.next
             piece.old.rest.now coming.rest.now }
         ensures leaves { StepLeaves is_all (over self.old lent.old) (over self.new
             lent.new) piece.old.rest.now piece.new.rest.now result }
@@ -95,7 +95,7 @@ impl PieceDecoder {
         requires looks { LooksForHeight self.old }
         requires last { is_last ≡ is_last_of self.old }
         requires end { fault ≡ Truncated → is_all ≡ true }
-        requires stops { StopsBehind (fields_of self.old.header)
+        requires stops { StopsBehind (fields_of self.old.image.header)
             (behind_at (place_after self.old) is_last) self.old.behind piece.now.rest.now fault }
         ensures leaves { StepLeaves is_all (over self.old lent.old) (over self.new
             lent.new) piece.now.rest.now piece.now.rest.now (Some result) }
@@ -118,7 +118,7 @@ impl PieceDecoder {
     ) -> Option<Outcome>
         requires looks { LooksForHeight self.old }
         requires between { self.old.behind.comment ≡ None }
-        requires comes { HeightComes (fields_of self.old.header) (walk_lent self.old.walk lent.old)
+        requires comes { HeightComes (fields_of self.old.image.header) (walk_lent self.old.walk lent.old)
             height piece.old.rest.now rest.now }
         ensures leaves { (is_all : Bool) → StepLeaves is_all (over self.old lent.old)
             (over self.new lent.new) piece.old.rest.now piece.new.rest.now result }
@@ -127,21 +127,21 @@ impl PieceDecoder {
     {
         // The proof uses these laws of the coder.
         coder_laws();
-        let fewer = self.header.yd - height;
+        let fewer = self.image.header.yd - height;
         let left = self.walk.left.saturating_sub(fewer);
-        if self.gives_below(lent, left.min(self.header.l0)) {
+        if self.gives_below(lent, left.min(self.image.header.l0)) {
             return Some(Outcome::Row);
         }
         if self.ends_in_stripe(left) {
             piece.rest = rest;
-            self.height = height;
+            self.image.height = height;
             return Some(Outcome::Done(height));
         }
         self.enter_head(lent);
         piece.rest = rest;
         self.walk.given = true;
         self.walk.left = self.walk.left.saturating_sub(fewer);
-        self.height = height;
+        self.image.height = height;
         self.is_open = false;
         self.waits = false;
         None
@@ -167,7 +167,7 @@ impl PieceDecoder {
     {
         // The proof uses these laws of the coder.
         coder_laws();
-        if self.gives_below(lent, self.walk.left.min(self.header.l0)) {
+        if self.gives_below(lent, self.walk.left.min(self.image.header.l0)) {
             return Some(Outcome::Row);
         }
         self.enter_head(lent);
@@ -190,7 +190,7 @@ impl PieceDecoder {
         requires looks { LooksForHeight self.old }
         requires more { is_last_of self.old ≡ false }
         requires end { fault ≡ Truncated → is_all ≡ true }
-        requires stops { StopsBehind (fields_of self.old.header)
+        requires stops { StopsBehind (fields_of self.old.image.header)
             (behind_at (place_after self.old) false) self.old.behind piece.now.rest.now fault }
         ensures leaves { StepLeaves is_all (over self.old lent.old) (over self.new
             lent.new) piece.now.rest.now piece.now.rest.now (Some result) }
@@ -198,7 +198,7 @@ impl PieceDecoder {
     {
         // The proof uses these laws of the coder.
         coder_laws();
-        if self.gives_below(lent, self.walk.left.min(self.header.l0)) {
+        if self.gives_below(lent, self.walk.left.min(self.image.header.l0)) {
             return Outcome::Row;
         }
         self.enter_head(lent);
@@ -218,12 +218,12 @@ impl PieceDecoder {
     {
         // The proof uses these laws of the coder.
         coder_laws();
-        if self.gives_below(lent, self.walk.left.min(self.header.l0)) {
+        if self.gives_below(lent, self.walk.left.min(self.image.header.l0)) {
             return Outcome::Row;
         }
         self.end_stripe(lent);
         self.waits = false;
-        Outcome::Done(self.height)
+        Outcome::Done(self.image.height)
     }
 }
 

@@ -26,7 +26,7 @@ impl PieceDecoder {
             _ => self.walk.entities,
         };
         Place {
-            height: self.header.yd,
+            height: self.image.header.yd,
             entities,
             given: false,
         }
@@ -37,7 +37,7 @@ impl PieceDecoder {
         ensures { result ≡ is_last_of self.now }
     {
         match self.walk.stage {
-            Stage::Code(_) => self.walk.left <= self.header.l0,
+            Stage::Code(_) => self.walk.left <= self.image.header.l0,
             Stage::Done => true,
             _ => false,
         }
@@ -58,18 +58,18 @@ impl PieceDecoder {
     /// stripe.
     pub(super) fn ends_in_stripe(&self, left: u32) -> bool
         ensures yes { result ≡ true → IsInCode (stage_kind self.now.walk.stage) ×
-            (left ≤ self.now.header.l0) }
+            (left ≤ self.now.image.header.l0) }
         ensures no { result ≡ false → IsInCode (stage_kind self.now.walk.stage) →
-            self.now.header.l0 < left }
+            self.now.image.header.l0 < left }
     {
-        self.is_in_code() && left <= self.header.l0
+        self.is_in_code() && left <= self.image.header.l0
     }
 
     /// Decodes the next row of the previous stripe if its number is below `limit`, and returns whether it did. The row
     /// was held back because only the end marker determines it.
     pub(super) fn gives_below(&mut self, lent: &mut Lent<'_, '_>, limit: u32) -> bool
         requires looks { LooksForHeight self.old }
-        requires limit { limit ≤ min self.old.walk.left self.old.header.l0 }
+        requires limit { limit ≤ min self.old.walk.left self.old.image.header.l0 }
         ensures keeps { KeepsDecoder (over self.old lent.old) (over self.new lent.new) }
         ensures gives { result ≡ true → SomeStand (over self.old lent.old) → GivesBelow (over
             self.old lent.old) (over self.new lent.new) limit }
@@ -82,8 +82,8 @@ impl PieceDecoder {
         }
         let mut none = Piece { rest: &[] };
         let image = SizedImage {
-            header: self.header,
-            height: self.header.yd,
+            header: self.image.header,
+            height: self.image.header.yd,
         };
         let _given = self.walk.next_row(&image, lent, &mut none).is_ok();
         true
@@ -116,8 +116,8 @@ impl PieceDecoder {
         ensures lent { KeepsLent lent.old lent.new }
     {
         let image = SizedImage {
-            header: self.header,
-            height: self.header.yd,
+            header: self.image.header,
+            height: self.image.header.yd,
         };
         if let Some(reset) = self.walk.end_marker() {
             self.walk.end_stripe(&image, reset, lent);

@@ -6,7 +6,7 @@ use Rattle.t85.proofs.DecoderHeader.{not_some}
 use Rattle.t85.proofs.decoder.T85Decoder.certain.Goals as goal
 
 pub returns-in-Err-clause-certain : goal.returns-in-Err-clause-certain
-returns-in-Err-clause-certain c = λ window stream out k. absurd (not_some _ (sym (c.headers.ensures.not_refused c.args.self.now.header (fields_of k.decoder.header) k.header_of) ∙ c.in-Err.ensures.refused))
+returns-in-Err-clause-certain c = λ window stream out k. absurd (not_some _ (sym (c.headers.ensures.not_refused c.args.self.now.header (fields_of k.decoder.image.header) k.header_of) ∙ c.in-Err.ensures.refused))
 
 pub returns-in-Some-clause-certain : goal.returns-in-Some-clause-certain
 returns-in-Some-clause-certain c =

@@ -8,13 +8,13 @@ use Rattle.t85_core.proofs.pieces.PieceDecoder.certain.Goals.{then-not-self-via-
 
 pub returns-then-not-self-clause-certain : goal.returns-then-not-self-clause-certain
 returns-then-not-self-clause-certain c = λ going d numbers rows learned header k own text out s. elim c.then-not-self.branch [
-  | then-not-self-via-then-not-self w ↦ subst (IsLeastHeight (fields_of d.header) text) (sym k.height_is ∙ own.height_is) (least_known _ text out s.stands (sym k.open_is ∙ own.open_is ∙ w.if-not-self.true))
+  | then-not-self-via-then-not-self w ↦ subst (IsLeastHeight (fields_of d.image.header) text) (sym k.height_is ∙ own.height_is) (least_known _ text out s.stands (sym k.open_is ∙ own.open_is ∙ w.if-not-self.true))
   | then-not-self-via-else-not-self+then-is_some w ↦ absurd (true≢false (w.if-is_some.ensures ∙ ap is_some going))
 ]
 
 pub returns-clause-certain : goal.returns-clause-certain
 returns-clause-certain c = λ going d numbers rows learned header k own text out s.
-    let yd : c.args.self.now.header.yd ≡ d.header.yd = sym (ap (λ h. h.yd) header) in
+    let yd : c.args.self.now.image.header.yd ≡ d.image.header.yd = sym (ap (λ h. h.yd) header) in
     let left : c.args.self.now.walk.left ≡ d.walk.left = sym own.walk_is.left_is ∙ k.walk_is.left_is in
     least_late _ text out s.stands (sym k.open_is ∙ own.open_is ∙ c.if-not-self.false) _
     (c.saturating_add.ensures ∙ ap (λ (n : ℕ). min (n + 1) (2 ^ 32 - 1)) (c.saturating_sub.ensures ∙ (λ i. yd i - left i)))

@@ -5,7 +5,7 @@ use Rattle.t85_core.proofs.pieces.PieceDecoder.go_on.Given as goal
 
 abbrev pub invariant-steps : goal.invariant-steps
 invariant-steps l = record {
-  header : l.self.header ≡ l.fn.self.header;
+  header : l.self.image.header ≡ l.fn.self.image.header;
   going : l.self.end ≡ l.fn.self.end;
   lends : KeepsLent l.fn.lent l.lent;
   so_far : DecoderOn (decoder_lent l.fn.self l.fn.lent) (decoder_lent l.self l.lent) l.fn.piece.rest.now l.piece.rest.now [];

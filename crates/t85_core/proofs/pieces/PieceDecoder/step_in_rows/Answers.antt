@@ -31,11 +31,11 @@ returns-then-front-bytes-clause-leaves c =
           m.0 (λ some. (inr (c.in-Err.ensures.leaves c.requires.wants (some_code (decoder_lent c.args.self.now c.args.lent.now) c.requires.in_code.0 c.requires.in_code.1 some)).same_row.1, (c.in-Err.ensures.leaves c.requires.wants (some_code (decoder_lent c.args.self.now c.args.lent.now) c.requires.in_code.0 c.requires.in_code.1 some)).place.given)) (λ some. none_read (c.in-Err.ensures.leaves c.requires.wants (some_code (decoder_lent c.args.self.now c.args.lent.now) c.requires.in_code.0 c.requires.in_code.1 some)).same_row.2 ((c.in-Err.ensures.leaves c.requires.wants (some_code (decoder_lent c.args.self.now c.args.lent.now) c.requires.in_code.0 c.requires.in_code.1 some)).same_row.3 ∙ unread _ _ c.requires.unmarked)),
       m.1,
     ))
-    (code_broken (decoder_lent c.args.self.now c.args.lent.now) c.args.piece.now.rest.now c.in-Err.fault c.requires.in_code.0 c.requires.in_code.1 (subst (λ z. StepsOff (sized (fields_of c.args.self.now.header) c.args.self.now.header.yd) (walk_lent c.args.self.now.walk c.args.lent.now) z c.in-Err.fault) all (c.in-Err.ensures.step c.requires.wants).err) (λ some. (c.in-Err.ensures.leaves c.requires.wants (some_code (decoder_lent c.args.self.now c.args.lent.now) c.requires.in_code.0 c.requires.in_code.1 some)).other))
+    (code_broken (decoder_lent c.args.self.now c.args.lent.now) c.args.piece.now.rest.now c.in-Err.fault c.requires.in_code.0 c.requires.in_code.1 (subst (λ z. StepsOff (sized (fields_of c.args.self.now.image.header) c.args.self.now.image.header.yd) (walk_lent c.args.self.now.walk c.args.lent.now) z c.in-Err.fault) all (c.in-Err.ensures.step c.requires.wants).err) (λ some. (c.in-Err.ensures.leaves c.requires.wants (some_code (decoder_lent c.args.self.now c.args.lent.now) c.requires.in_code.0 c.requires.in_code.1 some)).other))
 
 pub returns-in-Truncated-clause-leaves : goal.returns-in-Truncated-clause-leaves
 returns-in-Truncated-clause-leaves c = on_where c.args.is_all (decoder_lent c.args.self.now c.args.lent.now) (decoder_lent c.wait_at_marker.new.self c.next_row.new.lent) c.args.piece.now.rest.now c.wait_at_marker.new.piece.rest.now c.wait_at_marker.ensures.header c.wait_at_marker.ensures.end (λ some. leaves_on c.args.is_all (decoder_lent c.args.self.now c.args.lent.now) (decoder_lent c.wait_at_marker.new.self c.next_row.new.lent) c.args.piece.now.rest.now c.wait_at_marker.new.piece.rest.now c.wait_at_marker.ensures.header c.wait_at_marker.ensures.end
-    (on_to_marker (decoder_lent c.args.self.now c.args.lent.now) _ (decoder_lent c.wait_at_marker.new.self c.next_row.new.lent) c.args.piece.now.rest.now c.split_at.result.0.now c.split_at.result.1.now c.wait_at_marker.new.piece.rest.now c.requires.in_code.0 c.requires.in_code.1 refl (split_is c.args.piece.now.rest.now c.split_at.result.0.now c.split_at.result.1.now c.code_len.result c.split_at.ensures.front c.split_at.ensures.back) (code_on (decoder_lent c.args.self.now c.args.lent.now) _ c.args.piece.now.rest.now c.split_at.result.0.now c.split_at.result.1.now c.next_row.new.piece.rest.now c.split_at.result.1.now [] c.requires.in_code.0 c.requires.in_code.1 (record { header = refl; height = refl; is_open = refl; waits = refl; behind = refl; going = refl }) (split_is c.args.piece.now.rest.now c.split_at.result.0.now c.split_at.result.1.now c.code_len.result c.split_at.ensures.front c.split_at.ensures.back) (λ some g e. ap (λ z. z ++ c.split_at.result.1.now) (sym ((c.in-Err.ensures.leaves c.requires.wants (some_code (decoder_lent c.args.self.now c.args.lent.now) c.requires.in_code.0 c.requires.in_code.1 some)).drained (subst EndsInNoEscape (sym c.split_at.ensures.front) (c.code_len.ensures.escape (omega (arith, c.code_len.ensures.bound, c.split_at.ensures.front_len, c.if-front-bytes.false))))))) ((c.in-Err.ensures.step c.requires.wants).more (ap Err c.in-Truncated.is)).0 (λ some. (inr (c.in-Err.ensures.leaves c.requires.wants (some_code (decoder_lent c.args.self.now c.args.lent.now) c.requires.in_code.0 c.requires.in_code.1 some)).same_row.1, (c.in-Err.ensures.leaves c.requires.wants (some_code (decoder_lent c.args.self.now c.args.lent.now) c.requires.in_code.0 c.requires.in_code.1 some)).place.given)) (λ some. none_read (c.in-Err.ensures.leaves c.requires.wants (some_code (decoder_lent c.args.self.now c.args.lent.now) c.requires.in_code.0 c.requires.in_code.1 some)).same_row.2 ((c.in-Err.ensures.leaves c.requires.wants (some_code (decoder_lent c.args.self.now c.args.lent.now) c.requires.in_code.0 c.requires.in_code.1 some)).same_row.3 ∙ unread _ _ c.requires.unmarked))) (subst (StepsOff (sized (fields_of c.args.self.now.header) c.args.self.now.header.yd) (walk_lent c.args.self.now.walk c.args.lent.now) c.split_at.result.0.now) c.in-Truncated.is (c.in-Err.ensures.step c.requires.wants).err) (c.wait_at_marker.ensures.on (c.in-Err.ensures.leaves c.requires.wants (some_code (decoder_lent c.args.self.now c.args.lent.now) c.requires.in_code.0 c.requires.in_code.1 some)).same_row.2 ((c.in-Err.ensures.leaves c.requires.wants (some_code (decoder_lent c.args.self.now c.args.lent.now) c.requires.in_code.0 c.requires.in_code.1 some)).same_row.3 ∙ unread _ _ c.requires.unmarked) (inr (c.in-Err.ensures.leaves c.requires.wants (some_code (decoder_lent c.args.self.now c.args.lent.now) c.requires.in_code.0 c.requires.in_code.1 some)).same_row.1) (held c.next_row.new.lent.window.now) c.next_row.new.lent.learned.now)))
+    (on_to_marker (decoder_lent c.args.self.now c.args.lent.now) _ (decoder_lent c.wait_at_marker.new.self c.next_row.new.lent) c.args.piece.now.rest.now c.split_at.result.0.now c.split_at.result.1.now c.wait_at_marker.new.piece.rest.now c.requires.in_code.0 c.requires.in_code.1 refl (split_is c.args.piece.now.rest.now c.split_at.result.0.now c.split_at.result.1.now c.code_len.result c.split_at.ensures.front c.split_at.ensures.back) (code_on (decoder_lent c.args.self.now c.args.lent.now) _ c.args.piece.now.rest.now c.split_at.result.0.now c.split_at.result.1.now c.next_row.new.piece.rest.now c.split_at.result.1.now [] c.requires.in_code.0 c.requires.in_code.1 (record { header = refl; height = refl; is_open = refl; waits = refl; behind = refl; going = refl }) (split_is c.args.piece.now.rest.now c.split_at.result.0.now c.split_at.result.1.now c.code_len.result c.split_at.ensures.front c.split_at.ensures.back) (λ some g e. ap (λ z. z ++ c.split_at.result.1.now) (sym ((c.in-Err.ensures.leaves c.requires.wants (some_code (decoder_lent c.args.self.now c.args.lent.now) c.requires.in_code.0 c.requires.in_code.1 some)).drained (subst EndsInNoEscape (sym c.split_at.ensures.front) (c.code_len.ensures.escape (omega (arith, c.code_len.ensures.bound, c.split_at.ensures.front_len, c.if-front-bytes.false))))))) ((c.in-Err.ensures.step c.requires.wants).more (ap Err c.in-Truncated.is)).0 (λ some. (inr (c.in-Err.ensures.leaves c.requires.wants (some_code (decoder_lent c.args.self.now c.args.lent.now) c.requires.in_code.0 c.requires.in_code.1 some)).same_row.1, (c.in-Err.ensures.leaves c.requires.wants (some_code (decoder_lent c.args.self.now c.args.lent.now) c.requires.in_code.0 c.requires.in_code.1 some)).place.given)) (λ some. none_read (c.in-Err.ensures.leaves c.requires.wants (some_code (decoder_lent c.args.self.now c.args.lent.now) c.requires.in_code.0 c.requires.in_code.1 some)).same_row.2 ((c.in-Err.ensures.leaves c.requires.wants (some_code (decoder_lent c.args.self.now c.args.lent.now) c.requires.in_code.0 c.requires.in_code.1 some)).same_row.3 ∙ unread _ _ c.requires.unmarked))) (subst (StepsOff (sized (fields_of c.args.self.now.image.header) c.args.self.now.image.header.yd) (walk_lent c.args.self.now.walk c.args.lent.now) c.split_at.result.0.now) c.in-Truncated.is (c.in-Err.ensures.step c.requires.wants).err) (c.wait_at_marker.ensures.on (c.in-Err.ensures.leaves c.requires.wants (some_code (decoder_lent c.args.self.now c.args.lent.now) c.requires.in_code.0 c.requires.in_code.1 some)).same_row.2 ((c.in-Err.ensures.leaves c.requires.wants (some_code (decoder_lent c.args.self.now c.args.lent.now) c.requires.in_code.0 c.requires.in_code.1 some)).same_row.3 ∙ unread _ _ c.requires.unmarked) (inr (c.in-Err.ensures.leaves c.requires.wants (some_code (decoder_lent c.args.self.now c.args.lent.now) c.requires.in_code.0 c.requires.in_code.1 some)).same_row.1) (held c.next_row.new.lent.window.now) c.next_row.new.lent.learned.now)))
 
 pub returns-in-Truncated-clause-lowers : goal.returns-in-Truncated-clause-lowers
 returns-in-Truncated-clause-lowers c = λ _. fewer_bytes c.args.self.now.waits c.wait_at_marker.new.self.waits c.args.piece.now.rest.now c.wait_at_marker.new.piece.rest.now

@@ -16,8 +16,8 @@ returns-in-Ok-clause-leaves c = λ rows learned. leaves_on c.args.is_all (decode
     let same : e.0 ≡ k.0 = sym (taken_is c.args.piece.now.rest.now c.find_end.new.piece.rest.now e.0 e.1) ∙ taken_is c.args.piece.now.rest.now c.find_end.new.piece.rest.now k.0 k.1 in (
       k.0,
       k.1,
-      put_waits _ _ _ c.requires.in_code.0 refl (known_more (fields_of c.args.self.now.header) c.args.self.now.height c.args.self.now.is_open text k.0 s.height)
-          (waits_first (fields_of c.args.self.now.header) (walk_view c.find_end.new.self rows learned) c.start-self.result _ _ k.2 (inr ((c.in-Ok.ensures.same c.requires.all).0.0, (_, c.in-Ok.ensures.marked))) (((c.in-Ok.ensures.same c.requires.all).1 rows learned).given ∙ w.ungiven) (λ _. in_time_more [] (subst (λ z. MarkerAfterRows (sized (fields_of c.args.self.now.header) c.args.self.now.header.yd) (text ++ z) out) same e.2)) (ap (λ b. b.at) c.start-self.ensures) (ap (λ b. b.comment) c.start-self.ensures)),
+      put_waits _ _ _ c.requires.in_code.0 refl (known_more (fields_of c.args.self.now.image.header) c.args.self.now.image.height c.args.self.now.is_open text k.0 s.height)
+          (waits_first (fields_of c.args.self.now.image.header) (walk_view c.find_end.new.self rows learned) c.start-self.result _ _ k.2 (inr ((c.in-Ok.ensures.same c.requires.all).0.0, (_, c.in-Ok.ensures.marked))) (((c.in-Ok.ensures.same c.requires.all).1 rows learned).given ∙ w.ungiven) (λ _. in_time_more [] (subst (λ z. MarkerAfterRows (sized (fields_of c.args.self.now.image.header) c.args.self.now.image.header.yd) (text ++ z) out) same e.2)) (ap (λ b. b.at) c.start-self.ensures) (ap (λ b. b.comment) c.start-self.ensures)),
     ))
 
 pub returns-in-Ok-clause-lowers : goal.returns-in-Ok-clause-lowers
@@ -32,7 +32,7 @@ returns-in-Err-clause-leaves c = λ rows learned. leaves_stop c.args.is_all (dec
           let k = ((c.in-Err.ensures.step c.requires.all rows learned).more (ap Err e)).0 text out w.walk in (
             k.0,
             k.1,
-            put_code _ _ _ c.requires.in_code.0 c.requires.in_code.1 (known_more (fields_of c.args.self.now.header) c.args.self.now.height c.args.self.now.is_open text k.0 s.height)
+            put_code _ _ _ c.requires.in_code.0 c.requires.in_code.1 (known_more (fields_of c.args.self.now.image.header) c.args.self.now.image.height c.args.self.now.is_open text k.0 s.height)
                 (record { walk = k.2; in_code = (c.in-Err.ensures.same c.requires.all).0.0; ungiven = ((c.in-Err.ensures.same c.requires.all).1 rows learned).given ∙ w.ungiven; in_time = λ m. absurd (none_read (c.in-Err.ensures.none c.requires.all).0 (c.in-Err.ensures.none c.requires.all).1 m) }),
           )),
       ((c.in-Err.ensures.step c.requires.all rows learned).more (ap Err e)).1,

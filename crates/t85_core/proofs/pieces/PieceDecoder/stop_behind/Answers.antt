@@ -9,5 +9,5 @@ use Rattle.t85_core.proofs.pieces.PieceDecoder.stop_behind.Goals as goal
 
 pub end_look-requires-clause-over : goal.end_look-requires-clause-over
 end_look-requires-clause-over c = λ some back rest s follows.
-    look_fault refl s c.args.piece.now.rest.now rest c.args.fault (own_height c.args.self.now.header).accepted.height_to (some.2.height.variable c.requires.looks.0)
-    (subst (λ l. StopsBehind (fields_of c.args.self.now.header) (behind_at (place_behind (fields_of c.args.self.now.header) (stage_kind c.args.self.now.walk.stage) c.args.self.now.walk.entities) l) c.args.self.now.behind c.args.piece.now.rest.now c.args.fault) c.if-is_last.true c.requires.stops) (λ t. follows (c.requires.end t))
+    look_fault refl s c.args.piece.now.rest.now rest c.args.fault (own_height c.args.self.now.image.header).accepted.height_to (some.2.height.variable c.requires.looks.0)
+    (subst (λ l. StopsBehind (fields_of c.args.self.now.image.header) (behind_at (place_behind (fields_of c.args.self.now.image.header) (stage_kind c.args.self.now.walk.stage) c.args.self.now.walk.entities) l) c.args.self.now.behind c.args.piece.now.rest.now c.args.fault) c.if-is_last.true c.requires.stops) (λ t. follows (c.requires.end t))

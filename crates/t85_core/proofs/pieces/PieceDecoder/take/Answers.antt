@@ -20,7 +20,7 @@ returns-clause-call c = record {
   more = λ is text out s.
       let k = c.go_on-outcome.ensures.leaves.more (ap Some is) in (
         subst (HasDecoded _ _) (append-nil out) (call_on (decoder_lent c.args.self.now c.args.lent.now) (decoder_lent c.go_on-outcome.new.self c.go_on-outcome.new.lent) _ c.args.piece.now c.go_on-outcome.new.piece.rest.now [] _ c.saturating_sub.ensures refl refl refl refl refl refl (c.end_of-self.ensures ∙ ap end_in is) k.1 text out s),
-        (λ waits. subst (λ z. HandsOut (stream_of (decoder_lent c.args.self.now c.args.lent.now)) z c.go_on-outcome.new.self.height Truncated out) (append-nil (text ++ c.args.piece.now)) (k.2 waits text out [] s.stands (λ _. refl))),
+        (λ waits. subst (λ z. HandsOut (stream_of (decoder_lent c.args.self.now c.args.lent.now)) z c.go_on-outcome.new.self.image.height Truncated out) (append-nil (text ++ c.args.piece.now)) (k.2 waits text out [] s.stands (λ _. refl))),
         (λ waits. k.4 waits text out s.stands),
       );
   done = λ n is.

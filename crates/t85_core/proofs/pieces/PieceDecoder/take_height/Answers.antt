@@ -22,10 +22,10 @@ returns-then-ends_in_stripe-clause-leaves c = λ is_all.
     let k = c.ends_in_stripe.ensures.yes (search rules) in
     let code : IsInCode (stage_kind c.args.self.now.walk.stage) = subst (λ z. IsInCode z.walk.stage) above.same k.0 in
     let left = c.saturating_sub-left.ensures in
-    let low : c.saturating_sub-left.result ≤ c.args.self.now.header.l0 = subst (λ z. c.saturating_sub-left.result ≤ z.header.l0) above.same k.1 in
-    let fits : c.args.self.now.walk.left - (c.args.self.now.header.yd - c.args.height) ≤ c.args.self.now.header.l0 = omega (arith, low, left) in
+    let low : c.saturating_sub-left.result ≤ c.args.self.now.image.header.l0 = subst (λ z. c.saturating_sub-left.result ≤ z.header.l0) above.same k.1 in
+    let fits : c.args.self.now.walk.left - (c.args.self.now.image.header.yd - c.args.height) ≤ c.args.self.now.image.header.l0 = omega (arith, low, left) in
     let given = above.all code in
-    let few : c.args.self.now.walk.left - (c.args.self.now.header.yd - c.args.height) ≤ stage_row c.args.self.now.walk.stage = omega (arith, c.min.ensures, left, fits, given) in
+    let few : c.args.self.now.walk.left - (c.args.self.now.image.header.yd - c.args.height) ≤ stage_row c.args.self.now.walk.stage = omega (arith, c.min.ensures, left, fits, given) in
     let ended = record (decoder_lent c.gives_below.new.self c.gives_below.new.lent) { height = c.args.height } in
     leaves_done is_all (decoder_lent c.args.self.now c.args.lent.now) ended c.args.piece.now.rest.now c.args.rest.now c.args.height (ap (λ z. z.header) above.same) (ap (λ z. z.end) above.same) refl
     (late_whole (decoder_lent c.args.self.now c.args.lent.now) c.coder_laws.ensures c.args.height c.args.piece.now.rest.now c.args.rest.now c.requires.looks.0 c.requires.looks.1 c.requires.between code c.requires.comes fits few is_all)
@@ -38,9 +38,9 @@ returns-clause-leaves c = λ is_all.
     let keeps = c.enter_head.ensures.keeps in
     on_where is_all (decoder_lent c.args.self.now c.args.lent.now) _ c.args.piece.now.rest.now c.args.rest.now (keeps.header ∙ ap (λ z. z.header) above.same) (keeps.going ∙ ap (λ z. z.end) above.same) (λ some.
     let left = c.saturating_sub-left.ensures in
-    let over : IsInCode (stage_kind c.args.self.now.walk.stage) → c.args.self.now.header.l0 < c.args.self.now.walk.left - (c.args.self.now.header.yd - c.args.height) =
+    let over : IsInCode (stage_kind c.args.self.now.walk.stage) → c.args.self.now.image.header.l0 < c.args.self.now.walk.left - (c.args.self.now.image.header.yd - c.args.height) =
     λ code.
-    let more : c.args.self.now.header.l0 < c.saturating_sub-left.result = subst (λ z. z.header.l0 < c.saturating_sub-left.result) above.same (c.ends_in_stripe.ensures.no (search rules) (subst (λ z. IsInCode z.walk.stage) (sym above.same) code)) in
+    let more : c.args.self.now.image.header.l0 < c.saturating_sub-left.result = subst (λ z. z.header.l0 < c.saturating_sub-left.result) above.same (c.ends_in_stripe.ensures.no (search rules) (subst (λ z. IsInCode z.walk.stage) (sym above.same) code)) in
     omega (arith, more, left) in
     let more = not_last (decoder_lent c.args.self.now c.args.lent.now) c.requires.looks.0 c.requires.looks.1 some (λ code. let n = over code in omega (arith, n)) in
     let h = subst (λ z. HeadEntered z (decoder_lent c.enter_head.new.self c.enter_head.new.lent)) above.same (c.enter_head.ensures.head (subst (λ z. last_behind (fields_of z.header) z.walk.stage z.walk.left ≡ false) (sym above.same) more) (subst SomeStand (sym above.same) some)) in

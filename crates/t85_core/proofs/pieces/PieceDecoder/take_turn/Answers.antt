@@ -12,7 +12,7 @@ returns-in-Ok-true-clause-leaves c =
 pub returns-in-Ok-false-clause-leaves : goal.returns-in-Ok-false-clause-leaves
 returns-in-Ok-false-clause-leaves c =
     let k = c.in-Ok-false.ensures.step.done (ap Ok c.in-Ok-false.field-0-test) in
-    leaves_done c.args.is_all (decoder_lent c.args.self.now c.args.lent.now) _ c.args.piece.now.rest.now c.next.new.piece.rest.now c.args.self.now.height refl refl refl
+    leaves_done c.args.is_all (decoder_lent c.args.self.now c.args.lent.now) _ c.args.piece.now.rest.now c.next.new.piece.rest.now c.args.self.now.image.height refl refl refl
     (turn_whole (decoder_lent c.args.self.now c.args.lent.now) c.requires.known (walk_lent c.next.new.self c.next.new.lent) c.args.piece.now.rest.now c.next.new.piece.rest.now k.0 (over_done _ k.1) c.args.is_all)
     (turn_consumed (decoder_lent c.args.self.now c.args.lent.now) c.requires.known _ c.args.piece.now.rest.now c.next.new.piece.rest.now (record { header = refl; height = refl; is_open = refl; waits = refl; behind = refl; going = refl }) k.0 (over_done _ k.1) c.args.is_all)
 

@@ -14,9 +14,9 @@ returns-in-Some-clause-on c = λ ahead unmarked stage rows learned text out s cu
     let w = code_of (decoder_view c.args.self.now rows learned) text out c.requires.in_code.0 c.requires.in_code.1 s in (
       marker_bytes c.in-Some.reset,
       marker_split c.in-Some.reset c.args.piece.now.rest.now c.in-Some.ensures.some.0 c.split_at.result.1.now c.in-Some.ensures.some.1 c.split_at.ensures.back,
-      put_waits _ _ _ c.requires.in_code.0 refl (known_more (fields_of c.args.self.now.header) c.args.self.now.height c.args.self.now.is_open text (marker_bytes c.in-Some.reset) s.height)
-          (waits_first (fields_of c.args.self.now.header) _ c.start-self.result _ _
-          (subst (WalkStands (sized (fields_of c.args.self.now.header) c.args.self.now.header.yd) (walk_view c.read_ahead.new.self rows learned) (text ++ marker_bytes c.in-Some.reset)) (sym (append-nil out)) (subst (λ z. WalkStands (sized (fields_of c.args.self.now.header) c.args.self.now.header.yd) z (text ++ marker_bytes c.in-Some.reset) out) (sym (c.read_ahead.ensures.ahead stage rows learned)) (walk_ahead (fields_of c.args.self.now.header) c.args.self.now.header.yd (walk_view c.args.self.now.walk rows learned) text out c.in-Some.reset stage ahead unmarked w.walk)))
+      put_waits _ _ _ c.requires.in_code.0 refl (known_more (fields_of c.args.self.now.image.header) c.args.self.now.image.height c.args.self.now.is_open text (marker_bytes c.in-Some.reset) s.height)
+          (waits_first (fields_of c.args.self.now.image.header) _ c.start-self.result _ _
+          (subst (WalkStands (sized (fields_of c.args.self.now.image.header) c.args.self.now.image.header.yd) (walk_view c.read_ahead.new.self rows learned) (text ++ marker_bytes c.in-Some.reset)) (sym (append-nil out)) (subst (λ z. WalkStands (sized (fields_of c.args.self.now.image.header) c.args.self.now.image.header.yd) z (text ++ marker_bytes c.in-Some.reset) out) (sym (c.read_ahead.ensures.ahead stage rows learned)) (walk_ahead (fields_of c.args.self.now.image.header) c.args.self.now.image.header.yd (walk_view c.args.self.now.walk rows learned) text out c.in-Some.reset stage ahead unmarked w.walk)))
           (inr (subst IsInCode (sym (ap (λ z. z.stage) (c.read_ahead.ensures.ahead stage rows learned))) stage, (c.in-Some.reset, inr (ap (λ z. z.first) (c.read_ahead.ensures.ahead stage rows learned))))) (ap (λ z. z.given) (c.read_ahead.ensures.ahead stage rows learned) ∙ w.ungiven) (λ _. in_time_here c.in-Some.reset cut) (ap (λ b. b.at) c.start-self.ensures) (ap (λ b. b.comment) c.start-self.ensures)),
     )
 
