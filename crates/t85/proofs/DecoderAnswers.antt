@@ -6,6 +6,7 @@ use Rattle.std.proofs.Math.Seq.{drop-append_seam}
 use Rattle.std.specs.Int.{div_ceil}
 use Rattle.qm_core.specs.Place.{Estimate}
 use Rattle.raster_core.specs.Packed.{rows_at}
+use Rattle.t85_core.specs.Phases.{phase_is_open, phase_waits}
 use Rattle.t85_core.specs.declared.header.Header.{Header}
 use Rattle.t85_core.specs.declared.pieces.Outcome.{Outcome}
 use Rattle.t85_core.specs.declared.pieces.Outcome.TheVariants as outcome
@@ -156,7 +157,7 @@ module _ {old kept : T85Decoder} {memory memory' : List ℕ} {header : Header} {
   all_rows : {stream out : List ℕ} → progress.outcome ≡ outcome.More → ContinuesRows header e (hold_of old memory) stream out → ReturnedAllRows kept (stream ++ bytes) out
   all_rows {stream} {out} e1 k =
       let more = done.call.fed.more e1 k.text out k.has in
-      let waits : is_waiting kept ≡ (e'.is_open && e'.waits) = waiting_is kept e' done.numbers in
+      let waits : is_waiting kept ≡ (phase_is_open e'.phase && phase_waits e'.phase) = waiting_is kept e' done.numbers in
       let ended : stripes_ended (decoder_view e' (rows_at kept.place header.xd memory') learned') ≡ stripes_ended_by kept =
       sym (ended_same e'.walk.stage kept e'.walk.entities done.numbers.walk_is.stage_is done.numbers.walk_is.entities_are) in (
         (λ w. rw (k.stream_is, append_assoc old.header k.text bytes) (record {
@@ -233,7 +234,7 @@ module _ {old kept : T85Decoder} {memory memory' : List ℕ} {header : Header} {
         (λ stream out rest k follows.
             let high : height ≡ new.numbers.height = sym (same ∙ height_of ∙ (done.call.fed.done height e1).0) in
             let w = done.call.fed.consumed height e1 k.text out rest k.has follows in
-            let late : (e'.is_open && e'.waits) ≡ is_waiting new = sym (waiting_is new e' (subst (λ n. ArePieceNumbers n e') (sym counted) done.numbers)) in
+            let late : (phase_is_open e'.phase && phase_waits e'.phase) ≡ is_waiting new = sym (waiting_is new e' (subst (λ n. ArePieceNumbers n e') (sym counted) done.numbers)) in
             let whole : (k.text ++ bytes) ++ rest ≡ drop 20 ((stream ++ bytes) ++ rest) =
             sym (ap (drop 20) (all_of rest k) ∙ behind ((k.text ++ bytes) ++ rest)) in
             record {
@@ -244,7 +245,7 @@ module _ {old kept : T85Decoder} {memory memory' : List ℕ} {header : Header} {
               image = subst (ConsumesImage (fields_of header) (is_waiting new) new.numbers.height w.0) whole
                   (subst (λ n. ConsumesImage (fields_of header) (is_waiting new) n w.0 ((k.text ++ bytes) ++ rest)) high
                   (subst (λ b. ConsumesImage (fields_of header) b height w.0 ((k.text ++ bytes) ++ rest)) late
-                  (subst (λ h. ConsumesImage (fields_of h) (e'.is_open && e'.waits) height w.0 ((k.text ++ bytes) ++ rest)) done.header_is w.2)));
+                  (subst (λ h. ConsumesImage (fields_of h) (phase_is_open e'.phase && phase_waits e'.phase) height w.0 ((k.text ++ bytes) ++ rest)) done.header_is w.2)));
             }),
       )
   row_told (outcome.Broken fault) e1 (is, ended, same) =

@@ -7,9 +7,12 @@ use Rattle.t85_core.specs.declared.fault.Fault.TheVariants.{ShortHeader}
 use Rattle.t85_core.specs.Header.{header_fault, is_variable}
 use Rattle.t85_core.specs.Laws.{HeaderLaws}
 use Rattle.t85_core.specs.declared.pieces.PieceDecoder.{PieceDecoder}
-use Rattle.t85_core.specs.Numbers.{ArePieceNumbers, AreStageNumbers, IsCodeNext, IsHeadNext}
+use Rattle.t85_core.specs.Numbers.{is_set, ArePhaseNumbers, ArePieceNumbers, AreStageNumbers, IsCodeNext, IsHeadNext}
 use Rattle.t85_core.specs.Steps.PieceStands.{entities_behind}
 use Rattle.t85_core.specs.Stages.{code_kind, head_kind, stage_kind}
+use Rattle.t85_core.specs.Phases.{phase_is_open, phase_waits}
+use Rattle.t85_core.specs.declared.pieces.phase.Phase.{Phase}
+use Rattle.t85_core.specs.declared.pieces.phase.Phase.TheVariants as phase
 use Rattle.t85_core.specs.declared.pieces.walk.Stage.{Stage}
 use Rattle.t85_core.specs.declared.pieces.walk.Stage.TheVariants as stage
 use Rattle.raster_core.specs.declared.place.RowPlace.{RowPlace}
@@ -22,8 +25,12 @@ use Rattle.t85.specs.declared.decoder.Answer.{Answer}
 use Rattle.t85.specs.declared.decoder.Answer.TheVariants as answer
 
 -- whether a decoder waits, and the stripes that its numbers show as ended
-pub waiting_is : (d : T85Decoder) (e : PieceDecoder) → ArePieceNumbers d.numbers e → is_waiting d ≡ (e.is_open && e.waits)
-waiting_is d e is = λ i. is.open_is i && is.waits_is i
+pub waiting_is : (d : T85Decoder) (e : PieceDecoder) → ArePieceNumbers d.numbers e → is_waiting d ≡ (phase_is_open e.phase && phase_waits e.phase)
+waiting_is d e is = by e.phase is.phase_is where
+  by : (p : Phase) → ArePhaseNumbers d.numbers p → is_waiting d ≡ (phase_is_open p && phase_waits p)
+  by phase.Known k = ap (λ b. b && is_set d.numbers.waits) k
+  by phase.InCode k = λ i. k.0 i && k.1 i
+  by (phase.Behind head) k = λ i. k.0 i && k.1 i
 
 pub ended_same : (s : Stage) (d : T85Decoder) (entities : ℕ) → AreStageNumbers d.numbers.stage s → d.numbers.entities ≡ entities → stripes_ended_by d ≡ entities_behind (stage_kind s) entities
 ended_same s d entities is many = ap (λ n. cond {A = ℕ} ((d.numbers.stage.next == 2) || (d.numbers.stage.next == 3)) (n + 1) n) many ∙ by s is where

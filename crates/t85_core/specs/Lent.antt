@@ -16,6 +16,7 @@ use Rattle.t85_core.specs.declared.pieces.PieceDecoder.{PieceDecoder}
 use Rattle.t85_core.specs.declared.pieces.head.Head.{Head}
 use Rattle.t85_core.specs.declared.pieces.walk.Walk.{Walk}
 use Rattle.t85_core.specs.declared.pieces.code.InCode.{InCode}
+use Rattle.t85_core.specs.Phases.{phase_behind, phase_is_open, phase_waits}
 use Rattle.t85_core.specs.Stages.{Kind, stage_kind, code_kind, stage_move, stage_comment, stage_row, place_from, stage_place, stage_first, stage_marker}
 
 -- a window of the same width over the same memory
@@ -128,9 +129,9 @@ decoder_view d rows learned = record {
   header = d.image.header;
   height = d.image.height;
   walk = walk_view d.walk rows learned;
-  is_open = d.is_open;
-  waits = d.waits;
-  behind = d.behind;
+  is_open = phase_is_open d.phase;
+  waits = phase_waits d.phase;
+  behind = phase_behind d.phase;
   end = d.end;
 }
 

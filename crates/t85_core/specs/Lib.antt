@@ -21,6 +21,7 @@ pub mod Decode
 pub mod Outcomes
 pub mod Stages
 pub mod Lent
+pub mod Phases
 pub mod Pieces
 pub mod Feeds
 pub mod Numbers

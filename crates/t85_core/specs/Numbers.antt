@@ -6,6 +6,7 @@ use Rattle.qm_core.specs.Decoder.{decoder_registers, has_stopped}
 use Rattle.raster_core.specs.Row.{row_place_numbers}
 use Rattle.raster_core.specs.declared.place.RowPlace.{RowPlace}
 use Rattle.raster_core.specs.declared.place.RowPlaceNumbers.{RowPlaceNumbers}
+use Rattle.t85_core.specs.Phases.{phase_behind, phase_is_open, phase_waits}
 use Rattle.t85_core.specs.declared.pieces.PieceDecoder.{PieceDecoder}
 use Rattle.t85_core.specs.declared.pieces.code.InCode.{InCode}
 use Rattle.t85_core.specs.declared.pieces.head.Head.{Head}
@@ -13,6 +14,8 @@ use Rattle.t85_core.specs.declared.pieces.numbers.HeadNumbers.{HeadNumbers}
 use Rattle.t85_core.specs.declared.pieces.numbers.MoveNumbers.{MoveNumbers}
 use Rattle.t85_core.specs.declared.pieces.numbers.PieceNumbers.{PieceNumbers}
 use Rattle.t85_core.specs.declared.pieces.numbers.StageNumbers.{StageNumbers}
+use Rattle.t85_core.specs.declared.pieces.phase.Phase.{Phase}
+use Rattle.t85_core.specs.declared.pieces.phase.Phase.TheVariants as phase
 use Rattle.t85_core.specs.declared.pieces.walk.Stage.{Stage}
 use Rattle.t85_core.specs.declared.pieces.walk.Stage.TheVariants as stage
 use Rattle.t85_core.specs.declared.pieces.walk.Walk.{Walk}
@@ -89,14 +92,14 @@ abbrev pub piece_numbers : PieceDecoder → PieceNumbers
 piece_numbers d = record {
   stage = stage_numbers d.walk.stage;
   decoder = decoder_registers d.walk.decoder;
-  behind = head_numbers d.behind;
+  behind = head_numbers (phase_behind d.phase);
   height = d.image.height;
   entities = d.walk.entities;
   left = d.walk.left;
   offset = d.walk.kept.offset;
   is_previous_typical = from_bool d.walk.kept.previous_typical;
-  is_open = from_bool d.is_open;
-  waits = from_bool d.waits;
+  is_open = from_bool (phase_is_open d.phase);
+  waits = from_bool (phase_waits d.phase);
   is_given = from_bool d.walk.given;
 }
 
@@ -136,6 +139,12 @@ AreStageNumbers n (stage.Head head) = AreMoveNumbers n.at head.at × IsHeadNext 
 AreStageNumbers n (stage.Code c) = AreCodeNumbers n c
 AreStageNumbers n stage.Done = n.next ≡ 4
 
+-- whether a height may still arrive, and where
+abbrev pub ArePhaseNumbers : PieceNumbers → Phase → Type 0
+ArePhaseNumbers n phase.Known = is_set n.is_open ≡ false
+ArePhaseNumbers n phase.InCode = (is_set n.is_open ≡ true) × (is_set n.waits ≡ false)
+ArePhaseNumbers n (phase.Behind head) = (is_set n.is_open ≡ true) × (is_set n.waits ≡ true) × AreHeadNumbers n.behind head
+
 -- the numbers of a parser state
 pub record AreWalkNumbers (n : PieceNumbers) (w : Walk) : Type 0 where
   pub stage_is : AreStageNumbers n.stage w.stage
@@ -149,9 +158,7 @@ pub record AreWalkNumbers (n : PieceNumbers) (w : Walk) : Type 0 where
 -- the numbers of a decoder, without its end
 pub record ArePieceNumbers (n : PieceNumbers) (d : PieceDecoder) : Type 0 where
   pub height_is : n.height ≡ d.image.height
-  pub open_is : is_set n.is_open ≡ d.is_open
-  pub waits_is : is_set n.waits ≡ d.waits
-  pub behind_is : AreHeadNumbers n.behind d.behind
+  pub phase_is : ArePhaseNumbers n d.phase
   pub walk_is : AreWalkNumbers n d.walk
 
 -- A parser state at the same place. Its decoder is the same if the other one continues.

@@ -10,6 +10,7 @@ pub mod code;
 pub mod head;
 pub mod held;
 pub mod numbers;
+pub mod phase;
 pub mod piece;
 pub mod rows;
 pub mod steps;
@@ -19,7 +20,7 @@ pub mod walk;
 use crate::fault::Fault;
 use crate::header::{Header, SizedImage};
 use crate::lent::Lent;
-use crate::pieces::head::Head;
+use crate::pieces::phase::Phase;
 use crate::pieces::piece::Piece;
 use crate::pieces::walk::Walk;
 use qm_core::Learned;
@@ -76,12 +77,7 @@ pub struct PieceDecoder {
     /// The current height is the header's, until another has arrived.
     image: SizedImage,
     walk: Walk,
-    /// Whether a height may still arrive.
-    is_open: bool,
-    /// Whether the walk is waiting for the bytes behind an end marker, or before the first stripe.
-    waits: bool,
-    /// The marker segments of the next stripe that have arrived there.
-    behind: Head,
+    phase: Phase,
     /// How the stream has ended, if it has.
     end: Option<End>,
 }
@@ -101,7 +97,6 @@ impl PieceDecoder {
         ensures none { HasDecoded (decoder_over result window.new learned.new) [] [] }
         ensures window { KeepsWindow window.old window.new }
     {
-        let is_open = header.is_variable();
         let mut lent = Lent { window, learned };
         let image = SizedImage {
             header,
@@ -110,9 +105,7 @@ impl PieceDecoder {
         PieceDecoder {
             image,
             walk: Walk::start(&image, &mut lent),
-            is_open,
-            waits: is_open,
-            behind: Head::start(),
+            phase: Phase::first(&header),
             end: None,
         }
     }
@@ -170,7 +163,7 @@ impl PieceDecoder {
             AreCertain (decoder_view self.now rows learned) result }
         ensures ended { IfSome self.now.end (λ _. result ≡ self.now.image.height) }
     {
-        if !self.is_open || self.end.is_some() {
+        if !self.phase.is_open() || self.end.is_some() {
             return self.image.height;
         }
         // Each stripe that has begun contains a row of the image.

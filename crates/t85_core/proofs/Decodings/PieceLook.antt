@@ -291,5 +291,13 @@ passed_on d d1 b p p1 late waits header height is_open same_waits walk behind on
           })))),
     )
 
+-- the same, where a struct keeps what came
+pub passed_behind : (d d1 : PieceView) (a b : Head) (p p1 : List ℕ) (place : Place) (last : Bool) → d.is_open ≡ true → d.waits ≡ true → d.behind ≡ a → d1.header ≡ d.header → d1.height ≡ d.height → d1.is_open ≡ true → d1.waits ≡ true → d1.walk ≡ d.walk → d1.behind ≡ b →
+    place ≡ place_behind (fields_of d.header) d.walk.stage d.walk.entities → last ≡ last_behind (fields_of d.header) d.walk.stage d.walk.left → BehindOn (fields_of d.header) (behind_at place last) a b p p1 → DecoderOn d d1 p p1 []
+passed_behind d d1 a b p p1 place last late waits behind header height late' waits' walk now place_is last_is on =
+    passed_on d d1 b p p1 late waits header height (late' ∙ sym late) (waits' ∙ sym waits) walk now
+    (subst (λ z. BehindOn (fields_of d.header) (behind_at (place_behind (fields_of d.header) d.walk.stage d.walk.entities) (last_behind (fields_of d.header) d.walk.stage d.walk.left)) z b p p1) (sym behind)
+    (subst (λ z. BehindOn (fields_of d.header) (behind_at z (last_behind (fields_of d.header) d.walk.stage d.walk.left)) a b p p1) place_is (subst (λ l. BehindOn (fields_of d.header) (behind_at place l) a b p p1) last_is on)))
+
 pub own_first : (d : PieceView) → d.is_open ≡ true → SomeStand d → d.height ≡ d.header.yd
 own_first d late some = some.2.height.first late

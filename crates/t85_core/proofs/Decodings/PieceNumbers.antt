@@ -17,6 +17,10 @@ use Rattle.raster_core.specs.declared.shape.Kept.{Kept}
 use Rattle.raster_core.specs.declared.place.RowPlace.{RowPlace}
 use Rattle.t85_core.specs.Lent.{PieceView, WalkView, walk_view, decoder_view}
 use Rattle.t85_core.specs.declared.pieces.PieceDecoder.{PieceDecoder}
+use Rattle.t85_core.specs.Phases.{phase_behind, phase_is_open, phase_waits}
+use Rattle.t85_core.specs.declared.pieces.head.Head.{Head}
+use Rattle.t85_core.specs.declared.pieces.phase.Phase.{Phase}
+use Rattle.t85_core.specs.declared.pieces.phase.Phase.TheVariants as phase
 use Rattle.t85_core.specs.declared.pieces.walk.Walk.{Walk}
 use Rattle.t85_core.specs.declared.pieces.code.InCode.{InCode}
 use Rattle.t85_core.specs.declared.pieces.numbers.MoveNumbers.{MoveNumbers}
@@ -29,7 +33,7 @@ use Rattle.t85_core.specs.declared.segments.Code.TheVariants as code
 use Rattle.t85_core.specs.declared.segments.atmove.Move as move
 use Rattle.t85_core.specs.Header.{Fields}
 use Rattle.t85_core.specs.Options.{fields_of}
-use Rattle.t85_core.specs.Numbers.{is_set, AreMoveNumbers, AreWalkNumbers, IsWalkAs}
+use Rattle.t85_core.specs.Numbers.{is_set, AreHeadNumbers, AreMoveNumbers, ArePhaseNumbers, AreWalkNumbers, IsWalkAs}
 use Rattle.t85_core.specs.Steps.Pieces.{CodeStands, InRowStands, StageStands, WalkStands, head_place, code_place}
 use Rattle.t85_core.specs.Steps.SizedImage.{sized}
 use Rattle.t85_core.specs.Steps.PieceStands.{DecoderStands, HeightKnown, CodeWalks, WalkWaits}
@@ -70,6 +74,32 @@ one_code a b at row begun first marker =
       small = is_prop→PathP (λ j. (n : ℕ) → first j ≡ Some (code.Byte n) → n < 256) (λ j. hlevel props) a.small b.small i;
       behind = is_prop→PathP (λ j. (r : Bool) → marker j ≡ Some r → first j ≡ None) (λ j. hlevel props) a.behind b.behind i;
     }
+
+-- whether a height may still arrive
+pub open_of : (n : PieceNumbers) (p : Phase) → ArePhaseNumbers n p → is_set n.is_open ≡ phase_is_open p
+open_of n phase.Known k = k
+open_of n phase.InCode k = k.0
+open_of n (phase.Behind head) k = k.0
+
+pub known_phase : (n : PieceNumbers) (p : Phase) → n.is_open ≡ 0 → ArePhaseNumbers n p → phase.Known ≡ p
+known_phase n phase.Known zero k = refl
+known_phase n phase.InCode zero k = absurd (flag_set n.is_open k.0 zero)
+known_phase n (phase.Behind head) zero k = absurd (flag_set n.is_open k.0 zero)
+
+pub code_phase : (n : PieceNumbers) (p : Phase) → (n.is_open ≡ 0 → ⊥) → n.waits ≡ 0 → ArePhaseNumbers n p → phase.InCode ≡ p
+code_phase n phase.Known open_ zero k = absurd (open_ (flag_clear n.is_open k))
+code_phase n phase.InCode open_ zero k = refl
+code_phase n (phase.Behind head) open_ zero k = absurd (flag_set n.waits k.1 zero)
+
+pub behind_phase : (n : PieceNumbers) (p : Phase) (head : Head) → (n.is_open ≡ 0 → ⊥) → (n.waits ≡ 0 → ⊥) → ((other : Head) → AreHeadNumbers n.behind other → head ≡ other) → ArePhaseNumbers n p → phase.Behind head ≡ p
+behind_phase n phase.Known head open_ waits one k = absurd (open_ (flag_clear n.is_open k))
+behind_phase n phase.InCode head open_ waits one k = absurd (waits (flag_clear n.waits k.1))
+behind_phase n (phase.Behind other) head open_ waits one k = ap phase.Behind (one other k.2)
+
+pub no_phase : (n : PieceNumbers) (p : Phase) → (n.is_open ≡ 0 → ⊥) → (n.waits ≡ 0 → ⊥) → ((head : Head) → AreHeadNumbers n.behind head → ⊥) → ArePhaseNumbers n p → ⊥
+no_phase n phase.Known open_ waits none k = open_ (flag_clear n.is_open k)
+no_phase n phase.InCode open_ waits none k = waits (flag_clear n.waits k.1)
+no_phase n (phase.Behind head) open_ waits none k = none head k.2
 
 -- a decoder that has not stopped has the numbers of any
 pub resumed_decoder : (d : Decoder) → (e : Decoder) × (has_stopped e ≡ false) × (decoder_registers d ≡ decoder_registers e) × (has_stopped d ≡ false → e ≡ d)
@@ -138,13 +168,13 @@ module _ {w w' : Walk} (k : IsWalkAs w w') (rows : Held) (learned : List Estimat
       subst (λ z. CodeWalks h (walk_view z rows learned) text out) (sym k.same) (let t : CodeWalks h there text out = record { walk = walk_there s.walk; in_code = s.in_code; ungiven = s.ungiven; in_time = s.in_time } in t)
 
 -- the decoder stands where the other one does
-pub stands_as : (d : PieceDecoder) (d' : PieceView) (w' : Walk) (rows : Held) (learned : List Estimate) (text out : List ℕ) → d'.walk ≡ walk_view w' rows learned → fields_of d'.header ≡ fields_of d.image.header → d'.height ≡ d.image.height → d'.is_open ≡ d.is_open → d'.waits ≡ d.waits → d'.behind ≡ d.behind → IsWalkAs d.walk w' →
+pub stands_as : (d : PieceDecoder) (d' : PieceView) (w' : Walk) (rows : Held) (learned : List Estimate) (text out : List ℕ) → d'.walk ≡ walk_view w' rows learned → fields_of d'.header ≡ fields_of d.image.header → d'.height ≡ d.image.height → d'.is_open ≡ (phase_is_open d.phase) → d'.waits ≡ (phase_waits d.phase) → d'.behind ≡ (phase_behind d.phase) → IsWalkAs d.walk w' →
     DecoderStands (decoder_view d rows learned) text out → DecoderStands d' text out
-stands_as d d' w' rows learned text out walk header height is_open waits behind k s = by d.is_open d.waits refl refl where
+stands_as d d' w' rows learned text out walk header height is_open waits behind k s = by (phase_is_open d.phase) (phase_waits d.phase) refl refl where
   known : HeightKnown (fields_of d'.header) d'.height d'.is_open text
   known = subst (λ h. HeightKnown h d'.height d'.is_open text) (sym header) (subst (λ n. HeightKnown (fields_of d.image.header) n d'.is_open text) (sym height) (subst (λ b. HeightKnown (fields_of d.image.header) d.image.height b text) (sym is_open) s.height))
 
-  by : (a b : Bool) → d.is_open ≡ a → d.waits ≡ b → DecoderStands d' text out
+  by : (a b : Bool) → (phase_is_open d.phase) ≡ a → (phase_waits d.phase) ≡ b → DecoderStands d' text out
   by false b e f = put_walks d' text out (is_open ∙ e) known
       (subst (λ h. WalkStands (sized h d'.height) d'.walk text out) (sym header)
       (subst (λ n. WalkStands (sized (fields_of d.image.header) n) d'.walk text out) (sym height)
@@ -153,7 +183,7 @@ stands_as d d' w' rows learned text out walk header height is_open waits behind 
       (subst (λ h. CodeWalks h d'.walk text out) (sym header) (subst (λ z. CodeWalks (fields_of d.image.header) z text out) (sym walk) (code_walk_as k rows learned (code_of (decoder_view d rows learned) text out e f s))))
   by true true e f =
       let w = waits_of (decoder_view d rows learned) text out e f s in
-      let t : WalkWaits (fields_of d.image.header) (walk_view (record d.walk { decoder = w'.decoder }) rows learned) d.behind text out = record {
+      let t : WalkWaits (fields_of d.image.header) (walk_view (record d.walk { decoder = w'.decoder }) rows learned) (phase_behind d.phase) text out = record {
         done = w.done;
         back = w.back;
         text_is = w.text_is;
@@ -166,5 +196,5 @@ stands_as d d' w' rows learned text out walk header height is_open waits behind 
       put_waits d' text out (is_open ∙ e) (waits ∙ f) known
       (subst (λ h. WalkWaits h d'.walk d'.behind text out) (sym header)
       (subst (λ b. WalkWaits (fields_of d.image.header) d'.walk b text out) (sym behind)
-      (subst (λ z. WalkWaits (fields_of d.image.header) z d.behind text out) (sym walk)
-      (subst (λ z. WalkWaits (fields_of d.image.header) (walk_view z rows learned) d.behind text out) (sym k.same) t))))
+      (subst (λ z. WalkWaits (fields_of d.image.header) z (phase_behind d.phase) text out) (sym walk)
+      (subst (λ z. WalkWaits (fields_of d.image.header) (walk_view z rows learned) (phase_behind d.phase) text out) (sym k.same) t))))

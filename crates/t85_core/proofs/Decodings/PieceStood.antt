@@ -48,6 +48,10 @@ use Rattle.t85_core.proofs.Decodings.PieceInTime.{in_time_more, in_time_empty}
 use Rattle.t85_core.proofs.Decodings.PieceHead.{head_code, head_cut, comment_off}
 
 -- more text
+-- a height that may still be followed by another
+pub known_open : {h : Fields} {height : ℕ} {is_open : Bool} {text : List ℕ} → is_open ≡ true → HeightKnown h height is_open text → HeightKnown h height true text
+known_open {h} {height} {text = text} late k = subst (λ b. HeightKnown h height b text) late k
+
 pub known_more : (h : Fields) (height : ℕ) (is_open : Bool) (text more : List ℕ) → HeightKnown h height is_open text → HeightKnown h height is_open (text ++ more)
 known_more h height is_open text more k = record {
   variable = k.variable;

@@ -8,6 +8,7 @@ use Rattle.t85_core.specs.declared.pieces.PieceDecoder.{PieceDecoder}
 use Rattle.t85_core.specs.declared.pieces.Outcome.TheVariants as outcome
 use Rattle.t85_core.specs.Options.{fields_of}
 use Rattle.t85_core.specs.Steps.PieceStands.{DecoderStands, WalkWaits, last_behind, place_behind}
+use Rattle.t85_core.specs.Phases.{phase_is_open, phase_waits}
 use Rattle.t85_core.specs.Stages.{stage_kind, head_kind}
 use Rattle.t85_core.specs.Stages as stage
 use Rattle.t85_core.specs.declared.segments.Place.{Place}
@@ -25,11 +26,11 @@ use Rattle.t85_core.specs.Steps.Passage.{passage}
 
 -- a decoder with late heights that looks for one
 abbrev pub LooksForHeight : PieceDecoder → Type 0
-LooksForHeight d = (d.is_open ≡ true) × (d.waits ≡ true)
+LooksForHeight d = (phase_is_open d.phase ≡ true) × (phase_waits d.phase ≡ true)
 
 -- one that does not look for it yet
 abbrev pub DecodesCode : PieceDecoder → Type 0
-DecodesCode d = (d.is_open ≡ true) × (d.waits ≡ false)
+DecodesCode d = (phase_is_open d.phase ≡ true) × (phase_waits d.phase ≡ false)
 
 -- it is at some position
 abbrev pub SomeStand : PieceView → Type 0
@@ -160,4 +161,4 @@ steps_left waits piece = 2 * length piece + (if waits then 0 else 1)
 
 -- where another step is to be taken, there are fewer of them
 abbrev pub Lowers : PieceDecoder → PieceDecoder → List ℕ → List ℕ → Option Outcome → Type 0
-Lowers d d' piece piece' answer = answer ≡ None → steps_left d'.waits piece' < steps_left d.waits piece
+Lowers d d' piece piece' answer = answer ≡ None → steps_left (phase_waits d'.phase) piece' < steps_left (phase_waits d.phase) piece

@@ -1,16 +1,18 @@
 //! Stores a decoder in pieces as plain numbers, and restores it.
 
-ghost use Rattle.std.specs.Prelude.{◌≡◌, List, None, ℕ, IfSome, IsSome, IsSomeAnd};
+ghost use Rattle.std.specs.Prelude.{◌≡◌, List, None, Some, ℕ, IfSome, IsSome, IsSomeAnd};
 ghost use Rattle.qm_core.specs.Place.{Estimate};
 ghost use Rattle.raster_core.specs.Packed.{Held};
-ghost use Rattle.t85_core.specs.Numbers.{ArePieceNumbers, AreWalkNumbers, IsWalkAs, piece_numbers};
+ghost use Rattle.t85_core.specs.Numbers.{ArePhaseNumbers, ArePieceNumbers, AreWalkNumbers, IsWalkAs, piece_numbers};
 ghost use Rattle.t85_core.specs.Options.{fields_of};
+ghost use Rattle.t85_core.specs.declared.pieces.phase.Phase.{Phase};
 
 mod head;
 mod stage;
 
 use crate::header::{Header, SizedImage};
 use crate::pieces::PieceDecoder;
+use crate::pieces::phase::Phase;
 use crate::pieces::walk::Walk;
 use qm_core::{Decoder, DecoderRegisters};
 use raster_core::{Kept, RowPlaceNumbers};
@@ -121,6 +123,21 @@ impl PieceNumbers {
         }
     }
 
+    /// Whether a height may still arrive, and where.
+    #[inline(always)]
+    fn phase(&self) -> Option<Phase>
+        ensures all { (phase : Phase) → ArePhaseNumbers self.now phase → result ≡ Some phase }
+        ensures is { IfSome result (ArePhaseNumbers self.now) }
+    {
+        if self.is_open == 0 {
+            return Some(Phase::Known);
+        }
+        if self.waits == 0 {
+            return Some(Phase::InCode);
+        }
+        Some(Phase::Behind(self.behind.head()?))
+    }
+
     /// The position in the stream.
     #[inline(always)]
     fn walk(&self) -> Option<Walk>
@@ -168,14 +185,14 @@ impl PieceDecoder {
         let walk = &self.walk;
         numbers.stage.store(&walk.stage);
         numbers.decoder = walk.decoder.registers();
-        numbers.behind.store(self.behind);
+        numbers.behind.store(self.phase.behind());
         numbers.height = self.image.height;
         numbers.entities = walk.entities;
         numbers.left = walk.left;
         numbers.offset = walk.kept.offset;
         numbers.is_previous_typical = u8::from(walk.kept.previous_typical);
-        numbers.is_open = u8::from(self.is_open);
-        numbers.waits = u8::from(self.waits);
+        numbers.is_open = u8::from(self.phase.is_open());
+        numbers.waits = u8::from(self.phase.waits());
         numbers.is_given = u8::from(walk.given);
     }
 
@@ -201,9 +218,7 @@ impl PieceDecoder {
                 height: numbers.height,
             },
             walk: numbers.walk()?,
-            is_open: numbers.is_open != 0,
-            waits: numbers.waits != 0,
-            behind: numbers.behind.head()?,
+            phase: numbers.phase()?,
             end: None,
         })
     }

@@ -15,6 +15,7 @@ use crate::header::SizedImage;
 use crate::input_buffer::ESCAPE;
 use crate::lent::Lent;
 use crate::pieces::head::Head;
+use crate::pieces::phase::Phase;
 use crate::pieces::piece::Piece;
 use crate::pieces::{Outcome, PieceDecoder};
 use crate::segments::{SDNORM, SDRST, STUFF};
@@ -23,6 +24,7 @@ use crate::segments::{SDNORM, SDRST, STUFF};
 const AHEAD: usize = 256;
 
 impl PieceDecoder {
+    ghost use Rattle.t85_core.specs.Phases.{phase_is_open, phase_waits};
     ghost use Rattle.t85_core.specs.Stages.{stage_kind, stage_first, stage_marker};
     ghost use Rattle.t85_core.specs.Steps.Pieces.{HasAllRows, IsInCode, MarkerRead, RowIsLeft};
     ghost use Rattle.t85_core.specs.Steps.PieceSteps.{DecodesCode, DecoderOnAfterRows, Lowers, StepLeaves};
@@ -57,19 +59,16 @@ impl PieceDecoder {
         ensures lowers { Lowers self.old self.new piece.old.rest.now piece.new.rest.now result }
         ensures lent { KeepsLent lent.old lent.new }
     {
-        if !self.is_open {
-            return Some(self.take_turn(lent, piece, is_all));
-        }
-        if self.waits {
-            self.step_behind(lent, piece, is_all)
-        } else {
-            self.step_in_code(lent, piece, is_all)
+        match self.phase {
+            Phase::Known => Some(self.take_turn(lent, piece, is_all)),
+            Phase::InCode => self.step_in_code(lent, piece, is_all),
+            Phase::Behind(head) => self.step_behind(head, lent, piece, is_all),
         }
     }
 
     /// Continues if the height is known.
     fn take_turn(&mut self, lent: &mut Lent<'_, '_>, piece: &mut Piece<'_>, is_all: bool) -> Outcome
-        requires known { self.old.is_open ≡ false }
+        requires known { phase_is_open self.old.phase ≡ false }
         ensures leaves { StepLeaves is_all (over self.old lent.old) (over self.new
             lent.new) piece.old.rest.now piece.new.rest.now (Some result) }
         ensures lent { KeepsLent lent.old lent.new }
@@ -98,8 +97,7 @@ impl PieceDecoder {
             return Some(Outcome::Broken(Fault::Truncated));
         }
         if self.walk.end_marker().is_some() {
-            self.waits = true;
-            self.behind = Head::start();
+            self.phase = Phase::Behind(Head::start());
             return None;
         }
         if self
@@ -129,8 +127,7 @@ impl PieceDecoder {
         };
         match self.walk.find_end(&image, piece) {
             Ok(_) => {
-                self.waits = true;
-                self.behind = Head::start();
+                self.phase = Phase::Behind(Head::start());
                 None
             }
             Err(fault) => Some(outcome_of(fault, is_all)),
@@ -194,7 +191,7 @@ impl PieceDecoder {
             rows learned) (decoder_view self.new rows learned) piece.old.rest.now
             piece.new.rest.now }
         ensures stays { ((reset : Bool) (rest : List ℕ) →
-            piece.old.rest.now ≡ marker_bytes reset ++ rest → ⊥) → self.new.waits ≡ false }
+            piece.old.rest.now ≡ marker_bytes reset ++ rest → ⊥) → phase_waits self.new.phase ≡ false }
         ensures no_more { length piece.new.rest.now ≤ length piece.old.rest.now }
         ensures marked { (reset : Bool) (rest : List ℕ) → piece.old.rest.now ≡ marker_bytes reset ++
             rest → length piece.new.rest.now < length piece.old.rest.now }
@@ -203,8 +200,7 @@ impl PieceDecoder {
             let (_, rest) = piece.rest.split_at(2);
             piece.rest = rest;
             self.walk.read_ahead(reset);
-            self.waits = true;
-            self.behind = Head::start();
+            self.phase = Phase::Behind(Head::start());
         }
     }
 }

@@ -11,7 +11,8 @@ use crate::fault::Fault;
 use crate::laws::coder_laws;
 use crate::lent::Lent;
 use crate::pieces::code::InCode;
-use crate::pieces::head::Coming;
+use crate::pieces::head::{Coming, Head};
+use crate::pieces::phase::Phase;
 use crate::pieces::piece::Piece;
 use crate::pieces::walk::Stage;
 use crate::pieces::{Outcome, PieceDecoder};
@@ -19,6 +20,8 @@ use crate::segments::{Code, Next};
 use qm_core::Decoder;
 
 impl PieceDecoder {
+    ghost use Rattle.t85_core.specs.Phases.{phase_behind};
+    ghost use Rattle.t85_core.specs.declared.pieces.phase.Phase.TheVariants as phase;
     ghost use Rattle.t85_core.specs.Options.{fields_of};
     ghost use Rattle.t85_core.specs.Steps.Behind.{ComesBehind, StopsBehind, behind_at};
     ghost use Rattle.t85_core.specs.Steps.Segments.{IsByteOrMarker, code_bytes};
@@ -27,11 +30,12 @@ impl PieceDecoder {
     /// Continues behind an end marker, or before the first stripe, while a height may still arrive.
     pub(super) fn step_behind(
         &mut self,
+        head: Head,
         lent: &mut Lent<'_, '_>,
         piece: &mut Piece<'_>,
         is_all: bool,
     ) -> Option<Outcome>
-        requires looks { LooksForHeight self.old }
+        requires looks { self.old.phase ≡ phase.Behind head }
         ensures leaves { StepLeaves is_all (over self.old lent.old) (over self.new
             lent.new) piece.old.rest.now piece.new.rest.now result }
         ensures lowers { Lowers self.old self.new piece.old.rest.now piece.new.rest.now result }
@@ -42,7 +46,10 @@ impl PieceDecoder {
         }
         let place = self.place_behind();
         let is_last = self.is_last();
-        match self.behind.pass(&self.image.header, place, is_last, piece) {
+        let mut head = head;
+        let found = head.pass(&self.image.header, place, is_last, piece);
+        self.phase = Phase::Behind(head);
+        match found {
             Ok(coming) => self.take_coming(lent, coming, is_last, is_all, piece),
             Err(fault) => {
                 if is_open_end(fault, is_all) {
@@ -63,7 +70,7 @@ impl PieceDecoder {
         piece: &mut Piece<'c>,
     ) -> Option<Outcome>
         requires looks { LooksForHeight self.old }
-        requires between { self.old.behind.comment ≡ None }
+        requires between { (phase_behind self.old.phase).comment ≡ None }
         requires last { is_last ≡ is_last_of self.old }
         requires comes { ComesBehind (fields_of self.old.image.header) (place_after self.old) coming.next
             piece.old.rest.now coming.rest.now }
@@ -96,7 +103,7 @@ impl PieceDecoder {
         requires last { is_last ≡ is_last_of self.old }
         requires end { fault ≡ Truncated → is_all ≡ true }
         requires stops { StopsBehind (fields_of self.old.image.header)
-            (behind_at (place_after self.old) is_last) self.old.behind piece.now.rest.now fault }
+            (behind_at (place_after self.old) is_last) (phase_behind self.old.phase) piece.now.rest.now fault }
         ensures leaves { StepLeaves is_all (over self.old lent.old) (over self.new
             lent.new) piece.now.rest.now piece.now.rest.now (Some result) }
         ensures lent { KeepsLent lent.old lent.new }
@@ -117,7 +124,7 @@ impl PieceDecoder {
         piece: &mut Piece<'c>,
     ) -> Option<Outcome>
         requires looks { LooksForHeight self.old }
-        requires between { self.old.behind.comment ≡ None }
+        requires between { (phase_behind self.old.phase).comment ≡ None }
         requires comes { HeightComes (fields_of self.old.image.header) (walk_lent self.old.walk lent.old)
             height piece.old.rest.now rest.now }
         ensures leaves { (is_all : Bool) → StepLeaves is_all (over self.old lent.old)
@@ -142,8 +149,7 @@ impl PieceDecoder {
         self.walk.given = true;
         self.walk.left = self.walk.left.saturating_sub(fewer);
         self.image.height = height;
-        self.is_open = false;
-        self.waits = false;
+        self.phase = Phase::Known;
         None
     }
 
@@ -156,7 +162,7 @@ impl PieceDecoder {
         piece: &mut Piece<'c>,
     ) -> Option<Outcome>
         requires looks { LooksForHeight self.old }
-        requires between { self.old.behind.comment ≡ None }
+        requires between { (phase_behind self.old.phase).comment ≡ None }
         requires more { is_last_of self.old ≡ false }
         requires code { IsByteOrMarker code }
         requires comes { piece.old.rest.now ≡ code_bytes code ++ rest.now }
@@ -172,9 +178,9 @@ impl PieceDecoder {
         }
         self.enter_head(lent);
         piece.rest = rest;
-        self.walk.stage = Stage::Code(InCode::start(self.behind.at, code));
+        self.walk.stage = Stage::Code(InCode::start(self.phase.behind().at, code));
         self.walk.decoder = Decoder::start();
-        self.waits = false;
+        self.phase = Phase::InCode;
         None
     }
 
@@ -191,7 +197,7 @@ impl PieceDecoder {
         requires more { is_last_of self.old ≡ false }
         requires end { fault ≡ Truncated → is_all ≡ true }
         requires stops { StopsBehind (fields_of self.old.image.header)
-            (behind_at (place_after self.old) false) self.old.behind piece.now.rest.now fault }
+            (behind_at (place_after self.old) false) (phase_behind self.old.phase) piece.now.rest.now fault }
         ensures leaves { StepLeaves is_all (over self.old lent.old) (over self.new
             lent.new) piece.now.rest.now piece.now.rest.now (Some result) }
         ensures lent { KeepsLent lent.old lent.new }
@@ -222,7 +228,7 @@ impl PieceDecoder {
             return Outcome::Row;
         }
         self.end_stripe(lent);
-        self.waits = false;
+        self.phase = Phase::Known;
         Outcome::Done(self.image.height)
     }
 }

@@ -100,7 +100,7 @@ impl PieceDecoder {
         ensures lent { KeepsLent lent.old lent.new }
     {
         self.end_stripe(lent);
-        self.walk.stage = Stage::Head(self.behind);
+        self.walk.stage = Stage::Head(self.phase.behind());
     }
 
     /// Ends the previous stripe, if there is one and all its rows have been returned. Its end marker has arrived.

@@ -2,6 +2,7 @@ use Rattle.std.proofs.Common.{◌∙◌, false, sym, ap, subst, refl, rules, ari
 use Rattle.t85_core.specs.Options.{fields_of}
 use Rattle.t85_core.specs.Steps.Pieces.{IsInCode}
 use Rattle.t85_core.specs.Steps.PieceSteps.{SomeStand, StripeLeft, EndsConsumed, EndsWhole}
+use Rattle.t85_core.specs.declared.pieces.phase.Phase.TheVariants as phase
 use Rattle.t85_core.specs.Lent.{decoder_lent, walk_lent}
 use Rattle.t85_core.proofs.Decodings.PieceStood.{leaves_done, row_where, done_where, waits_of}
 use Rattle.t85_core.proofs.Decodings.LookOver.{look_consumed, look_whole}
@@ -19,13 +20,14 @@ returns-clause-leaves c =
     let d = decoder_lent c.args.self.now c.args.lent.now in
     let p = c.args.piece.now.rest.now in
     let left = decoder_lent c.end_stripe.new.self c.end_stripe.new.lent in
+    let ended = decoder_lent (record c.end_stripe.new.self { phase = phase.Known }) c.end_stripe.new.lent in
     let above = c.gives_below.ensures.stays (search rules) in
     let keeps = c.end_stripe.ensures.keeps in
-    done_where c.args.is_all d (record left { waits = false }) p p (keeps.header ∙ ap (λ z. z.header) above.same) (keeps.going ∙ ap (λ z. z.end) above.same) c.end_stripe.new.self.image.height refl (λ some.
+    done_where c.args.is_all d ended p p (keeps.header ∙ ap (λ z. z.header) above.same) (keeps.going ∙ ap (λ z. z.end) above.same) c.end_stripe.new.self.image.height refl (λ some.
     let w = waits_of d some.0 some.1 c.requires.looks.0 c.requires.looks.1 some.2 in
     let code = in_last (fields_of c.args.self.now.image.header) (walk_lent c.args.self.now.walk c.args.lent.now) w.at c.requires.last in
     let e = subst (λ z. StripeLeft z left) above.same (c.end_stripe.ensures.ends (subst (λ z. IsInCode z.walk.stage) (sym above.same) code) (subst SomeStand (sym above.same) some)) in
     let height = sym (e.keeps.height ∙ own_first d c.requires.looks.0 some) in
-    leaves_done c.args.is_all d (record left { waits = false }) p p _ e.keeps.header e.keeps.going refl
+    leaves_done c.args.is_all d ended p p _ e.keeps.header e.keeps.going refl
     (subst (EndsWhole c.args.is_all d p) height (look_whole d left p c.args.is_all c.coder_laws.ensures c.requires.looks.0 c.requires.looks.1 c.requires.last (c.requires.over some) e))
-    (subst (EndsConsumed c.args.is_all d (record left { waits = false }) p p) height (look_consumed d left p c.args.is_all c.coder_laws.ensures c.requires.looks.0 c.requires.looks.1 c.requires.last (c.requires.over some) e (record left { waits = false }) refl)))
+    (subst (EndsConsumed c.args.is_all d ended p p) height (look_consumed d left p c.args.is_all c.coder_laws.ensures c.requires.looks.0 c.requires.looks.1 c.requires.last (c.requires.over some) e ended refl)))

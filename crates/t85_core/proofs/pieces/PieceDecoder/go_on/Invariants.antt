@@ -1,4 +1,5 @@
 use Rattle.std.proofs.Common.{◌≡◌, []}
+use Rattle.t85_core.specs.Phases.{phase_waits}
 use Rattle.t85_core.specs.Steps.PieceSteps.{DecoderOn, steps_left}
 use Rattle.t85_core.specs.Lent.{KeepsLent, decoder_lent}
 use Rattle.t85_core.proofs.pieces.PieceDecoder.go_on.Given as goal
@@ -12,4 +13,4 @@ invariant-steps l = record {
 }
 
 abbrev pub decreases-steps : goal.decreases-steps
-decreases-steps l = steps_left l.self.waits l.piece.rest.now
+decreases-steps l = steps_left (phase_waits l.self.phase) l.piece.rest.now

@@ -1,37 +1,40 @@
-use Rattle.std.proofs.Common.{Some, refl, subst, rules, arith}
+use Rattle.std.proofs.Common.{Some, ap, refl, subst, sym, true, rules, arith}
 use Rattle.t85_core.specs.Options.{fields_of}
+use Rattle.t85_core.specs.Phases.{phase_behind, phase_is_open, phase_waits}
 use Rattle.t85_core.specs.declared.pieces.Outcome.TheVariants as outcome
-use Rattle.t85_core.specs.Steps.Behind.{BehindOn, StopsBehind, behind_at}
+use Rattle.t85_core.specs.Steps.Behind.{StopsBehind, behind_at}
 use Rattle.t85_core.specs.Steps.PieceStands.{last_behind}
 use Rattle.t85_core.specs.Stages.{stage_kind}
 use Rattle.t85_core.specs.Lent.{decoder_lent}
 use Rattle.t85_core.proofs.Decodings.PieceStood.{leaves_after, leaves_more, on_none, fewer_after, leaves_nowhere, waits_few}
 use Rattle.t85_core.specs.declared.fault.Fault.TheVariants.{Truncated}
-use Rattle.t85_core.proofs.Decodings.PieceLook.{passed_on}
+use Rattle.t85_core.proofs.Decodings.PieceLook.{passed_behind}
 use Rattle.t85_core.proofs.Decodings.PieceOpen.{still_open}
 use Rattle.t85_core.proofs.pieces.PieceDecoder.step_behind.Goals as goal
 
 pub returns-in-Ok-clause-leaves : goal.returns-in-Ok-clause-leaves
-returns-in-Ok-clause-leaves c = leaves_after c.args.is_all (decoder_lent c.args.self.now c.args.lent.now) _ (decoder_lent c.take_coming.new.self c.take_coming.new.lent) c.args.piece.now.rest.now c.pass.new.piece.rest.now c.take_coming.new.piece.rest.now refl refl (passed_on (decoder_lent c.args.self.now c.args.lent.now) _ c.pass.new.self c.args.piece.now.rest.now c.pass.new.piece.rest.now c.requires.looks.0 c.requires.looks.1 refl refl refl refl refl refl (subst (λ z. BehindOn (fields_of c.args.self.now.image.header) (behind_at z (last_behind (fields_of c.args.self.now.image.header) (stage_kind c.args.self.now.walk.stage) c.args.self.now.walk.left)) c.args.self.now.behind c.pass.new.self c.args.piece.now.rest.now c.pass.new.piece.rest.now) c.place_behind-place.ensures (subst (λ l. BehindOn (fields_of c.args.self.now.image.header) (behind_at c.place_behind-place.result l) c.args.self.now.behind c.pass.new.self c.args.piece.now.rest.now c.pass.new.piece.rest.now) c.is_last-is_last.ensures (c.pass.ensures.on c.place_behind-place.result.given)))) c.take_coming.result c.take_coming.ensures.leaves
+returns-in-Ok-clause-leaves c = leaves_after c.args.is_all (decoder_lent c.args.self.now c.args.lent.now) _ (decoder_lent c.take_coming.new.self c.take_coming.new.lent) c.args.piece.now.rest.now c.pass-found.new.piece.rest.now c.take_coming.new.piece.rest.now refl refl (passed_behind (decoder_lent c.args.self.now c.args.lent.now) _ c.args.head c.pass-found.new.self c.args.piece.now.rest.now c.pass-found.new.piece.rest.now _ _ (ap phase_is_open c.requires.looks) (ap phase_waits c.requires.looks) (ap phase_behind c.requires.looks) refl refl refl refl refl refl c.place_behind-place.ensures c.is_last-is_last.ensures (c.pass-found.ensures.on c.place_behind-place.result.given)) c.take_coming.result c.take_coming.ensures.leaves
 
 pub returns-in-Ok-clause-lowers : goal.returns-in-Ok-clause-lowers
-returns-in-Ok-clause-lowers c = λ is. fewer_after c.args.self.now.waits c.args.self.now.waits c.take_coming.new.self.waits c.args.piece.now.rest.now c.pass.new.piece.rest.now c.take_coming.new.piece.rest.now refl c.pass.ensures.no_more (c.take_coming.ensures.lowers is)
+returns-in-Ok-clause-lowers c = λ is. fewer_after (phase_waits c.args.self.now.phase) true (phase_waits c.take_coming.new.self.phase) c.args.piece.now.rest.now c.pass-found.new.piece.rest.now c.take_coming.new.piece.rest.now (sym (ap phase_waits c.requires.looks)) c.pass-found.ensures.no_more (c.take_coming.ensures.lowers is)
 
 pub returns-then-is_open_end-clause-leaves : goal.returns-then-is_open_end-clause-leaves
 returns-then-is_open_end-clause-leaves c =
+    let h = fields_of c.args.self.now.image.header in
+    let w = c.args.self.now.walk in
     let ended = (c.is_open_end.ensures.yes (search rules)).0 in
-    let stops = subst (StopsBehind (fields_of c.args.self.now.image.header) (behind_at c.place_behind-place.result c.is_last-is_last.result) c.pass.new.self c.pass.new.piece.rest.now) ended c.in-Err.ensures.err in
-    let here = subst (λ z. StopsBehind (fields_of c.args.self.now.image.header) (behind_at z (last_behind (fields_of c.args.self.now.image.header) (stage_kind c.args.self.now.walk.stage) c.args.self.now.walk.left)) c.pass.new.self c.pass.new.piece.rest.now Truncated) c.place_behind-place.ensures
-    (subst (λ l. StopsBehind (fields_of c.args.self.now.image.header) (behind_at c.place_behind-place.result l) c.pass.new.self c.pass.new.piece.rest.now Truncated) c.is_last-is_last.ensures stops) in
-    leaves_after c.args.is_all (decoder_lent c.args.self.now c.args.lent.now) _ _ c.args.piece.now.rest.now c.pass.new.piece.rest.now c.pass.new.piece.rest.now refl refl (passed_on (decoder_lent c.args.self.now c.args.lent.now) _ c.pass.new.self c.args.piece.now.rest.now c.pass.new.piece.rest.now c.requires.looks.0 c.requires.looks.1 refl refl refl refl refl refl (subst (λ z. BehindOn (fields_of c.args.self.now.image.header) (behind_at z (last_behind (fields_of c.args.self.now.image.header) (stage_kind c.args.self.now.walk.stage) c.args.self.now.walk.left)) c.args.self.now.behind c.pass.new.self c.args.piece.now.rest.now c.pass.new.piece.rest.now) c.place_behind-place.ensures (subst (λ l. BehindOn (fields_of c.args.self.now.image.header) (behind_at c.place_behind-place.result l) c.args.self.now.behind c.pass.new.self c.args.piece.now.rest.now c.pass.new.piece.rest.now) c.is_last-is_last.ensures (c.pass.ensures.on c.place_behind-place.result.given)))) (Some outcome.More)
-    (leaves_more c.args.is_all _ _ c.pass.new.piece.rest.now c.pass.new.piece.rest.now refl refl (c.is_open_end.ensures.yes (search rules)).1 c.requires.looks.0 c.requires.looks.1 (on_none _ _ c.pass.new.piece.rest.now (λ text out s. s)) (c.in-Err.ensures.err.few ended) (still_open _ c.pass.new.piece.rest.now c.requires.looks.0 c.requires.looks.1 here))
+    let stops = subst (StopsBehind h (behind_at c.place_behind-place.result c.is_last-is_last.result) c.pass-found.new.self c.pass-found.new.piece.rest.now) ended c.in-Err.ensures.err in
+    let here = subst (λ z. StopsBehind h (behind_at z (last_behind h (stage_kind w.stage) w.left)) c.pass-found.new.self c.pass-found.new.piece.rest.now Truncated) c.place_behind-place.ensures
+    (subst (λ l. StopsBehind h (behind_at c.place_behind-place.result l) c.pass-found.new.self c.pass-found.new.piece.rest.now Truncated) c.is_last-is_last.ensures stops) in
+    leaves_after c.args.is_all (decoder_lent c.args.self.now c.args.lent.now) _ _ c.args.piece.now.rest.now c.pass-found.new.piece.rest.now c.pass-found.new.piece.rest.now refl refl (passed_behind (decoder_lent c.args.self.now c.args.lent.now) _ c.args.head c.pass-found.new.self c.args.piece.now.rest.now c.pass-found.new.piece.rest.now _ _ (ap phase_is_open c.requires.looks) (ap phase_waits c.requires.looks) (ap phase_behind c.requires.looks) refl refl refl refl refl refl c.place_behind-place.ensures c.is_last-is_last.ensures (c.pass-found.ensures.on c.place_behind-place.result.given)) (Some outcome.More)
+    (leaves_more c.args.is_all _ _ c.pass-found.new.piece.rest.now c.pass-found.new.piece.rest.now refl refl (c.is_open_end.ensures.yes (search rules)).1 refl refl (on_none _ _ c.pass-found.new.piece.rest.now (λ text out s. s)) (c.in-Err.ensures.err.few ended) (still_open _ c.pass-found.new.piece.rest.now refl refl here))
 
 pub returns-else-is_open_end-clause-leaves : goal.returns-else-is_open_end-clause-leaves
-returns-else-is_open_end-clause-leaves c = leaves_after c.args.is_all (decoder_lent c.args.self.now c.args.lent.now) _ (decoder_lent c.stop_behind.new.self c.stop_behind.new.lent) c.args.piece.now.rest.now c.pass.new.piece.rest.now c.pass.new.piece.rest.now refl refl (passed_on (decoder_lent c.args.self.now c.args.lent.now) _ c.pass.new.self c.args.piece.now.rest.now c.pass.new.piece.rest.now c.requires.looks.0 c.requires.looks.1 refl refl refl refl refl refl (subst (λ z. BehindOn (fields_of c.args.self.now.image.header) (behind_at z (last_behind (fields_of c.args.self.now.image.header) (stage_kind c.args.self.now.walk.stage) c.args.self.now.walk.left)) c.args.self.now.behind c.pass.new.self c.args.piece.now.rest.now c.pass.new.piece.rest.now) c.place_behind-place.ensures (subst (λ l. BehindOn (fields_of c.args.self.now.image.header) (behind_at c.place_behind-place.result l) c.args.self.now.behind c.pass.new.self c.args.piece.now.rest.now c.pass.new.piece.rest.now) c.is_last-is_last.ensures (c.pass.ensures.on c.place_behind-place.result.given)))) (Some c.stop_behind.result) c.stop_behind.ensures.leaves
+returns-else-is_open_end-clause-leaves c = leaves_after c.args.is_all (decoder_lent c.args.self.now c.args.lent.now) _ (decoder_lent c.stop_behind.new.self c.stop_behind.new.lent) c.args.piece.now.rest.now c.pass-found.new.piece.rest.now c.pass-found.new.piece.rest.now refl refl (passed_behind (decoder_lent c.args.self.now c.args.lent.now) _ c.args.head c.pass-found.new.self c.args.piece.now.rest.now c.pass-found.new.piece.rest.now _ _ (ap phase_is_open c.requires.looks) (ap phase_waits c.requires.looks) (ap phase_behind c.requires.looks) refl refl refl refl refl refl c.place_behind-place.ensures c.is_last-is_last.ensures (c.pass-found.ensures.on c.place_behind-place.result.given)) (Some c.stop_behind.result) c.stop_behind.ensures.leaves
 
 pub returns-then-self-clause-leaves : goal.returns-then-self-clause-leaves
 returns-then-self-clause-leaves c =
-    leaves_nowhere c.args.is_all (decoder_lent c.args.self.now c.args.lent.now) (decoder_lent c.args.self.now c.args.lent.now) c.args.piece.now.rest.now c.args.piece.now.rest.now refl refl Truncated (λ some. let few = waits_few (decoder_lent c.args.self.now c.args.lent.now) c.requires.looks.0 c.requires.looks.1 some in omega (arith, few, c.if-self.true))
+    leaves_nowhere c.args.is_all (decoder_lent c.args.self.now c.args.lent.now) (decoder_lent c.args.self.now c.args.lent.now) c.args.piece.now.rest.now c.args.piece.now.rest.now refl refl Truncated (λ some. let few = waits_few (decoder_lent c.args.self.now c.args.lent.now) (ap phase_is_open c.requires.looks) (ap phase_waits c.requires.looks) some in omega (arith, few, c.if-self.true))
 
 pub returns-then-self-clause-lowers : goal.returns-then-self-clause-lowers
 returns-then-self-clause-lowers c = λ e. absurd (let bot : ⊥ = cc in bot)

@@ -1,5 +1,6 @@
 use Rattle.std.proofs.Common.{◌≡◌, ◌++◌, ◌∙◌, [], drop, Err, inl, inr, refl, sym, ap, subst, append-nil, arith}
 use Rattle.std.specs.Prelude.{◌&&◌}
+use Rattle.t85_core.specs.Phases.{phase_waits}
 use Rattle.t85_core.specs.Options.{fields_of}
 use Rattle.t85_core.specs.Steps.PieceCode.{EndsInNoEscape, HasNoMarker}
 use Rattle.t85_core.specs.Steps.Pieces.{StepsOff}
@@ -24,7 +25,7 @@ returns-then-front-bytes-clause-leaves c =
     let none : c.split_at.result.1.now ≡ [] = nil_of c.split_at.result.1.now (omega (arith, c.split_at.ensures.front_len, c.split_at.ensures.back_len, c.if-front-bytes.true)) in
     let all : c.split_at.result.0.now ≡ c.args.piece.now.rest.now = sym (append-nil c.split_at.result.0.now) ∙ ap (λ z. c.split_at.result.0.now ++ z) (sym none) ∙ sym (split_is c.args.piece.now.rest.now c.split_at.result.0.now c.split_at.result.1.now c.code_len.result c.split_at.ensures.front c.split_at.ensures.back) in
     leaves_stop c.args.is_all (decoder_lent c.args.self.now c.args.lent.now) _ c.args.piece.now.rest.now c.next_row.new.piece.rest.now c.in-Err.fault c.outcome_of.result
-    (record { more = c.outcome_of.ensures.more; broken = c.outcome_of.ensures.broken; row = c.outcome_of.ensures.row; done = c.outcome_of.ensures.done }) refl refl (ap (λ b. b && c.args.self.now.waits) c.requires.in_code.0 ∙ c.requires.in_code.1)
+    (record { more = c.outcome_of.ensures.more; broken = c.outcome_of.ensures.broken; row = c.outcome_of.ensures.row; done = c.outcome_of.ensures.done }) refl refl (ap (λ b. b && (phase_waits c.args.self.now.phase)) c.requires.in_code.0 ∙ c.requires.in_code.1)
     (λ e. let m = (c.in-Err.ensures.step c.requires.wants).more (ap Err e) in (
       code_on (decoder_lent c.args.self.now c.args.lent.now) _ c.args.piece.now.rest.now c.split_at.result.0.now c.split_at.result.1.now c.next_row.new.piece.rest.now c.next_row.new.piece.rest.now [] c.requires.in_code.0 c.requires.in_code.1 (record { header = refl; height = refl; is_open = refl; waits = refl; behind = refl; going = refl }) (split_is c.args.piece.now.rest.now c.split_at.result.0.now c.split_at.result.1.now c.code_len.result c.split_at.ensures.front c.split_at.ensures.back)
           (λ _ g is. sym (append-nil c.next_row.new.piece.rest.now) ∙ ap (λ z. c.next_row.new.piece.rest.now ++ z) (sym none))
@@ -38,7 +39,7 @@ returns-in-Truncated-clause-leaves c = on_where c.args.is_all (decoder_lent c.ar
     (on_to_marker (decoder_lent c.args.self.now c.args.lent.now) _ (decoder_lent c.wait_at_marker.new.self c.next_row.new.lent) c.args.piece.now.rest.now c.split_at.result.0.now c.split_at.result.1.now c.wait_at_marker.new.piece.rest.now c.requires.in_code.0 c.requires.in_code.1 refl (split_is c.args.piece.now.rest.now c.split_at.result.0.now c.split_at.result.1.now c.code_len.result c.split_at.ensures.front c.split_at.ensures.back) (code_on (decoder_lent c.args.self.now c.args.lent.now) _ c.args.piece.now.rest.now c.split_at.result.0.now c.split_at.result.1.now c.next_row.new.piece.rest.now c.split_at.result.1.now [] c.requires.in_code.0 c.requires.in_code.1 (record { header = refl; height = refl; is_open = refl; waits = refl; behind = refl; going = refl }) (split_is c.args.piece.now.rest.now c.split_at.result.0.now c.split_at.result.1.now c.code_len.result c.split_at.ensures.front c.split_at.ensures.back) (λ some g e. ap (λ z. z ++ c.split_at.result.1.now) (sym ((c.in-Err.ensures.leaves c.requires.wants (some_code (decoder_lent c.args.self.now c.args.lent.now) c.requires.in_code.0 c.requires.in_code.1 some)).drained (subst EndsInNoEscape (sym c.split_at.ensures.front) (c.code_len.ensures.escape (omega (arith, c.code_len.ensures.bound, c.split_at.ensures.front_len, c.if-front-bytes.false))))))) ((c.in-Err.ensures.step c.requires.wants).more (ap Err c.in-Truncated.is)).0 (λ some. (inr (c.in-Err.ensures.leaves c.requires.wants (some_code (decoder_lent c.args.self.now c.args.lent.now) c.requires.in_code.0 c.requires.in_code.1 some)).same_row.1, (c.in-Err.ensures.leaves c.requires.wants (some_code (decoder_lent c.args.self.now c.args.lent.now) c.requires.in_code.0 c.requires.in_code.1 some)).place.given)) (λ some. none_read (c.in-Err.ensures.leaves c.requires.wants (some_code (decoder_lent c.args.self.now c.args.lent.now) c.requires.in_code.0 c.requires.in_code.1 some)).same_row.2 ((c.in-Err.ensures.leaves c.requires.wants (some_code (decoder_lent c.args.self.now c.args.lent.now) c.requires.in_code.0 c.requires.in_code.1 some)).same_row.3 ∙ unread _ _ c.requires.unmarked))) (subst (StepsOff (sized (fields_of c.args.self.now.image.header) c.args.self.now.image.header.yd) (walk_lent c.args.self.now.walk c.args.lent.now) c.split_at.result.0.now) c.in-Truncated.is (c.in-Err.ensures.step c.requires.wants).err) (c.wait_at_marker.ensures.on (c.in-Err.ensures.leaves c.requires.wants (some_code (decoder_lent c.args.self.now c.args.lent.now) c.requires.in_code.0 c.requires.in_code.1 some)).same_row.2 ((c.in-Err.ensures.leaves c.requires.wants (some_code (decoder_lent c.args.self.now c.args.lent.now) c.requires.in_code.0 c.requires.in_code.1 some)).same_row.3 ∙ unread _ _ c.requires.unmarked) (inr (c.in-Err.ensures.leaves c.requires.wants (some_code (decoder_lent c.args.self.now c.args.lent.now) c.requires.in_code.0 c.requires.in_code.1 some)).same_row.1) (held c.next_row.new.lent.window.now) c.next_row.new.lent.learned.now)))
 
 pub returns-in-Truncated-clause-lowers : goal.returns-in-Truncated-clause-lowers
-returns-in-Truncated-clause-lowers c = λ _. fewer_bytes c.args.self.now.waits c.wait_at_marker.new.self.waits c.args.piece.now.rest.now c.wait_at_marker.new.piece.rest.now
+returns-in-Truncated-clause-lowers c = λ _. fewer_bytes (phase_waits c.args.self.now.phase) (phase_waits c.wait_at_marker.new.self.phase) c.args.piece.now.rest.now c.wait_at_marker.new.piece.rest.now
     (shorter_rest c.args.piece.now.rest.now c.split_at.result.0.now c.split_at.result.1.now c.wait_at_marker.new.piece.rest.now (split_is c.args.piece.now.rest.now c.split_at.result.0.now c.split_at.result.1.now c.code_len.result c.split_at.ensures.front c.split_at.ensures.back) c.wait_at_marker.ensures.no_more (λ zero.
     let none : c.code_len.result ≡ 0 = omega (arith, zero, c.split_at.ensures.front_len, c.code_len.ensures.bound) in
     let m = c.code_len.ensures.some none (omega (arith, zero, c.if-front-bytes.false)) in

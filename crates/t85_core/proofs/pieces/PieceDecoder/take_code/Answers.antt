@@ -23,7 +23,7 @@ there : (c : goal.After-self-3-1) (h : HeadEntered (decoder_lent c.gives_below.n
     record (walk_lent c.enter_head.new.self.walk c.enter_head.new.lent) { decoder = c.start-self.result; stage = kind.Code; comment = 0; row = 0; place = place_from None; first = Some c.args.code; marker = None }
 there c h =
     started_view (record c.enter_head.new.self.walk { decoder = c.start-self.result }) (held c.enter_head.new.lent.window.now) c.enter_head.new.lent.learned.now c.start.ensures
-    ∙ ap (λ a. record (walk_lent c.enter_head.new.self.walk c.enter_head.new.lent) { decoder = c.start-self.result; stage = kind.Code; at = a; comment = 0; row = 0; place = place_from None; first = Some c.args.code; marker = None }) (ap (λ b. b.at) h.keeps.behind ∙ sym h.at)
+    ∙ ap (λ a. record (walk_lent c.enter_head.new.self.walk c.enter_head.new.lent) { decoder = c.start-self.result; stage = kind.Code; at = a; comment = 0; row = 0; place = place_from None; first = Some c.args.code; marker = None }) (ap (λ b. b.at) (c.behind.ensures ∙ h.keeps.behind) ∙ sym h.at)
 
 pub returns-clause-leaves : goal.returns-clause-leaves
 returns-clause-leaves c = λ is_all.
@@ -34,4 +34,4 @@ returns-clause-leaves c = λ is_all.
     leaves_of above.same
     (leaves_on is_all (decoder_lent c.gives_below.new.self c.gives_below.new.lent) _ c.args.piece.now.rest.now c.args.rest.now h.keeps.header h.keeps.going
     (code_entered c.coder_laws.ensures (decoder_lent c.gives_below.new.self c.gives_below.new.lent) (decoder_lent c.enter_head.new.self c.enter_head.new.lent) _ c.args.code c.start-self.result c.args.piece.now.rest.now c.args.rest.now (ap (λ z. z.is_open) above.same ∙ c.requires.looks.0) (ap (λ z. z.waits) above.same ∙ c.requires.looks.1) h
-    (ap (λ z. z.behind.comment) above.same ∙ c.requires.between) c.requires.code c.start-self.ensures.stands c.requires.comes refl refl refl refl (there c h))))
+    (ap (λ z. z.behind.comment) above.same ∙ c.requires.between) c.requires.code c.start-self.ensures.stands c.requires.comes refl refl (sym (h.keeps.is_open ∙ ap (λ z. z.is_open) above.same ∙ c.requires.looks.0)) refl (there c h))))

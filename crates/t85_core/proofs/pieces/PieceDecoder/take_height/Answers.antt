@@ -1,5 +1,6 @@
 use Rattle.std.proofs.Common.{◌≡◌, ◌∙◌, ◌≤◌, ◌<◌, ◌-◌, refl, sym, ap, subst, true, false, rules, arith}
 use Rattle.std.specs.Prelude.{◌&&◌}
+use Rattle.t85_core.specs.Phases.{phase_waits}
 use Rattle.t85_core.specs.Options.{fields_of}
 use Rattle.t85_core.specs.Steps.Pieces.{IsInCode}
 use Rattle.t85_core.specs.Steps.PieceStands.{last_behind}
@@ -30,7 +31,7 @@ returns-then-ends_in_stripe-clause-leaves c = λ is_all.
     leaves_done is_all (decoder_lent c.args.self.now c.args.lent.now) ended c.args.piece.now.rest.now c.args.rest.now c.args.height (ap (λ z. z.header) above.same) (ap (λ z. z.end) above.same) refl
     (late_whole (decoder_lent c.args.self.now c.args.lent.now) c.coder_laws.ensures c.args.height c.args.piece.now.rest.now c.args.rest.now c.requires.looks.0 c.requires.looks.1 c.requires.between code c.requires.comes fits few is_all)
     (late_consumed (decoder_lent c.args.self.now c.args.lent.now) c.coder_laws.ensures c.args.height c.args.piece.now.rest.now c.args.rest.now c.requires.looks.0 c.requires.looks.1 c.requires.between code c.requires.comes fits few ended is_all
-    (ap (λ z. z.is_open && z.waits) above.same ∙ ap (λ b. b && c.args.self.now.waits) c.requires.looks.0 ∙ c.requires.looks.1))
+    (ap (λ z. z.is_open && z.waits) above.same ∙ ap (λ b. b && (phase_waits c.args.self.now.phase)) c.requires.looks.0 ∙ c.requires.looks.1))
 
 pub returns-clause-leaves : goal.returns-clause-leaves
 returns-clause-leaves c = λ is_all.

@@ -1,5 +1,6 @@
 use Rattle.std.proofs.Common.{[], Ok, Err, ap, refl, sym, ◌∙◌, true≢false}
 use Rattle.std.specs.Prelude.{◌&&◌}
+use Rattle.t85_core.specs.Phases.{phase_waits}
 use Rattle.t85_core.specs.Lent.{decoder_lent, walk_lent}
 use Rattle.t85_core.proofs.Decodings.PieceSteps.{over_done}
 use Rattle.t85_core.proofs.Decodings.PieceStood.{leaves_row, leaves_done, leaves_stop, turn_on, turn_whole, turn_consumed, turn_broken}
@@ -19,5 +20,5 @@ returns-in-Ok-false-clause-leaves c =
 pub returns-in-Err-clause-leaves : goal.returns-in-Err-clause-leaves
 returns-in-Err-clause-leaves c =
     leaves_stop c.args.is_all (decoder_lent c.args.self.now c.args.lent.now) _ c.args.piece.now.rest.now c.next.new.piece.rest.now c.in-Err.fault c.outcome_of.result
-    (record { more = c.outcome_of.ensures.more; broken = c.outcome_of.ensures.broken; row = c.outcome_of.ensures.row; done = c.outcome_of.ensures.done }) refl refl (ap (λ b. b && c.args.self.now.waits) c.requires.known)
+    (record { more = c.outcome_of.ensures.more; broken = c.outcome_of.ensures.broken; row = c.outcome_of.ensures.row; done = c.outcome_of.ensures.done }) refl refl (ap (λ b. b && (phase_waits c.args.self.now.phase)) c.requires.known)
     (λ e. let m = c.in-Err.ensures.step.more (ap Err e) in (turn_on (decoder_lent c.args.self.now c.args.lent.now) c.requires.known _ c.args.piece.now.rest.now c.next.new.piece.rest.now [] (record { header = refl; height = refl; is_open = refl; waits = refl; behind = refl; going = refl }) m.0, m.1)) (turn_broken (decoder_lent c.args.self.now c.args.lent.now) c.requires.known c.args.piece.now.rest.now c.in-Err.fault c.in-Err.ensures.step.err)

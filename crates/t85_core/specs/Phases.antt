@@ -1,0 +1,22 @@
+-- Whether a height may still arrive, and where a decoder is then.
+use Rattle.std.specs.Prelude.{Bool, true, false}
+use Rattle.t85_core.specs.Stages.{head_start}
+use Rattle.t85_core.specs.declared.pieces.head.Head.{Head}
+use Rattle.t85_core.specs.declared.pieces.phase.Phase.{Phase}
+use Rattle.t85_core.specs.declared.pieces.phase.Phase.TheVariants as phase
+
+abbrev pub phase_is_open : Phase → Bool
+phase_is_open phase.Known = false
+phase_is_open phase.InCode = true
+phase_is_open (phase.Behind head) = true
+
+abbrev pub phase_waits : Phase → Bool
+phase_waits phase.Known = false
+phase_waits phase.InCode = false
+phase_waits (phase.Behind head) = true
+
+-- the marker segments that have arrived behind an end marker
+abbrev pub phase_behind : Phase → Head
+phase_behind phase.Known = head_start
+phase_behind phase.InCode = head_start
+phase_behind (phase.Behind head) = head

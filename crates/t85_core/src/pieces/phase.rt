@@ -1,0 +1,69 @@
+//! Whether a height may still arrive in a stream, and where the decoder is then.
+
+ghost use Rattle.std.specs.Prelude.{◌≡◌};
+ghost use Rattle.t85_core.specs.Header.{is_variable};
+ghost use Rattle.t85_core.specs.Options.{fields_of};
+ghost use Rattle.t85_core.specs.Stages.{head_start};
+ghost use Rattle.t85_core.specs.Phases.{phase_behind, phase_is_open, phase_waits};
+
+use crate::header::Header;
+use crate::pieces::head::Head;
+
+/// Whether a height may still arrive (T.82, 6.2.6.2), and where the decoder is then.
+#[derive(Clone, Copy, Drop)]
+pub enum Phase {
+    /// The height is known.
+    Known,
+    /// A height may arrive later. The decoder is in the code of a stripe.
+    InCode,
+    /// A height may arrive next: the decoder is behind an end marker, or before the first stripe. These marker segments
+    /// have arrived there.
+    Behind(Head),
+}
+
+impl Phase {
+    /// Before the first stripe of a stream with this header.
+    pub fn first(header: &Header) -> Phase
+        ensures is_open { phase_is_open result ≡ is_variable (fields_of header.now) }
+        ensures waits { phase_waits result ≡ phase_is_open result }
+        ensures none { phase_behind result ≡ head_start }
+    {
+        if header.is_variable() {
+            Phase::Behind(Head::start())
+        } else {
+            Phase::Known
+        }
+    }
+
+    /// Whether a height may still arrive.
+    pub fn is_open(&self) -> bool
+        ensures { result ≡ phase_is_open self.now }
+    {
+        match self {
+            Phase::Known => false,
+            Phase::InCode => true,
+            Phase::Behind(_) => true,
+        }
+    }
+
+    /// Whether a height may arrive next.
+    pub fn waits(&self) -> bool
+        ensures { result ≡ phase_waits self.now }
+    {
+        match self {
+            Phase::Known => false,
+            Phase::InCode => false,
+            Phase::Behind(_) => true,
+        }
+    }
+
+    /// The marker segments that have arrived behind an end marker.
+    pub fn behind(&self) -> Head
+        ensures { result ≡ phase_behind self.now }
+    {
+        match self {
+            Phase::Behind(head) => *head,
+            _ => Head::start(),
+        }
+    }
+}
