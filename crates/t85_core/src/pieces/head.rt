@@ -20,6 +20,16 @@ pub struct Head {
     pub comment: Option<u32>,
 }
 
+/// Where marker segments are read.
+#[derive(Clone, Copy)]
+pub struct SegmentPlace<'h> {
+    pub header: &'h Header,
+    /// The stripe data entities before them.
+    pub place: Place,
+    /// Whether the last stripe is among these. No move is allowed behind it.
+    pub is_last: bool,
+}
+
 /// The height or the code that follows marker segments, and the bytes after it.
 #[derive(Clone, Copy)]
 pub struct Coming<'a> {
@@ -45,32 +55,29 @@ impl Head {
         is_last || self.at.is_some()
     }
 
-    /// Consumes comments and a move, up to a height or a code, which it inspects but does not consume. No move is allowed
-    /// behind the last stripe.
+    /// Consumes comments and a move, up to a height or a code, which it inspects but does not consume.
     pub fn pass<'a>(
         &mut self,
-        header: &Header,
-        place: Place,
-        is_last: bool,
+        at: SegmentPlace<'_>,
         piece: &mut Piece<'a>,
     ) -> Result<Coming<'a>, Fault>
-        ensures on { (before : Bool) → BehindOn (fields_of header.now) (head_at place is_last
+        ensures on { (before : Bool) → BehindOn (fields_of at.entry.header.now) (head_at at.entry.place at.entry.is_last
             before) self.old self.new piece.old.rest.now piece.new.rest.now }
         ensures ok { IfOk result (λ coming. (self.new.comment ≡ None) × ComesBehind (fields_of
-            header.now) place coming.next piece.new.rest.now coming.rest.now) }
+            at.entry.header.now) at.entry.place coming.next piece.new.rest.now coming.rest.now) }
         ensures lowers { IfOk result (λ coming. length coming.rest.now <
             length piece.old.rest.now) }
-        ensures err { IfErr result (StopsBehind (fields_of header.now) (behind_at place is_last)
+        ensures err { IfErr result (StopsBehind (fields_of at.entry.header.now) (behind_at at.entry.place at.entry.is_last)
             self.new piece.new.rest.now) }
         ensures no_more { length piece.new.rest.now ≤ length piece.old.rest.now }
     {
         'segments: loop {
-            self.leave_comment(header, place, is_last, piece)?;
+            self.leave_comment(at, piece)?;
             if is_comment(piece.rest) {
-                self.enter_comment(header, place, is_last, piece)?;
+                self.enter_comment(at, piece)?;
             } else {
                 let mut ahead = Piece { rest: piece.rest };
-                match next_element(header, place, self.is_moved(is_last), &mut ahead)? {
+                match next_element(at.header, at.place, self.is_moved(at.is_last), &mut ahead)? {
                     segments::Element::Move(to) => {
                         self.at = Some(to);
                         piece.rest = ahead.rest;
@@ -94,17 +101,11 @@ impl Head {
     }
 
     /// Skips the rest of a comment, if one has begun.
-    fn leave_comment(
-        &mut self,
-        header: &Header,
-        place: Place,
-        is_last: bool,
-        piece: &mut Piece<'_>,
-    ) -> Result<(), Fault>
-        ensures on { (before : Bool) → BehindOn (fields_of header.now) (head_at place is_last
+    fn leave_comment(&mut self, at: SegmentPlace<'_>, piece: &mut Piece<'_>) -> Result<(), Fault>
+        ensures on { (before : Bool) → BehindOn (fields_of at.entry.header.now) (head_at at.entry.place at.entry.is_last
             before) self.old self.new piece.old.rest.now piece.new.rest.now }
         ensures ok { OnOk result (self.new.comment ≡ None) }
-        ensures err { IfErr result (StopsBehind (fields_of header.now) (behind_at place is_last)
+        ensures err { IfErr result (StopsBehind (fields_of at.entry.header.now) (behind_at at.entry.place at.entry.is_last)
             self.new piece.new.rest.now) }
         ensures no_more { length piece.new.rest.now ≤ length piece.old.rest.now }
     {
@@ -124,18 +125,12 @@ impl Head {
     }
 
     /// Reads the length of a comment.
-    fn enter_comment(
-        &mut self,
-        header: &Header,
-        place: Place,
-        is_last: bool,
-        piece: &mut Piece<'_>,
-    ) -> Result<(), Fault>
+    fn enter_comment(&mut self, at: SegmentPlace<'_>, piece: &mut Piece<'_>) -> Result<(), Fault>
         requires between { self.old.comment ≡ None }
         requires comment { (rest : List ℕ) × (piece.old.rest.now ≡ 255 ∷ 7 ∷ rest) }
-        ensures on { (before : Bool) → BehindOn (fields_of header.now) (head_at place is_last
+        ensures on { (before : Bool) → BehindOn (fields_of at.entry.header.now) (head_at at.entry.place at.entry.is_last
             before) self.old self.new piece.old.rest.now piece.new.rest.now }
-        ensures err { IfErr result (StopsBehind (fields_of header.now) (behind_at place is_last)
+        ensures err { IfErr result (StopsBehind (fields_of at.entry.header.now) (behind_at at.entry.place at.entry.is_last)
             self.new piece.new.rest.now) }
         ensures lowers { OnOk result (length piece.new.rest.now < length piece.old.rest.now) }
         ensures no_more { length piece.new.rest.now ≤ length piece.old.rest.now }

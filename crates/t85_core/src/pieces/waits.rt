@@ -11,7 +11,7 @@ use crate::fault::Fault;
 use crate::laws::coder_laws;
 use crate::lent::Lent;
 use crate::pieces::code::InCode;
-use crate::pieces::head::{Coming, Head};
+use crate::pieces::head::{Coming, Head, SegmentPlace};
 use crate::pieces::phase::Phase;
 use crate::pieces::piece::Piece;
 use crate::pieces::walk::Stage;
@@ -44,10 +44,14 @@ impl PieceDecoder {
         if self.walk.entities == u32::MAX {
             return Some(Outcome::Broken(Fault::Truncated));
         }
-        let place = self.place_behind();
         let is_last = self.is_last();
+        let at = SegmentPlace {
+            header: &self.image.header,
+            place: self.place_behind(),
+            is_last,
+        };
         let mut head = head;
-        let found = head.pass(&self.image.header, place, is_last, piece);
+        let found = head.pass(at, piece);
         self.phase = Phase::Behind(head);
         match found {
             Ok(coming) => self.take_coming(lent, coming, is_last, is_all, piece),

@@ -22,7 +22,7 @@ use crate::header::SizedImage;
 use crate::laws::coder_laws;
 use crate::lent::Lent;
 use crate::pieces::code::InCode;
-use crate::pieces::head::Head;
+use crate::pieces::head::{Head, SegmentPlace};
 use crate::pieces::piece::Piece;
 use crate::segments::{Code, Next, Place};
 use crate::state::{START, next_stripe, restart};
@@ -123,8 +123,13 @@ impl Walk {
             entities: self.entities,
             given: self.given,
         };
+        let at = SegmentPlace {
+            header: &image.header,
+            place,
+            is_last: false,
+        };
         let mut head = head;
-        let found = head.pass(&image.header, place, false, piece);
+        let found = head.pass(at, piece);
         self.stage = Stage::Head(head);
         let coming = found?;
         match coming.next {

@@ -13,7 +13,7 @@ use Rattle.t85_core.proofs.Decodings.PieceOpen.{still_open}
 use Rattle.t85_core.proofs.pieces.PieceDecoder.step_behind.Goals as goal
 
 pub returns-in-Ok-clause-leaves : goal.returns-in-Ok-clause-leaves
-returns-in-Ok-clause-leaves c = leaves_after c.args.is_all (decoder_lent c.args.self.now c.args.lent.now) _ (decoder_lent c.take_coming.new.self c.take_coming.new.lent) c.args.piece.now.rest.now c.pass-found.new.piece.rest.now c.take_coming.new.piece.rest.now refl refl (passed_behind (decoder_lent c.args.self.now c.args.lent.now) _ c.args.head c.pass-found.new.self c.args.piece.now.rest.now c.pass-found.new.piece.rest.now _ _ (ap phase_is_open c.requires.looks) (ap phase_waits c.requires.looks) (ap phase_behind c.requires.looks) refl refl refl refl refl refl c.place_behind-place.ensures c.is_last-is_last.ensures (c.pass-found.ensures.on c.place_behind-place.result.given)) c.take_coming.result c.take_coming.ensures.leaves
+returns-in-Ok-clause-leaves c = leaves_after c.args.is_all (decoder_lent c.args.self.now c.args.lent.now) _ (decoder_lent c.take_coming.new.self c.take_coming.new.lent) c.args.piece.now.rest.now c.pass-found.new.piece.rest.now c.take_coming.new.piece.rest.now refl refl (passed_behind (decoder_lent c.args.self.now c.args.lent.now) _ c.args.head c.pass-found.new.self c.args.piece.now.rest.now c.pass-found.new.piece.rest.now _ _ (ap phase_is_open c.requires.looks) (ap phase_waits c.requires.looks) (ap phase_behind c.requires.looks) refl refl refl refl refl refl c.place_behind.ensures c.is_last-is_last.ensures (c.pass-found.ensures.on c.place_behind.result.given)) c.take_coming.result c.take_coming.ensures.leaves
 
 pub returns-in-Ok-clause-lowers : goal.returns-in-Ok-clause-lowers
 returns-in-Ok-clause-lowers c = λ is. fewer_after (phase_waits c.args.self.now.phase) true (phase_waits c.take_coming.new.self.phase) c.args.piece.now.rest.now c.pass-found.new.piece.rest.now c.take_coming.new.piece.rest.now (sym (ap phase_waits c.requires.looks)) c.pass-found.ensures.no_more (c.take_coming.ensures.lowers is)
@@ -23,14 +23,14 @@ returns-then-is_open_end-clause-leaves c =
     let h = fields_of c.args.self.now.image.header in
     let w = c.args.self.now.walk in
     let ended = (c.is_open_end.ensures.yes (search rules)).0 in
-    let stops = subst (StopsBehind h (behind_at c.place_behind-place.result c.is_last-is_last.result) c.pass-found.new.self c.pass-found.new.piece.rest.now) ended c.in-Err.ensures.err in
-    let here = subst (λ z. StopsBehind h (behind_at z (last_behind h (stage_kind w.stage) w.left)) c.pass-found.new.self c.pass-found.new.piece.rest.now Truncated) c.place_behind-place.ensures
-    (subst (λ l. StopsBehind h (behind_at c.place_behind-place.result l) c.pass-found.new.self c.pass-found.new.piece.rest.now Truncated) c.is_last-is_last.ensures stops) in
-    leaves_after c.args.is_all (decoder_lent c.args.self.now c.args.lent.now) _ _ c.args.piece.now.rest.now c.pass-found.new.piece.rest.now c.pass-found.new.piece.rest.now refl refl (passed_behind (decoder_lent c.args.self.now c.args.lent.now) _ c.args.head c.pass-found.new.self c.args.piece.now.rest.now c.pass-found.new.piece.rest.now _ _ (ap phase_is_open c.requires.looks) (ap phase_waits c.requires.looks) (ap phase_behind c.requires.looks) refl refl refl refl refl refl c.place_behind-place.ensures c.is_last-is_last.ensures (c.pass-found.ensures.on c.place_behind-place.result.given)) (Some outcome.More)
+    let stops = subst (StopsBehind h (behind_at c.place_behind.result c.is_last-is_last.result) c.pass-found.new.self c.pass-found.new.piece.rest.now) ended c.in-Err.ensures.err in
+    let here = subst (λ z. StopsBehind h (behind_at z (last_behind h (stage_kind w.stage) w.left)) c.pass-found.new.self c.pass-found.new.piece.rest.now Truncated) c.place_behind.ensures
+    (subst (λ l. StopsBehind h (behind_at c.place_behind.result l) c.pass-found.new.self c.pass-found.new.piece.rest.now Truncated) c.is_last-is_last.ensures stops) in
+    leaves_after c.args.is_all (decoder_lent c.args.self.now c.args.lent.now) _ _ c.args.piece.now.rest.now c.pass-found.new.piece.rest.now c.pass-found.new.piece.rest.now refl refl (passed_behind (decoder_lent c.args.self.now c.args.lent.now) _ c.args.head c.pass-found.new.self c.args.piece.now.rest.now c.pass-found.new.piece.rest.now _ _ (ap phase_is_open c.requires.looks) (ap phase_waits c.requires.looks) (ap phase_behind c.requires.looks) refl refl refl refl refl refl c.place_behind.ensures c.is_last-is_last.ensures (c.pass-found.ensures.on c.place_behind.result.given)) (Some outcome.More)
     (leaves_more c.args.is_all _ _ c.pass-found.new.piece.rest.now c.pass-found.new.piece.rest.now refl refl (c.is_open_end.ensures.yes (search rules)).1 refl refl (on_none _ _ c.pass-found.new.piece.rest.now (λ text out s. s)) (c.in-Err.ensures.err.few ended) (still_open _ c.pass-found.new.piece.rest.now refl refl here))
 
 pub returns-else-is_open_end-clause-leaves : goal.returns-else-is_open_end-clause-leaves
-returns-else-is_open_end-clause-leaves c = leaves_after c.args.is_all (decoder_lent c.args.self.now c.args.lent.now) _ (decoder_lent c.stop_behind.new.self c.stop_behind.new.lent) c.args.piece.now.rest.now c.pass-found.new.piece.rest.now c.pass-found.new.piece.rest.now refl refl (passed_behind (decoder_lent c.args.self.now c.args.lent.now) _ c.args.head c.pass-found.new.self c.args.piece.now.rest.now c.pass-found.new.piece.rest.now _ _ (ap phase_is_open c.requires.looks) (ap phase_waits c.requires.looks) (ap phase_behind c.requires.looks) refl refl refl refl refl refl c.place_behind-place.ensures c.is_last-is_last.ensures (c.pass-found.ensures.on c.place_behind-place.result.given)) (Some c.stop_behind.result) c.stop_behind.ensures.leaves
+returns-else-is_open_end-clause-leaves c = leaves_after c.args.is_all (decoder_lent c.args.self.now c.args.lent.now) _ (decoder_lent c.stop_behind.new.self c.stop_behind.new.lent) c.args.piece.now.rest.now c.pass-found.new.piece.rest.now c.pass-found.new.piece.rest.now refl refl (passed_behind (decoder_lent c.args.self.now c.args.lent.now) _ c.args.head c.pass-found.new.self c.args.piece.now.rest.now c.pass-found.new.piece.rest.now _ _ (ap phase_is_open c.requires.looks) (ap phase_waits c.requires.looks) (ap phase_behind c.requires.looks) refl refl refl refl refl refl c.place_behind.ensures c.is_last-is_last.ensures (c.pass-found.ensures.on c.place_behind.result.given)) (Some c.stop_behind.result) c.stop_behind.ensures.leaves
 
 pub returns-then-self-clause-leaves : goal.returns-then-self-clause-leaves
 returns-then-self-clause-leaves c =

@@ -14,7 +14,7 @@ returns-in-Ok-clause-on c = λ before back s.
     (255 ∷ 7 ∷ big_bytes 4 c.in-Ok.len, taken, behind_enters s c.requires.between c.in-Ok.len (omega arith))
 
 pub returns-in-Err-clause-on : goal.returns-in-Err-clause-on
-returns-in-Err-clause-on c = λ before. behind_stays (fields_of c.args.header.now) (head_at c.args.place c.args.is_last before) c.args.self.now c.args.piece.now.rest.now
+returns-in-Err-clause-on c = λ before. behind_stays (fields_of c.args.at.header.now) (head_at c.args.at.place c.args.at.is_last before) c.args.self.now c.args.piece.now.rest.now
 
 pub returns-in-Err-clause-err : goal.returns-in-Err-clause-err
 returns-in-Err-clause-err c =
@@ -23,6 +23,6 @@ returns-in-Err-clause-err c =
     record {
       counted = counted_of c.in-Err.fault c.in-Err.ensures.reads.counts;
       few = comment_few c.args.piece.now.rest.now c.split_at.result.1.now c.number.new.stream.rest.now c.in-Err.fault is c.in-Err.ensures.err;
-      breaks = subst (λ o. BreaksBehind (fields_of c.args.header.now) (behind_at c.args.place c.args.is_last) c.args.self.now o c.args.piece.now.rest.now c.in-Err.fault) (sym c.requires.between)
-          (c.number.new.stream.rest.now, length_breaks (fields_of c.args.header.now) c.args.place (move_came c.args.is_last c.args.self.now.at) c.args.piece.now.rest.now c.split_at.result.1.now c.number.new.stream.rest.now c.in-Err.fault is c.in-Err.ensures.err);
+      breaks = subst (λ o. BreaksBehind (fields_of c.args.at.header.now) (behind_at c.args.at.place c.args.at.is_last) c.args.self.now o c.args.piece.now.rest.now c.in-Err.fault) (sym c.requires.between)
+          (c.number.new.stream.rest.now, length_breaks (fields_of c.args.at.header.now) c.args.at.place (move_came c.args.at.is_last c.args.self.now.at) c.args.piece.now.rest.now c.split_at.result.1.now c.number.new.stream.rest.now c.in-Err.fault is c.in-Err.ensures.err);
     }

@@ -30,11 +30,11 @@ returns-in_err-to-clause-on c = λ before. behind_then c.leave_comment.new.piece
 
 pub returns-in_err-to-clause-err : goal.returns-in_err-to-clause-err
 returns-in_err-to-clause-err c =
-    let ends = subst (λ m. Ends Truncated (Some c.leave_comment.new.piece.rest.now) (Some c.next_element.new.stream.rest.now) (PieceFault (fields_of c.args.header.now) c.args.place m) c.in_err-to.field-0.0) c.is_moved.ensures c.in_err-to.ensures.err in
-    exit (StopsBehind (fields_of c.args.header.now) (behind_at c.args.place c.args.is_last) c.leave_comment.new.self c.leave_comment.new.piece.rest.now) c.from_residual-in_err-to.result c.from_residual-in_err-to.ensures.1 (record {
+    let ends = subst (λ m. Ends Truncated (Some c.leave_comment.new.piece.rest.now) (Some c.next_element.new.stream.rest.now) (PieceFault (fields_of c.args.at.header.now) c.args.at.place m) c.in_err-to.field-0.0) c.is_moved.ensures c.in_err-to.ensures.err in
+    exit (StopsBehind (fields_of c.args.at.header.now) (behind_at c.args.at.place c.args.at.is_last) c.leave_comment.new.self c.leave_comment.new.piece.rest.now) c.from_residual-in_err-to.result c.from_residual-in_err-to.ensures.1 (record {
       counted = counted_of c.in_err-to.field-0.0 c.in_err-to.ensures.reads.counts;
-      few = piece_few (fields_of c.args.header.now) c.args.place _ c.leave_comment.new.piece.rest.now c.next_element.new.stream.rest.now c.in_err-to.field-0.0 ends (c.is_comment.ensures.no (search rules));
-      breaks = subst (λ o. BreaksBehind (fields_of c.args.header.now) (behind_at c.args.place c.args.is_last) c.leave_comment.new.self o c.leave_comment.new.piece.rest.now c.in_err-to.field-0.0) (sym c.in_ok-leave_comment.ensures.ok) (c.next_element.new.stream.rest.now, ends);
+      few = piece_few (fields_of c.args.at.header.now) c.args.at.place _ c.leave_comment.new.piece.rest.now c.next_element.new.stream.rest.now c.in_err-to.field-0.0 ends (c.is_comment.ensures.no (search rules));
+      breaks = subst (λ o. BreaksBehind (fields_of c.args.at.header.now) (behind_at c.args.at.place c.args.at.is_last) c.leave_comment.new.self o c.leave_comment.new.piece.rest.now c.in_err-to.field-0.0) (sym c.in_ok-leave_comment.ensures.ok) (c.next_element.new.stream.rest.now, ends);
     })
 
 pub segments-preserved-in-Move : goal.segments-preserved-in-Move

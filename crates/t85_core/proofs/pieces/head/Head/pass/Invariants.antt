@@ -5,7 +5,7 @@ use Rattle.t85_core.proofs.pieces.head.Head.pass.Given as goal
 
 abbrev pub invariant-segments : goal.invariant-segments
 invariant-segments l = record {
-  so_far : (before : Bool) → BehindOn (fields_of l.header) (head_at l.place l.is_last before) l.fn.self l.self l.fn.piece.rest.now l.piece.rest.now;
+  so_far : (before : Bool) → BehindOn (fields_of l.at.header.now) (head_at l.at.place l.at.is_last before) l.fn.self l.self l.fn.piece.rest.now l.piece.rest.now;
   no_more : length l.piece.rest.now ≤ length l.fn.piece.rest.now;
 }
 
