@@ -139,7 +139,7 @@ AreStageNumbers n (stage.Head head) = AreMoveNumbers n.at head.at × IsHeadNext 
 AreStageNumbers n (stage.Code c) = AreCodeNumbers n c
 AreStageNumbers n stage.Done = n.next ≡ 4
 
--- whether a height may still arrive, and where
+-- whether a height may still arrive
 abbrev pub ArePhaseNumbers : PieceNumbers → Phase → Type 0
 ArePhaseNumbers n phase.Known = is_set n.is_open ≡ false
 ArePhaseNumbers n phase.InCode = (is_set n.is_open ≡ true) × (is_set n.waits ≡ false)

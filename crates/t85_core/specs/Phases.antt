@@ -1,4 +1,4 @@
--- Whether a height may still arrive, and where a decoder is then.
+-- Whether a height may still arrive.
 use Rattle.std.specs.Prelude.{Bool, true, false}
 use Rattle.t85_core.specs.Stages.{head_start}
 use Rattle.t85_core.specs.declared.pieces.head.Head.{Head}

@@ -1,5 +1,5 @@
 -- The next item in a stream that arrives in pieces, and what is stored of it.
-use Rattle.std.specs.Prelude.{ℕ, ◌≡◌, false, Bool, Option, Some, None}
+use Rattle.std.specs.Prelude.{ℕ, ◌≡◌, true, false, Bool, Option, Some, None}
 use Rattle.raster_core.specs.declared.place.RowPlace.{RowPlace}
 use Rattle.t85_core.specs.declared.pieces.code.InCode.{InCode}
 use Rattle.t85_core.specs.declared.pieces.head.Head as head
@@ -28,6 +28,12 @@ abbrev pub stage_kind : Stage → Kind
 stage_kind (stage.Head head) = head_kind head.comment
 stage_kind (stage.Code code) = code_kind code.begun
 stage_kind stage.Done = Done
+
+-- whether the code of a stripe has begun
+abbrev pub is_code : Stage → Bool
+is_code (stage.Head head) = false
+is_code (stage.Code code) = true
+is_code stage.Done = false
 
 -- the move of the stripe
 abbrev pub stage_move : Stage → Option Move

@@ -5,6 +5,8 @@ ghost use Rattle.qm_core.specs.Place.{Estimate};
 ghost use Rattle.raster_core.specs.Packed.{Held};
 ghost use Rattle.raster_core.specs.Window.{width_of};
 ghost use Rattle.t85_core.specs.Outcomes.{end_in};
+ghost use Rattle.t85_core.specs.Stages.{is_code};
+ghost use Rattle.t85_core.specs.declared.pieces.phase.Phase.TheVariants as phase_type;
 
 pub mod code;
 pub mod head;
@@ -80,6 +82,7 @@ pub struct PieceDecoder {
     phase: Phase,
     /// How the stream has ended, if it has.
     end: Option<End>,
+    ghost code: { phase ≡ phase_type.InCode → is_code walk.stage ≡ true },
 }
 
 impl PieceDecoder {

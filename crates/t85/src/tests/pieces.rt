@@ -241,7 +241,7 @@ fn misuse_of_a_decoder_is_told(rt: HostRuntime) {
 }
 
 /// The number of ways in which `spoil` changes a struct.
-const WAYS: u32 = 14;
+const WAYS: u32 = 15;
 
 /// Changes a struct among the rows of a stream to one that no call leaves; there are several ways.
 fn spoil(decoder: &mut T85Decoder, way: u32) {
@@ -267,6 +267,10 @@ fn spoil(decoder: &mut T85Decoder, way: u32) {
         11 => decoder.header[0] = 1,
         12 => decoder.next = 4,
         13 => decoder.version = 1,
+        14 => {
+            numbers.waits = 0;
+            numbers.stage.next = 0;
+        }
         _ => {}
     }
 }

@@ -20,7 +20,7 @@ pub struct Head {
     pub comment: Option<u32>,
 }
 
-/// Where marker segments are read.
+/// A position before marker segments.
 #[derive(Clone, Copy)]
 pub struct SegmentPlace<'h> {
     pub header: &'h Header,
@@ -61,14 +61,15 @@ impl Head {
         at: SegmentPlace<'_>,
         piece: &mut Piece<'a>,
     ) -> Result<Coming<'a>, Fault>
-        ensures on { (before : Bool) → BehindOn (fields_of at.entry.header.now) (head_at at.entry.place at.entry.is_last
-            before) self.old self.new piece.old.rest.now piece.new.rest.now }
+        ensures on { (before : Bool) → BehindOn (fields_of at.entry.header.now)
+            (head_at at.entry.place at.entry.is_last before) self.old self.new
+            piece.old.rest.now piece.new.rest.now }
         ensures ok { IfOk result (λ coming. (self.new.comment ≡ None) × ComesBehind (fields_of
             at.entry.header.now) at.entry.place coming.next piece.new.rest.now coming.rest.now) }
         ensures lowers { IfOk result (λ coming. length coming.rest.now <
             length piece.old.rest.now) }
-        ensures err { IfErr result (StopsBehind (fields_of at.entry.header.now) (behind_at at.entry.place at.entry.is_last)
-            self.new piece.new.rest.now) }
+        ensures err { IfErr result (StopsBehind (fields_of at.entry.header.now)
+            (behind_at at.entry.place at.entry.is_last) self.new piece.new.rest.now) }
         ensures no_more { length piece.new.rest.now ≤ length piece.old.rest.now }
     {
         'segments: loop {
@@ -102,11 +103,12 @@ impl Head {
 
     /// Skips the rest of a comment, if one has begun.
     fn leave_comment(&mut self, at: SegmentPlace<'_>, piece: &mut Piece<'_>) -> Result<(), Fault>
-        ensures on { (before : Bool) → BehindOn (fields_of at.entry.header.now) (head_at at.entry.place at.entry.is_last
-            before) self.old self.new piece.old.rest.now piece.new.rest.now }
+        ensures on { (before : Bool) → BehindOn (fields_of at.entry.header.now)
+            (head_at at.entry.place at.entry.is_last before) self.old self.new
+            piece.old.rest.now piece.new.rest.now }
         ensures ok { OnOk result (self.new.comment ≡ None) }
-        ensures err { IfErr result (StopsBehind (fields_of at.entry.header.now) (behind_at at.entry.place at.entry.is_last)
-            self.new piece.new.rest.now) }
+        ensures err { IfErr result (StopsBehind (fields_of at.entry.header.now)
+            (behind_at at.entry.place at.entry.is_last) self.new piece.new.rest.now) }
         ensures no_more { length piece.new.rest.now ≤ length piece.old.rest.now }
     {
         let left = match self.comment {
@@ -128,10 +130,11 @@ impl Head {
     fn enter_comment(&mut self, at: SegmentPlace<'_>, piece: &mut Piece<'_>) -> Result<(), Fault>
         requires between { self.old.comment ≡ None }
         requires comment { (rest : List ℕ) × (piece.old.rest.now ≡ 255 ∷ 7 ∷ rest) }
-        ensures on { (before : Bool) → BehindOn (fields_of at.entry.header.now) (head_at at.entry.place at.entry.is_last
-            before) self.old self.new piece.old.rest.now piece.new.rest.now }
-        ensures err { IfErr result (StopsBehind (fields_of at.entry.header.now) (behind_at at.entry.place at.entry.is_last)
-            self.new piece.new.rest.now) }
+        ensures on { (before : Bool) → BehindOn (fields_of at.entry.header.now)
+            (head_at at.entry.place at.entry.is_last before) self.old self.new
+            piece.old.rest.now piece.new.rest.now }
+        ensures err { IfErr result (StopsBehind (fields_of at.entry.header.now)
+            (behind_at at.entry.place at.entry.is_last) self.new piece.new.rest.now) }
         ensures lowers { OnOk result (length piece.new.rest.now < length piece.old.rest.now) }
         ensures no_more { length piece.new.rest.now ≤ length piece.old.rest.now }
     {

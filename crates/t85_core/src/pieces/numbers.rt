@@ -123,7 +123,7 @@ impl PieceNumbers {
         }
     }
 
-    /// Whether a height may still arrive, and where.
+    /// Whether a height may still arrive.
     #[inline(always)]
     fn phase(&self) -> Option<Phase>
         ensures all { (phase : Phase) → ArePhaseNumbers self.now phase → result ≡ Some phase }
@@ -212,13 +212,18 @@ impl PieceDecoder {
         if numbers.height < 1 || header.yd < numbers.height {
             return None;
         }
+        let walk = numbers.walk()?;
+        let phase = numbers.phase()?;
+        if matches!(phase, Phase::InCode) && !walk.is_in_code() {
+            return None;
+        }
         Some(PieceDecoder {
             image: SizedImage {
                 header,
                 height: numbers.height,
             },
-            walk: numbers.walk()?,
-            phase: numbers.phase()?,
+            walk,
+            phase,
             end: None,
         })
     }

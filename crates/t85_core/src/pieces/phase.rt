@@ -1,4 +1,4 @@
-//! Whether a height may still arrive in a stream, and where the decoder is then.
+//! Whether a height may still arrive in a stream.
 
 ghost use Rattle.std.specs.Prelude.{◌≡◌};
 ghost use Rattle.t85_core.specs.Header.{is_variable};
@@ -9,7 +9,7 @@ ghost use Rattle.t85_core.specs.Phases.{phase_behind, phase_is_open, phase_waits
 use crate::header::Header;
 use crate::pieces::head::Head;
 
-/// Whether a height may still arrive (T.82, 6.2.6.2), and where the decoder is then.
+/// Whether a height may still arrive (T.82, 6.2.6.2), and the position of the decoder while it may.
 #[derive(Clone, Copy, Drop)]
 pub enum Phase {
     /// The height is known.

@@ -93,9 +93,6 @@ impl PieceDecoder {
         ensures lowers { Lowers self.old self.new piece.old.rest.now piece.new.rest.now result }
         ensures lent { KeepsLent lent.old lent.new }
     {
-        if !self.is_in_code() {
-            return Some(Outcome::Broken(Fault::Truncated));
-        }
         if self.walk.end_marker().is_some() {
             self.phase = Phase::Behind(Head::start());
             return None;
@@ -191,7 +188,8 @@ impl PieceDecoder {
             rows learned) (decoder_view self.new rows learned) piece.old.rest.now
             piece.new.rest.now }
         ensures stays { ((reset : Bool) (rest : List ℕ) →
-            piece.old.rest.now ≡ marker_bytes reset ++ rest → ⊥) → phase_waits self.new.phase ≡ false }
+            piece.old.rest.now ≡ marker_bytes reset ++ rest → ⊥) →
+            phase_waits self.new.phase ≡ false }
         ensures no_more { length piece.new.rest.now ≤ length piece.old.rest.now }
         ensures marked { (reset : Bool) (rest : List ℕ) → piece.old.rest.now ≡ marker_bytes reset ++
             rest → length piece.new.rest.now < length piece.old.rest.now }

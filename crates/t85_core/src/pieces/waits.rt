@@ -76,8 +76,8 @@ impl PieceDecoder {
         requires looks { LooksForHeight self.old }
         requires between { (phase_behind self.old.phase).comment ≡ None }
         requires last { is_last ≡ is_last_of self.old }
-        requires comes { ComesBehind (fields_of self.old.image.header) (place_after self.old) coming.next
-            piece.old.rest.now coming.rest.now }
+        requires comes { ComesBehind (fields_of self.old.image.header) (place_after self.old)
+            coming.next piece.old.rest.now coming.rest.now }
         ensures leaves { StepLeaves is_all (over self.old lent.old) (over self.new
             lent.new) piece.old.rest.now piece.new.rest.now result }
         ensures lowers { Lowers self.old self.new piece.old.rest.now piece.new.rest.now result }
@@ -107,7 +107,8 @@ impl PieceDecoder {
         requires last { is_last ≡ is_last_of self.old }
         requires end { fault ≡ Truncated → is_all ≡ true }
         requires stops { StopsBehind (fields_of self.old.image.header)
-            (behind_at (place_after self.old) is_last) (phase_behind self.old.phase) piece.now.rest.now fault }
+            (behind_at (place_after self.old) is_last) (phase_behind self.old.phase)
+            piece.now.rest.now fault }
         ensures leaves { StepLeaves is_all (over self.old lent.old) (over self.new
             lent.new) piece.now.rest.now piece.now.rest.now (Some result) }
         ensures lent { KeepsLent lent.old lent.new }
@@ -129,8 +130,8 @@ impl PieceDecoder {
     ) -> Option<Outcome>
         requires looks { LooksForHeight self.old }
         requires between { (phase_behind self.old.phase).comment ≡ None }
-        requires comes { HeightComes (fields_of self.old.image.header) (walk_lent self.old.walk lent.old)
-            height piece.old.rest.now rest.now }
+        requires comes { HeightComes (fields_of self.old.image.header)
+            (walk_lent self.old.walk lent.old) height piece.old.rest.now rest.now }
         ensures leaves { (is_all : Bool) → StepLeaves is_all (over self.old lent.old)
             (over self.new lent.new) piece.old.rest.now piece.new.rest.now result }
         ensures lowers { Lowers self.old self.new piece.old.rest.now piece.new.rest.now result }
@@ -201,7 +202,8 @@ impl PieceDecoder {
         requires more { is_last_of self.old ≡ false }
         requires end { fault ≡ Truncated → is_all ≡ true }
         requires stops { StopsBehind (fields_of self.old.image.header)
-            (behind_at (place_after self.old) false) (phase_behind self.old.phase) piece.now.rest.now fault }
+            (behind_at (place_after self.old) false) (phase_behind self.old.phase)
+            piece.now.rest.now fault }
         ensures leaves { StepLeaves is_all (over self.old lent.old) (over self.new
             lent.new) piece.now.rest.now piece.now.rest.now (Some result) }
         ensures lent { KeepsLent lent.old lent.new }

@@ -11,7 +11,7 @@ ghost use Rattle.t85_core.specs.Lent.{KeepsLent, walk_view, walk_lent as over};
 ghost use Rattle.t85_core.specs.Steps.Buffers.{copies};
 ghost use Rattle.t85_core.specs.Steps.Pieces.{WalkStands, IsFirstWalk, Alone, HasAllRows, IsInCode, KeepsPlace, LeavesRow, MarkerIs, MarkerRead, RowIsLeft, RowStep, SomeStands, Step, Turn};
 ghost use Rattle.t85_core.specs.Steps.InTime.{ReachesMarker};
-ghost use Rattle.t85_core.specs.Stages.{stage_first, stage_kind, stage_marker, stage_row};
+ghost use Rattle.t85_core.specs.Stages.{is_code, stage_first, stage_kind, stage_marker, stage_row};
 ghost use Rattle.t85_core.specs.declared.fault.Fault.TheVariants.{Changed};
 ghost use Rattle.t85_core.specs.declared.segments.Code.TheVariants as code;
 ghost use Rattle.t85_core.specs.Steps.SizedImage.{sized_of};
@@ -148,6 +148,18 @@ impl Walk {
         Ok(())
     }
 
+    /// Whether the code of a stripe has begun.
+    pub fn is_in_code(&self) -> bool
+        ensures is { result ≡ is_code self.now.stage }
+        ensures yes { result ≡ true → IsInCode (stage_kind self.now.stage) }
+        ensures no { result ≡ false → IsInCode (stage_kind self.now.stage) → ⊥ }
+    {
+        match &self.stage {
+            Stage::Code(_) => true,
+            _ => false,
+        }
+    }
+
     /// Whether one of the first `rows` rows of the stripe whose code has begun is still to be decoded, or to be finished.
     pub fn wants_row(&self, rows: u32) -> bool
         ensures wants { result ≡ true → IsInCode (stage_kind self.now.stage) ×
@@ -199,6 +211,7 @@ impl Walk {
             LeavesRow (sized_of image.now) (over self.old lent.old) (over self.new lent.new)
             piece.old.rest.now piece.new.rest.now result }
         ensures code { OnOk result (stage_kind self.new.stage ≡ stage.Code) }
+        ensures stays { is_code self.new.stage ≡ is_code self.old.stage }
         ensures lent { KeepsLent lent.old lent.new }
     {
         match &mut self.stage {

@@ -43,17 +43,6 @@ impl PieceDecoder {
         }
     }
 
-    /// Whether there is a stripe before the position.
-    pub(crate) fn is_in_code(&self) -> bool
-        ensures yes { result ≡ true → IsInCode (stage_kind self.now.walk.stage) }
-        ensures no { result ≡ false → IsInCode (stage_kind self.now.walk.stage) → ⊥ }
-    {
-        match self.walk.stage {
-            Stage::Code(_) => true,
-            _ => false,
-        }
-    }
-
     /// Whether the image ends in the previous stripe, if it has this many rows counted from the first row of that
     /// stripe.
     pub(super) fn ends_in_stripe(&self, left: u32) -> bool
@@ -62,7 +51,7 @@ impl PieceDecoder {
         ensures no { result ≡ false → IsInCode (stage_kind self.now.walk.stage) →
             self.now.image.header.l0 < left }
     {
-        self.is_in_code() && left <= self.image.header.l0
+        self.walk.is_in_code() && left <= self.image.header.l0
     }
 
     /// Decodes the next row of the previous stripe if its number is below `limit`, and returns whether it did. The row

@@ -2,7 +2,7 @@ use Rattle.std.proofs.Common.{◌∙◌, false, sym, ap, subst, refl, rules, ari
 use Rattle.t85_core.specs.Options.{fields_of}
 use Rattle.t85_core.specs.Steps.Pieces.{IsInCode}
 use Rattle.t85_core.specs.Steps.PieceSteps.{SomeStand, StripeLeft, EndsConsumed, EndsWhole}
-use Rattle.t85_core.specs.declared.pieces.phase.Phase.TheVariants as phase
+use Rattle.t85_core.specs.Stages.{head_start}
 use Rattle.t85_core.specs.Lent.{decoder_lent, walk_lent}
 use Rattle.t85_core.proofs.Decodings.PieceStood.{leaves_done, row_where, done_where, waits_of}
 use Rattle.t85_core.proofs.Decodings.LookOver.{look_consumed, look_whole}
@@ -20,7 +20,7 @@ returns-clause-leaves c =
     let d = decoder_lent c.args.self.now c.args.lent.now in
     let p = c.args.piece.now.rest.now in
     let left = decoder_lent c.end_stripe.new.self c.end_stripe.new.lent in
-    let ended = decoder_lent (record c.end_stripe.new.self { phase = phase.Known }) c.end_stripe.new.lent in
+    let ended = record (decoder_lent c.end_stripe.new.self c.end_stripe.new.lent) { is_open = false; waits = false; behind = head_start } in
     let above = c.gives_below.ensures.stays (search rules) in
     let keeps = c.end_stripe.ensures.keeps in
     done_where c.args.is_all d ended p p (keeps.header ∙ ap (λ z. z.header) above.same) (keeps.going ∙ ap (λ z. z.end) above.same) c.end_stripe.new.self.image.height refl (λ some.

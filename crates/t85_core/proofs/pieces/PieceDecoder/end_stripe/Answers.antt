@@ -6,7 +6,7 @@ use Rattle.t85_core.proofs.Decodings.PieceStood.{closed_none, closed_ended, mark
 use Rattle.t85_core.proofs.pieces.PieceDecoder.end_stripe.Goals as goal
 
 -- the stripe ended
-left : (c : goal.After-end_stripe) → SomeStand (decoder_lent c.args.self.now c.args.lent.now) → StripeLeft (decoder_lent c.args.self.now c.args.lent.now) (record (decoder_lent c.args.self.now c.args.lent.now) { walk = walk_lent c.end_stripe.new.self c.end_stripe.new.lent })
+left : (c : goal.After-self-1) → SomeStand (decoder_lent c.args.self.now c.args.lent.now) → StripeLeft (decoder_lent c.args.self.now c.args.lent.now) (record (decoder_lent c.args.self.now c.args.lent.now) { walk = walk_lent c.end_stripe.new.self c.end_stripe.new.lent })
 left c some =
     let k = c.in-Some.ensures.some c.in-Some.reset refl in
     stripe_ended {d = decoder_lent c.args.self.now c.args.lent.now} c.requires.looks.0 c.requires.looks.1 some (record { header = refl; height = refl; is_open = refl; waits = refl; behind = refl; going = refl }) (c.end_stripe.ensures.ends k.0 (c.requires.all k.0) k.1)

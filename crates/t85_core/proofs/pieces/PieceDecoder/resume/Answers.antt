@@ -11,5 +11,5 @@ returns-clause-resumes c = λ d rows learned text out has header k.
     let same = some_is (c.in_ok-phase.ensures.all d.phase k.phase_is) in
     record {
       going = refl;
-      stands = stands_as d _ c.in_ok-walk.field-0 rows learned text out refl (sym header) k.height_is (ap phase_is_open same) (ap phase_waits same) (ap phase_behind same) (c.in_ok-walk.ensures.all d.walk k.walk_is) has.stands;
+      stands = stands_as d _ c.in_ok-walk.walk rows learned text out refl (sym header) k.height_is (ap phase_is_open same) (ap phase_waits same) (ap phase_behind same) (c.in_ok-walk.ensures.all d.walk k.walk_is) has.stands;
     }

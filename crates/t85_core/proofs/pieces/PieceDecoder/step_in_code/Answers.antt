@@ -2,18 +2,10 @@ use Rattle.std.proofs.Common.{refl, ap, inr, rules}
 use Rattle.t85_core.specs.Options.{fields_of}
 use Rattle.raster_core.specs.Window.{held}
 use Rattle.t85_core.specs.Lent.{decoder_lent, walk_lent}
-use Rattle.t85_core.proofs.Decodings.PieceStood.{known_open, code_of, put_code, put_waits, waits_first, on_none, leaves_on, leaves_after, leaves_nowhere}
-use Rattle.t85_core.specs.declared.fault.Fault.TheVariants.{Truncated}
+use Rattle.t85_core.proofs.Decodings.PieceStood.{known_open, code_of, put_code, put_waits, waits_first, on_none, leaves_on, leaves_after}
 use Rattle.t85_core.specs.Steps.Pieces.{HasMarker}
 use Rattle.t85_core.proofs.Decodings.PieceBehind.{some_of}
 use Rattle.t85_core.proofs.pieces.PieceDecoder.step_in_code.Goals as goal
-
-pub returns-then-not-is_in_code-clause-leaves : goal.returns-then-not-is_in_code-clause-leaves
-returns-then-not-is_in_code-clause-leaves c =
-    leaves_nowhere c.args.is_all (decoder_lent c.args.self.now c.args.lent.now) (decoder_lent c.args.self.now c.args.lent.now) c.args.piece.now.rest.now c.args.piece.now.rest.now refl refl Truncated (λ some. c.is_in_code.ensures.no (search rules) (code_of (decoder_lent c.args.self.now c.args.lent.now) some.0 some.1 c.requires.in_code.0 c.requires.in_code.1 some.2).in_code)
-
-pub returns-then-not-is_in_code-clause-lowers : goal.returns-then-not-is_in_code-clause-lowers
-returns-then-not-is_in_code-clause-lowers c = λ e. absurd (let bot : ⊥ = cc in bot)
 
 -- the end marker was read
 marked : (c : goal.After-self-1) → HasMarker (walk_lent c.args.self.now.walk c.args.lent.now)
