@@ -88,16 +88,16 @@ impl InCode {
         ensures begun { 0 < result → self.new.begun ≡ None }
         ensures lent { KeepsLent lent.old lent.new }
     {
-        if self.begun.is_some() || !is_settled(self.at, self.row) {
+        if self.begun.is_some() || self.row >= rows || !is_settled(self.at, self.row) {
             return 0;
         }
-        let left = rows.saturating_sub(self.row);
+        let left = rows - self.row;
         let count = skip_many(image.header.shape(), kept, lent.learned, decoder, left);
         if count == 0 {
             return 0;
         }
         lent.window.repeat();
-        self.row = self.row.saturating_add(count);
+        self.row += count;
         count
     }
 

@@ -204,11 +204,10 @@ impl Walk {
         lent: &mut Lent<'_, '_>,
         piece: &mut Piece<'_>,
     ) -> Result<(), Fault>
-        ensures step { RowIsLeft image.now.header.l0 (over self.old lent.old) →
-            RowStep (sized_of image.now) (over self.old lent.old) (over self.new lent.new)
+        requires left { RowIsLeft image.now.header.l0 (over self.old lent.old) }
+        ensures step { RowStep (sized_of image.now) (over self.old lent.old) (over self.new lent.new)
             piece.old.rest.now piece.new.rest.now result }
-        ensures leaves { RowIsLeft image.now.header.l0 (over self.old lent.old) →
-            LeavesRow (sized_of image.now) (over self.old lent.old) (over self.new lent.new)
+        ensures leaves { LeavesRow (sized_of image.now) (over self.old lent.old) (over self.new lent.new)
             piece.old.rest.now piece.new.rest.now result }
         ensures code { OnOk result (stage_kind self.new.stage ≡ stage.Code) }
         ensures stays { is_code self.new.stage ≡ is_code self.old.stage }
@@ -218,32 +217,33 @@ impl Walk {
             Stage::Code(code) => {
                 code.next_row(image, &mut self.kept, &mut self.decoder, lent, piece)
             }
-            _ => Err(Fault::Truncated),
+            _ => unreachable!(),
         }
     }
 
     /// Skips the rest of the code that has begun, after its last row, up to its end marker, and returns whether that
     /// resets. Reads the marker ahead. If it has not arrived yet, skips the bytes that have.
     pub fn find_end(&mut self, image: &SizedImage, piece: &mut Piece<'_>) -> Result<bool, Fault>
-        ensures step { HasAllRows image.now.header.l0 self.old → Alone (λ w w'. Step (sized_of
+        requires all { HasAllRows image.now.header.l0 self.old }
+        ensures step { Alone (λ w w'. Step (sized_of
             image.now) w w' piece.old.rest.now piece.new.rest.now result) self.old self.new }
-        ensures in_time { HasAllRows image.now.header.l0 self.old → (MarkerRead (stage_marker
+        ensures in_time { (MarkerRead (stage_marker
             self.old.stage) (stage_first self.old.stage) → ⊥) → Alone (λ w w'. OnOk result
             (ReachesMarker (sized_of image.now) w piece.old.rest.now piece.new.rest.now)) self.old
             self.new }
-        ensures other { HasAllRows image.now.header.l0 self.old → Alone (λ w w'. SomeStands
+        ensures other { Alone (λ w w'. SomeStands
             (sized_of image.now) w → IfErr result (λ f. f ≢ Changed)) self.old self.new }
-        ensures same { HasAllRows image.now.header.l0 self.old → HasAllRows image.now.header.l0
+        ensures same { HasAllRows image.now.header.l0
             self.new × Alone KeepsPlace self.old self.new }
         ensures marked { IfOk result (λ reset. MarkerIs reset (stage_marker self.new.stage)
             (stage_first self.new.stage)) }
-        ensures none { HasAllRows image.now.header.l0 self.old → IfErr result (λ _. (stage_first
+        ensures none { IfErr result (λ _. (stage_first
             self.new.stage ≡ None) × (stage_marker self.new.stage ≡ None)) }
         ensures no_more { length piece.new.rest.now ≤ length piece.old.rest.now }
     {
         match &mut self.stage {
             Stage::Code(code) => code.find_end(image, piece),
-            _ => Err(Fault::Truncated),
+            _ => unreachable!(),
         }
     }
 

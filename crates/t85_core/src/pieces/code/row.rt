@@ -1,6 +1,6 @@
 //! Decodes a row of a stripe.
 
-ghost use Rattle.std.specs.Prelude.{◌≡◌, ◌≢◌, ◌≤◌, ◌<◌, ℕ, List, [], None, Some, true, false, min, IfSome, OnOk};
+ghost use Rattle.std.specs.Prelude.{◌≡◌, ◌≢◌, ◌≤◌, ◌<◌, ◌+◌, ◌^◌, ℕ, List, [], None, Some, true, false, min, IfSome, OnOk};
 ghost use Rattle.qm_core.specs.Place.{Estimate};
 ghost use Rattle.qm_core.specs.declared.decoder.Decoder.{Decoder};
 ghost use Rattle.raster_core.specs.Row.{IsRowStart};
@@ -33,7 +33,8 @@ const REST_OF_ROW: usize = 1;
 impl InCode {
     ghost use Rattle.t85_core.specs.declared.pieces.code.InCode.{InCode};
 
-    /// Continues to the end of the next row. For numbers that no decoder exports, it reports that the piece has ended.
+    /// Continues to the end of the next row. If the position or the window does not fit this image, which no call leaves, it
+    /// reports that the piece has ended.
     pub fn next_row(
         &mut self,
         image: &SizedImage,
@@ -42,6 +43,7 @@ impl InCode {
         lent: &mut Lent<'_, '_>,
         piece: &mut Piece<'_>,
     ) -> Result<(), Fault>
+        requires room { self.old.row + 1 < 2 ^ 32 }
         ensures step { (s : StripeAt) → self.old.row < min s.left image.now.header.l0 →
             RowStep (sized_of image.now) (code_lent s self.old kept.old decoder.old lent.old)
             (code_lent s self.new kept.new decoder.new lent.new) piece.old.rest.now
@@ -95,6 +97,7 @@ impl InCode {
         lent: &mut Lent<'_, '_>,
         piece: &mut Piece<'_>,
     ) -> Result<(), Fault>
+        requires room { self.old.row + 1 < 2 ^ 32 }
         requires fits { RowFits image.now.header.xd (record self.old { begun = Some place })
             (held lent.old.window.now) }
         ensures step { (s : StripeAt) → RowStep (sized_of image.now) (code_lent s (record self.old
@@ -128,7 +131,7 @@ impl InCode {
         match went {
             Ok(()) => {
                 self.begun = None;
-                self.row = self.row.saturating_add(1);
+                self.row += 1;
                 Ok(())
             }
             Err(fault) => {

@@ -17,8 +17,8 @@ pub returns-in-Ok-clause-leaves : goal.returns-in-Ok-clause-leaves
 returns-in-Ok-clause-leaves c = leaves_row c.args.is_all (decoder_lent c.args.self.now c.args.lent.now) _ c.args.piece.now.rest.now c.split_at-in-Ok.result.1.now refl refl
     (code_on (decoder_lent c.args.self.now c.args.lent.now) _ c.args.piece.now.rest.now c.split_at.result.0.now c.split_at.result.1.now c.next_row.new.piece.rest.now c.split_at-in-Ok.result.1.now _ c.requires.in_code.0 c.requires.in_code.1 (record { header = refl; height = refl; is_open = refl; waits = refl; behind = refl; going = refl }) (split_is c.args.piece.now.rest.now c.split_at.result.0.now c.split_at.result.1.now c.code_len.result c.split_at.ensures.front c.split_at.ensures.back)
     (λ some g e. part_left c.args.piece.now.rest.now c.split_at.result.0.now c.split_at.result.1.now g c.next_row.new.piece.rest.now c.split_at-in-Ok.result.1.now _ (split_is c.args.piece.now.rest.now c.split_at.result.0.now c.split_at.result.1.now c.code_len.result c.split_at.ensures.front c.split_at.ensures.back) e c.saturating_sub.ensures c.split_at-in-Ok.ensures.back)
-    (c.in-Ok.ensures.step c.requires.wants).ok (λ some. (inl (c.in-Ok.ensures.leaves c.requires.wants (some_code (decoder_lent c.args.self.now c.args.lent.now) c.requires.in_code.0 c.requires.in_code.1 some)).row.1, (c.in-Ok.ensures.leaves c.requires.wants (some_code (decoder_lent c.args.self.now c.args.lent.now) c.requires.in_code.0 c.requires.in_code.1 some)).place.given)) (λ some. row_unmarked (decoder_lent c.args.self.now c.args.lent.now) (walk_lent c.next_row.new.self c.next_row.new.lent) c.split_at.result.0.now c.next_row.new.piece.rest.now _ c.requires.in_code.0 c.requires.in_code.1 c.requires.unmarked (subst HasNoMarker (sym c.split_at.ensures.front) c.code_len.ensures.unmarked) (c.in-Ok.ensures.leaves c.requires.wants (some_code (decoder_lent c.args.self.now c.args.lent.now) c.requires.in_code.0 c.requires.in_code.1 some)).row.1 (c.in-Ok.ensures.leaves c.requires.wants (some_code (decoder_lent c.args.self.now c.args.lent.now) c.requires.in_code.0 c.requires.in_code.1 some)).place (c.in-Ok.ensures.step c.requires.wants).ok some.0 some.1 some.2))
-    (λ _ marked text out rest n s follows i. absurd (row_unmarked (decoder_lent c.args.self.now c.args.lent.now) (walk_lent c.next_row.new.self c.next_row.new.lent) c.split_at.result.0.now c.next_row.new.piece.rest.now _ c.requires.in_code.0 c.requires.in_code.1 c.requires.unmarked (subst HasNoMarker (sym c.split_at.ensures.front) c.code_len.ensures.unmarked) (c.in-Ok.ensures.leaves c.requires.wants (some_code (decoder_lent c.args.self.now c.args.lent.now) c.requires.in_code.0 c.requires.in_code.1 (text, out, s))).row.1 (c.in-Ok.ensures.leaves c.requires.wants (some_code (decoder_lent c.args.self.now c.args.lent.now) c.requires.in_code.0 c.requires.in_code.1 (text, out, s))).place (c.in-Ok.ensures.step c.requires.wants).ok text out s marked))
+    c.in-Ok.ensures.step.ok (λ some. (inl (c.in-Ok.ensures.leaves (some_code (decoder_lent c.args.self.now c.args.lent.now) c.requires.in_code.0 c.requires.in_code.1 some)).row.1, (c.in-Ok.ensures.leaves (some_code (decoder_lent c.args.self.now c.args.lent.now) c.requires.in_code.0 c.requires.in_code.1 some)).place.given)) (λ some. row_unmarked (decoder_lent c.args.self.now c.args.lent.now) (walk_lent c.next_row.new.self c.next_row.new.lent) c.split_at.result.0.now c.next_row.new.piece.rest.now _ c.requires.in_code.0 c.requires.in_code.1 c.requires.unmarked (subst HasNoMarker (sym c.split_at.ensures.front) c.code_len.ensures.unmarked) (c.in-Ok.ensures.leaves (some_code (decoder_lent c.args.self.now c.args.lent.now) c.requires.in_code.0 c.requires.in_code.1 some)).row.1 (c.in-Ok.ensures.leaves (some_code (decoder_lent c.args.self.now c.args.lent.now) c.requires.in_code.0 c.requires.in_code.1 some)).place c.in-Ok.ensures.step.ok some.0 some.1 some.2))
+    (λ _ marked text out rest n s follows i. absurd (row_unmarked (decoder_lent c.args.self.now c.args.lent.now) (walk_lent c.next_row.new.self c.next_row.new.lent) c.split_at.result.0.now c.next_row.new.piece.rest.now _ c.requires.in_code.0 c.requires.in_code.1 c.requires.unmarked (subst HasNoMarker (sym c.split_at.ensures.front) c.code_len.ensures.unmarked) (c.in-Ok.ensures.leaves (some_code (decoder_lent c.args.self.now c.args.lent.now) c.requires.in_code.0 c.requires.in_code.1 (text, out, s))).row.1 (c.in-Ok.ensures.leaves (some_code (decoder_lent c.args.self.now c.args.lent.now) c.requires.in_code.0 c.requires.in_code.1 (text, out, s))).place c.in-Ok.ensures.step.ok text out s marked))
 
 pub returns-then-front-bytes-clause-leaves : goal.returns-then-front-bytes-clause-leaves
 returns-then-front-bytes-clause-leaves c =
@@ -26,17 +26,17 @@ returns-then-front-bytes-clause-leaves c =
     let all : c.split_at.result.0.now ≡ c.args.piece.now.rest.now = sym (append-nil c.split_at.result.0.now) ∙ ap (λ z. c.split_at.result.0.now ++ z) (sym none) ∙ sym (split_is c.args.piece.now.rest.now c.split_at.result.0.now c.split_at.result.1.now c.code_len.result c.split_at.ensures.front c.split_at.ensures.back) in
     leaves_stop c.args.is_all (decoder_lent c.args.self.now c.args.lent.now) _ c.args.piece.now.rest.now c.next_row.new.piece.rest.now c.in-Err.fault c.outcome_of.result
     (record { more = c.outcome_of.ensures.more; broken = c.outcome_of.ensures.broken; row = c.outcome_of.ensures.row; done = c.outcome_of.ensures.done }) refl refl (ap (λ b. b && (phase_waits c.args.self.now.phase)) c.requires.in_code.0 ∙ c.requires.in_code.1)
-    (λ e. let m = (c.in-Err.ensures.step c.requires.wants).more (ap Err e) in (
+    (λ e. let m = c.in-Err.ensures.step.more (ap Err e) in (
       code_on (decoder_lent c.args.self.now c.args.lent.now) _ c.args.piece.now.rest.now c.split_at.result.0.now c.split_at.result.1.now c.next_row.new.piece.rest.now c.next_row.new.piece.rest.now [] c.requires.in_code.0 c.requires.in_code.1 (record { header = refl; height = refl; is_open = refl; waits = refl; behind = refl; going = refl }) (split_is c.args.piece.now.rest.now c.split_at.result.0.now c.split_at.result.1.now c.code_len.result c.split_at.ensures.front c.split_at.ensures.back)
           (λ _ g is. sym (append-nil c.next_row.new.piece.rest.now) ∙ ap (λ z. c.next_row.new.piece.rest.now ++ z) (sym none))
-          m.0 (λ some. (inr (c.in-Err.ensures.leaves c.requires.wants (some_code (decoder_lent c.args.self.now c.args.lent.now) c.requires.in_code.0 c.requires.in_code.1 some)).same_row.1, (c.in-Err.ensures.leaves c.requires.wants (some_code (decoder_lent c.args.self.now c.args.lent.now) c.requires.in_code.0 c.requires.in_code.1 some)).place.given)) (λ some. none_read (c.in-Err.ensures.leaves c.requires.wants (some_code (decoder_lent c.args.self.now c.args.lent.now) c.requires.in_code.0 c.requires.in_code.1 some)).same_row.2 ((c.in-Err.ensures.leaves c.requires.wants (some_code (decoder_lent c.args.self.now c.args.lent.now) c.requires.in_code.0 c.requires.in_code.1 some)).same_row.3 ∙ unread _ _ c.requires.unmarked)),
+          m.0 (λ some. (inr (c.in-Err.ensures.leaves (some_code (decoder_lent c.args.self.now c.args.lent.now) c.requires.in_code.0 c.requires.in_code.1 some)).same_row.1, (c.in-Err.ensures.leaves (some_code (decoder_lent c.args.self.now c.args.lent.now) c.requires.in_code.0 c.requires.in_code.1 some)).place.given)) (λ some. none_read (c.in-Err.ensures.leaves (some_code (decoder_lent c.args.self.now c.args.lent.now) c.requires.in_code.0 c.requires.in_code.1 some)).same_row.2 ((c.in-Err.ensures.leaves (some_code (decoder_lent c.args.self.now c.args.lent.now) c.requires.in_code.0 c.requires.in_code.1 some)).same_row.3 ∙ unread _ _ c.requires.unmarked)),
       m.1,
     ))
-    (code_broken (decoder_lent c.args.self.now c.args.lent.now) c.args.piece.now.rest.now c.in-Err.fault c.requires.in_code.0 c.requires.in_code.1 (subst (λ z. StepsOff (sized (fields_of c.args.self.now.image.header) c.args.self.now.image.header.yd) (walk_lent c.args.self.now.walk c.args.lent.now) z c.in-Err.fault) all (c.in-Err.ensures.step c.requires.wants).err) (λ some. (c.in-Err.ensures.leaves c.requires.wants (some_code (decoder_lent c.args.self.now c.args.lent.now) c.requires.in_code.0 c.requires.in_code.1 some)).other))
+    (code_broken (decoder_lent c.args.self.now c.args.lent.now) c.args.piece.now.rest.now c.in-Err.fault c.requires.in_code.0 c.requires.in_code.1 (subst (λ z. StepsOff (sized (fields_of c.args.self.now.image.header) c.args.self.now.image.header.yd) (walk_lent c.args.self.now.walk c.args.lent.now) z c.in-Err.fault) all c.in-Err.ensures.step.err) (λ some. (c.in-Err.ensures.leaves (some_code (decoder_lent c.args.self.now c.args.lent.now) c.requires.in_code.0 c.requires.in_code.1 some)).other))
 
 pub returns-in-Truncated-clause-leaves : goal.returns-in-Truncated-clause-leaves
 returns-in-Truncated-clause-leaves c = on_where c.args.is_all (decoder_lent c.args.self.now c.args.lent.now) (decoder_lent c.wait_at_marker.new.self c.next_row.new.lent) c.args.piece.now.rest.now c.wait_at_marker.new.piece.rest.now c.wait_at_marker.ensures.header c.wait_at_marker.ensures.end (λ some. leaves_on c.args.is_all (decoder_lent c.args.self.now c.args.lent.now) (decoder_lent c.wait_at_marker.new.self c.next_row.new.lent) c.args.piece.now.rest.now c.wait_at_marker.new.piece.rest.now c.wait_at_marker.ensures.header c.wait_at_marker.ensures.end
-    (on_to_marker (decoder_lent c.args.self.now c.args.lent.now) _ (decoder_lent c.wait_at_marker.new.self c.next_row.new.lent) c.args.piece.now.rest.now c.split_at.result.0.now c.split_at.result.1.now c.wait_at_marker.new.piece.rest.now c.requires.in_code.0 c.requires.in_code.1 refl (split_is c.args.piece.now.rest.now c.split_at.result.0.now c.split_at.result.1.now c.code_len.result c.split_at.ensures.front c.split_at.ensures.back) (code_on (decoder_lent c.args.self.now c.args.lent.now) _ c.args.piece.now.rest.now c.split_at.result.0.now c.split_at.result.1.now c.next_row.new.piece.rest.now c.split_at.result.1.now [] c.requires.in_code.0 c.requires.in_code.1 (record { header = refl; height = refl; is_open = refl; waits = refl; behind = refl; going = refl }) (split_is c.args.piece.now.rest.now c.split_at.result.0.now c.split_at.result.1.now c.code_len.result c.split_at.ensures.front c.split_at.ensures.back) (λ some g e. ap (λ z. z ++ c.split_at.result.1.now) (sym ((c.in-Err.ensures.leaves c.requires.wants (some_code (decoder_lent c.args.self.now c.args.lent.now) c.requires.in_code.0 c.requires.in_code.1 some)).drained (subst EndsInNoEscape (sym c.split_at.ensures.front) (c.code_len.ensures.escape (omega (arith, c.code_len.ensures.bound, c.split_at.ensures.front_len, c.if-front-bytes.false))))))) ((c.in-Err.ensures.step c.requires.wants).more (ap Err c.in-Truncated.is)).0 (λ some. (inr (c.in-Err.ensures.leaves c.requires.wants (some_code (decoder_lent c.args.self.now c.args.lent.now) c.requires.in_code.0 c.requires.in_code.1 some)).same_row.1, (c.in-Err.ensures.leaves c.requires.wants (some_code (decoder_lent c.args.self.now c.args.lent.now) c.requires.in_code.0 c.requires.in_code.1 some)).place.given)) (λ some. none_read (c.in-Err.ensures.leaves c.requires.wants (some_code (decoder_lent c.args.self.now c.args.lent.now) c.requires.in_code.0 c.requires.in_code.1 some)).same_row.2 ((c.in-Err.ensures.leaves c.requires.wants (some_code (decoder_lent c.args.self.now c.args.lent.now) c.requires.in_code.0 c.requires.in_code.1 some)).same_row.3 ∙ unread _ _ c.requires.unmarked))) (subst (StepsOff (sized (fields_of c.args.self.now.image.header) c.args.self.now.image.header.yd) (walk_lent c.args.self.now.walk c.args.lent.now) c.split_at.result.0.now) c.in-Truncated.is (c.in-Err.ensures.step c.requires.wants).err) (c.wait_at_marker.ensures.on (c.in-Err.ensures.leaves c.requires.wants (some_code (decoder_lent c.args.self.now c.args.lent.now) c.requires.in_code.0 c.requires.in_code.1 some)).same_row.2 ((c.in-Err.ensures.leaves c.requires.wants (some_code (decoder_lent c.args.self.now c.args.lent.now) c.requires.in_code.0 c.requires.in_code.1 some)).same_row.3 ∙ unread _ _ c.requires.unmarked) (inr (c.in-Err.ensures.leaves c.requires.wants (some_code (decoder_lent c.args.self.now c.args.lent.now) c.requires.in_code.0 c.requires.in_code.1 some)).same_row.1) (held c.next_row.new.lent.window.now) c.next_row.new.lent.learned.now)))
+    (on_to_marker (decoder_lent c.args.self.now c.args.lent.now) _ (decoder_lent c.wait_at_marker.new.self c.next_row.new.lent) c.args.piece.now.rest.now c.split_at.result.0.now c.split_at.result.1.now c.wait_at_marker.new.piece.rest.now c.requires.in_code.0 c.requires.in_code.1 refl (split_is c.args.piece.now.rest.now c.split_at.result.0.now c.split_at.result.1.now c.code_len.result c.split_at.ensures.front c.split_at.ensures.back) (code_on (decoder_lent c.args.self.now c.args.lent.now) _ c.args.piece.now.rest.now c.split_at.result.0.now c.split_at.result.1.now c.next_row.new.piece.rest.now c.split_at.result.1.now [] c.requires.in_code.0 c.requires.in_code.1 (record { header = refl; height = refl; is_open = refl; waits = refl; behind = refl; going = refl }) (split_is c.args.piece.now.rest.now c.split_at.result.0.now c.split_at.result.1.now c.code_len.result c.split_at.ensures.front c.split_at.ensures.back) (λ some g e. ap (λ z. z ++ c.split_at.result.1.now) (sym ((c.in-Err.ensures.leaves (some_code (decoder_lent c.args.self.now c.args.lent.now) c.requires.in_code.0 c.requires.in_code.1 some)).drained (subst EndsInNoEscape (sym c.split_at.ensures.front) (c.code_len.ensures.escape (omega (arith, c.code_len.ensures.bound, c.split_at.ensures.front_len, c.if-front-bytes.false))))))) (c.in-Err.ensures.step.more (ap Err c.in-Truncated.is)).0 (λ some. (inr (c.in-Err.ensures.leaves (some_code (decoder_lent c.args.self.now c.args.lent.now) c.requires.in_code.0 c.requires.in_code.1 some)).same_row.1, (c.in-Err.ensures.leaves (some_code (decoder_lent c.args.self.now c.args.lent.now) c.requires.in_code.0 c.requires.in_code.1 some)).place.given)) (λ some. none_read (c.in-Err.ensures.leaves (some_code (decoder_lent c.args.self.now c.args.lent.now) c.requires.in_code.0 c.requires.in_code.1 some)).same_row.2 ((c.in-Err.ensures.leaves (some_code (decoder_lent c.args.self.now c.args.lent.now) c.requires.in_code.0 c.requires.in_code.1 some)).same_row.3 ∙ unread _ _ c.requires.unmarked))) (subst (StepsOff (sized (fields_of c.args.self.now.image.header) c.args.self.now.image.header.yd) (walk_lent c.args.self.now.walk c.args.lent.now) c.split_at.result.0.now) c.in-Truncated.is c.in-Err.ensures.step.err) (c.wait_at_marker.ensures.on (c.in-Err.ensures.leaves (some_code (decoder_lent c.args.self.now c.args.lent.now) c.requires.in_code.0 c.requires.in_code.1 some)).same_row.2 ((c.in-Err.ensures.leaves (some_code (decoder_lent c.args.self.now c.args.lent.now) c.requires.in_code.0 c.requires.in_code.1 some)).same_row.3 ∙ unread _ _ c.requires.unmarked) (inr (c.in-Err.ensures.leaves (some_code (decoder_lent c.args.self.now c.args.lent.now) c.requires.in_code.0 c.requires.in_code.1 some)).same_row.1) (held c.next_row.new.lent.window.now) c.next_row.new.lent.learned.now)))
 
 pub returns-in-Truncated-clause-lowers : goal.returns-in-Truncated-clause-lowers
 returns-in-Truncated-clause-lowers c = λ _. fewer_bytes (phase_waits c.args.self.now.phase) (phase_waits c.wait_at_marker.new.self.phase) c.args.piece.now.rest.now c.wait_at_marker.new.piece.rest.now
@@ -47,7 +47,7 @@ returns-in-Truncated-clause-lowers c = λ _. fewer_bytes (phase_waits c.args.sel
 
 pub returns-in_default-clause-leaves : goal.returns-in_default-clause-leaves
 returns-in_default-clause-leaves c =
-    leaves_broken c.args.is_all (decoder_lent c.args.self.now c.args.lent.now) _ c.args.piece.now.rest.now _ c.in-Err.fault refl refl (part_broken (decoder_lent c.args.self.now c.args.lent.now) c.args.piece.now.rest.now c.split_at.result.0.now c.split_at.result.1.now c.in-Err.fault c.requires.in_code.0 c.requires.in_code.1 (split_is c.args.piece.now.rest.now c.split_at.result.0.now c.split_at.result.1.now c.code_len.result c.split_at.ensures.front c.split_at.ensures.back) (c.in-Err.ensures.step c.requires.wants).err (λ some. (c.in-Err.ensures.leaves c.requires.wants (some_code (decoder_lent c.args.self.now c.args.lent.now) c.requires.in_code.0 c.requires.in_code.1 some)).other) c.in_default.not-Truncated c.args.is_all)
+    leaves_broken c.args.is_all (decoder_lent c.args.self.now c.args.lent.now) _ c.args.piece.now.rest.now _ c.in-Err.fault refl refl (part_broken (decoder_lent c.args.self.now c.args.lent.now) c.args.piece.now.rest.now c.split_at.result.0.now c.split_at.result.1.now c.in-Err.fault c.requires.in_code.0 c.requires.in_code.1 (split_is c.args.piece.now.rest.now c.split_at.result.0.now c.split_at.result.1.now c.code_len.result c.split_at.ensures.front c.split_at.ensures.back) c.in-Err.ensures.step.err (λ some. (c.in-Err.ensures.leaves (some_code (decoder_lent c.args.self.now c.args.lent.now) c.requires.in_code.0 c.requires.in_code.1 some)).other) c.in_default.not-Truncated c.args.is_all)
 
 pub returns-in_default-clause-lowers : goal.returns-in_default-clause-lowers
 returns-in_default-clause-lowers c = λ e. absurd (let bot : ⊥ = cc in bot)

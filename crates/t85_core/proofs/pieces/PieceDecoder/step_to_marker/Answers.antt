@@ -12,13 +12,13 @@ use Rattle.t85_core.proofs.pieces.PieceDecoder.step_to_marker.Goals as goal
 pub returns-in-Ok-clause-leaves : goal.returns-in-Ok-clause-leaves
 returns-in-Ok-clause-leaves c = λ rows learned. leaves_on c.args.is_all (decoder_view c.args.self.now rows learned) _ c.args.piece.now.rest.now c.find_end.new.piece.rest.now refl refl (λ text out s.
     let w = code_of (decoder_view c.args.self.now rows learned) text out c.requires.in_code.0 c.requires.in_code.1 s in
-    let k = (c.in-Ok.ensures.step c.requires.all rows learned).ok text out w.walk in
-    let e = c.in-Ok.ensures.in_time c.requires.all c.requires.unmarked rows learned text out w.walk in
+    let k = (c.in-Ok.ensures.step rows learned).ok text out w.walk in
+    let e = c.in-Ok.ensures.in_time c.requires.unmarked rows learned text out w.walk in
     let same : e.0 ≡ k.0 = sym (taken_is c.args.piece.now.rest.now c.find_end.new.piece.rest.now e.0 e.1) ∙ taken_is c.args.piece.now.rest.now c.find_end.new.piece.rest.now k.0 k.1 in (
       k.0,
       k.1,
       put_waits _ _ _ refl refl (known_open c.requires.in_code.0 (known_more (fields_of c.args.self.now.image.header) c.args.self.now.image.height (phase_is_open c.args.self.now.phase) text k.0 s.height))
-          (waits_first (fields_of c.args.self.now.image.header) (walk_view c.find_end.new.self rows learned) c.start.result _ _ k.2 (inr ((c.in-Ok.ensures.same c.requires.all).0.0, (_, c.in-Ok.ensures.marked))) (((c.in-Ok.ensures.same c.requires.all).1 rows learned).given ∙ w.ungiven) (λ _. in_time_more [] (subst (λ z. MarkerAfterRows (sized (fields_of c.args.self.now.image.header) c.args.self.now.image.header.yd) (text ++ z) out) same e.2)) (ap (λ b. b.at) c.start.ensures) (ap (λ b. b.comment) c.start.ensures)),
+          (waits_first (fields_of c.args.self.now.image.header) (walk_view c.find_end.new.self rows learned) c.start.result _ _ k.2 (inr (c.in-Ok.ensures.same.0.0, (_, c.in-Ok.ensures.marked))) ((c.in-Ok.ensures.same.1 rows learned).given ∙ w.ungiven) (λ _. in_time_more [] (subst (λ z. MarkerAfterRows (sized (fields_of c.args.self.now.image.header) c.args.self.now.image.header.yd) (text ++ z) out) same e.2)) (ap (λ b. b.at) c.start.ensures) (ap (λ b. b.comment) c.start.ensures)),
     ))
 
 pub returns-in-Ok-clause-lowers : goal.returns-in-Ok-clause-lowers
@@ -30,12 +30,12 @@ returns-in-Err-clause-leaves c = λ rows learned. leaves_stop c.args.is_all (dec
     (λ e. (
       (λ text out s.
           let w = code_of (decoder_view c.args.self.now rows learned) text out c.requires.in_code.0 c.requires.in_code.1 s in
-          let k = ((c.in-Err.ensures.step c.requires.all rows learned).more (ap Err e)).0 text out w.walk in (
+          let k = ((c.in-Err.ensures.step rows learned).more (ap Err e)).0 text out w.walk in (
             k.0,
             k.1,
             put_code _ _ _ c.requires.in_code.0 c.requires.in_code.1 (known_more (fields_of c.args.self.now.image.header) c.args.self.now.image.height (phase_is_open c.args.self.now.phase) text k.0 s.height)
-                (record { walk = k.2; in_code = (c.in-Err.ensures.same c.requires.all).0.0; ungiven = ((c.in-Err.ensures.same c.requires.all).1 rows learned).given ∙ w.ungiven; in_time = λ m. absurd (none_read (c.in-Err.ensures.none c.requires.all).0 (c.in-Err.ensures.none c.requires.all).1 m) }),
+                (record { walk = k.2; in_code = c.in-Err.ensures.same.0.0; ungiven = (c.in-Err.ensures.same.1 rows learned).given ∙ w.ungiven; in_time = λ m. absurd (none_read c.in-Err.ensures.none.0 c.in-Err.ensures.none.1 m) }),
           )),
-      ((c.in-Err.ensures.step c.requires.all rows learned).more (ap Err e)).1,
+      ((c.in-Err.ensures.step rows learned).more (ap Err e)).1,
     ))
-    (code_broken (decoder_view c.args.self.now rows learned) c.args.piece.now.rest.now c.in-Err.fault c.requires.in_code.0 c.requires.in_code.1 (c.in-Err.ensures.step c.requires.all rows learned).err (λ some. c.in-Err.ensures.other c.requires.all rows learned (some_code (decoder_view c.args.self.now rows learned) c.requires.in_code.0 c.requires.in_code.1 some)))
+    (code_broken (decoder_view c.args.self.now rows learned) c.args.piece.now.rest.now c.in-Err.fault c.requires.in_code.0 c.requires.in_code.1 (c.in-Err.ensures.step rows learned).err (λ some. c.in-Err.ensures.other rows learned (some_code (decoder_view c.args.self.now rows learned) c.requires.in_code.0 c.requires.in_code.1 some)))

@@ -70,7 +70,7 @@ returns-in-Ok-clause-step g c = λ s. record {
           code_is = ahead_is c.go_on_in_row-went.new.code.first c.go_on_in_row-went.new.code.marker m.read.answers [] _ m.code_is;
           behind = behind_is c.go_on_in_row-went.new.code.first c.go_on_in_row-went.new.code.marker m.read.answers [] _ m.code_is;
           within = omega (arith, w.within);
-          stands = subst (λ z. CodeStands (sized (fields_of c.args.image.now.header) c.args.image.now.height) (head_place s.entities s.given c.args.self.now.at (carried_by c.go_on_in_row-went.new.lent.window.now c.go_on_in_row-went.new.kept c.go_on_in_row-went.new.lent.learned.now)) (code_place z c.go_on_in_row-went.new.code.first c.go_on_in_row-went.new.code.marker c.go_on_in_row-went.new.decoder) (text ++ m.given) (out ++ (held c.go_on_in_row-went.new.lent.window.now).current)) (let few = k.few in let most = few_rows c.args.image.now in let sum = c.saturating_add-self.ensures in omega (arith, few, most, sum)) (row_on k m);
+          stands = row_on k m;
         },
       );
   err = tt;
@@ -86,7 +86,7 @@ returns-in-Ok-clause-leaves g c = λ s some.
     (fields_of c.args.image.now.header) k.head.stripes.next k.head.passed.segments c.args.self.now.row k.began some.1 k.code k.begun k.code_is in
     record {
       place = record { entities = refl; left = refl; given = refl; at = refl };
-      row = ((let few = k.few in let most = few_rows c.args.image.now in let sum = c.saturating_add-self.ensures in omega (arith, few, most, sum)), refl);
+      row = (refl, refl);
       same_row = tt;
       whole = λ marked. (refl, stays_marked k.code m.given (whole_text c.args.self.now.first c.args.self.now.marker _ [] _ k.code_is marked) c.go_on_in_row-went.new.code.first c.go_on_in_row-went.new.code.marker _ [] m.code_is);
       drained = tt;

@@ -21,9 +21,8 @@ returns-clause-on c = λ s text out rows w.
     let none : c.args.self.now.begun ≡ None = search rules in
     let is = ap code_kind none in
     let k = at_stage is w in
-    let room : c.args.self.now.row + c.skip_many-count.result ≤ min s.left c.args.image.now.header.l0 = (let within = c.skip_many-count.ensures.within in let left = c.saturating_sub-left.ensures in omega (arith, within, left, rows, some)) in
+    let room : c.args.self.now.row + c.skip_many-count.result ≤ min s.left c.args.image.now.header.l0 = (let within = c.skip_many-count.ensures.within in omega (arith, within, rows, some)) in
     let few : c.args.self.now.row + c.skip_many-count.result ≤ rows_in (fields_of c.args.image.now.header) c.args.image.now.height s.entities = subst (λ z. c.args.self.now.row + c.skip_many-count.result ≤ min z c.args.image.now.header.l0) w.left_is room in
-    let sum : c.saturating_add-self.result ≡ c.args.self.now.row + c.skip_many-count.result = (let is = c.saturating_add-self.ensures in let most = few_rows c.args.image.now in omega (arith, is, few, most)) in
     let row_is = ap (λ w. w.current) c.repeat.ensures.repeated in
     let after = carried_by c.repeat.new.self c.args.kept c.args.lent.now.learned.now in
     let repeats = repeats_rows c.shape.result (option_map pair_of c.args.self.now.at) c.args.self.now.row count (carried_by c.args.lent.now.window.now c.args.kept c.args.lent.now.learned.now) after c.args.decoder.now c.skip_many-count.new.decoder some (w.width_is ∙ sym c.shape.ensures.width)
@@ -34,8 +33,7 @@ returns-clause-on c = λ s text out rows w.
       code_is = w.code_is;
       behind = w.behind;
       within = w.within;
-      stands = put_stage (fields_of c.args.image.now.header) c.args.image.now.height (code_over s (record c.args.self.now { row = c.saturating_add-self.result }) c.args.kept c.skip_many-count.new.decoder c.repeat.new.self c.args.lent.now.learned.now) text _ _ is
-          (subst (λ n. CodeStands (sized (fields_of c.args.image.now.header) c.args.image.now.height) (head_place s.entities s.given c.args.self.now.at (carried_by c.repeat.new.self c.args.kept c.args.lent.now.learned.now)) (code_place n c.args.self.now.first c.args.self.now.marker c.skip_many-count.new.decoder) text (out ++ copies c.skip_many-count.result (held c.repeat.new.self).current)) (sym sum)
+      stands = put_stage (fields_of c.args.image.now.header) c.args.image.now.height (code_over s (record c.args.self.now { row = c.args.self.now.row + c.skip_many-count.result }) c.args.kept c.skip_many-count.new.decoder c.repeat.new.self c.args.lent.now.learned.now) text _ _ is
           (subst (λ z. CodeStands (sized (fields_of c.args.image.now.header) c.args.image.now.height) (head_place s.entities s.given c.args.self.now.at (carried_by c.repeat.new.self c.args.kept c.args.lent.now.learned.now)) (code_place (c.args.self.now.row + c.skip_many-count.result) c.args.self.now.first c.args.self.now.marker c.skip_many-count.new.decoder) text (out ++ copies c.skip_many-count.result z)) (sym row_is)
-          (code_repeated k c.shape.result (record { width_is = c.shape.ensures.width; mode_is = c.shape.ensures.mode }) count after c.skip_many-count.new.decoder repeats few)));
+          (code_repeated k c.shape.result (record { width_is = c.shape.ensures.width; mode_is = c.shape.ensures.mode }) count after c.skip_many-count.new.decoder repeats few));
     }

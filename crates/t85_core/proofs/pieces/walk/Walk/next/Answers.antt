@@ -32,7 +32,7 @@ pub returns-in_err-next_row-in-Code-clause-step : goal.returns-in_err-next_row-i
 returns-in_err-next_row-in-Code-clause-step c =
     let left : RowIsLeft c.args.image.now.header.l0 (walk_lent c.steps.self c.steps.lent) =
     (subst (λ z. IsInCode (stage_kind z)) (sym c.in-Code.is) (in_code_of c.in-Code.code.begun), subst (λ z. stage_row z < min c.steps.self.left c.args.image.now.header.l0) (sym c.in-Code.is) (let lt = c.if-code-min.true in let min_is = c.min.ensures in omega (arith, lt, min_is))) in
-    let step = c.in_err-next_row-in-Code.ensures.step left in
+    let step = c.in_err-next_row-in-Code.ensures.step in
     turn_exit (fields_of c.args.image.now.header) c.args.image.now.height (walk_lent c.args.self.now c.args.lent.now) (walk_lent c.next_row.new.self c.next_row.new.lent) c.args.piece.now.rest.now c.next_row.new.piece.rest.now c.from_residual-in_err-next_row-in-Code.result _ c.from_residual-in_err-next_row-in-Code.ensures.1
     (off_then (fields_of c.args.image.now.header) c.args.image.now.height (walk_lent c.args.self.now c.args.lent.now) (walk_lent c.steps.self c.steps.lent) c.args.piece.now.rest.now c.steps.piece.rest.now c.steps.invariant.so_far _ step.err)
     (λ e. let m = step.more (ap Err e) in (on_then (fields_of c.args.image.now.header) c.args.image.now.height (walk_lent c.args.self.now c.args.lent.now) (walk_lent c.steps.self c.steps.lent) c.args.piece.now.rest.now c.steps.piece.rest.now c.steps.invariant.so_far (walk_lent c.next_row.new.self c.next_row.new.lent) c.next_row.new.piece.rest.now [] m.0, m.1))
@@ -42,7 +42,7 @@ returns-then-code-min-clause-step c =
     let left : RowIsLeft c.args.image.now.header.l0 (walk_lent c.steps.self c.steps.lent) =
     (subst (λ z. IsInCode (stage_kind z)) (sym c.in-Code.is) (in_code_of c.in-Code.code.begun), subst (λ z. stage_row z < min c.steps.self.left c.args.image.now.header.l0) (sym c.in-Code.is) (let lt = c.if-code-min.true in let min_is = c.min.ensures in omega (arith, lt, min_is))) in
     turn_row (fields_of c.args.image.now.header) c.args.image.now.height (walk_lent c.args.self.now c.args.lent.now) (walk_lent c.next_row.new.self c.next_row.new.lent) c.args.piece.now.rest.now c.next_row.new.piece.rest.now
-    (on_then (fields_of c.args.image.now.header) c.args.image.now.height (walk_lent c.args.self.now c.args.lent.now) (walk_lent c.steps.self c.steps.lent) c.args.piece.now.rest.now c.steps.piece.rest.now c.steps.invariant.so_far (walk_lent c.next_row.new.self c.next_row.new.lent) c.next_row.new.piece.rest.now (held c.next_row.new.lent.window.now).current (c.in_ok-next_row-in-Code.ensures.step left).ok)
+    (on_then (fields_of c.args.image.now.header) c.args.image.now.height (walk_lent c.args.self.now c.args.lent.now) (walk_lent c.steps.self c.steps.lent) c.args.piece.now.rest.now c.steps.piece.rest.now c.steps.invariant.so_far (walk_lent c.next_row.new.self c.next_row.new.lent) c.next_row.new.piece.rest.now (held c.next_row.new.lent.window.now).current c.in_ok-next_row-in-Code.ensures.step.ok)
 
 pub returns-then-code-min-clause-code : goal.returns-then-code-min-clause-code
 returns-then-code-min-clause-code c = λ _. c.in_ok-next_row-in-Code.ensures.code
@@ -51,7 +51,7 @@ pub returns-in_err-reset-in-Code-clause-step : goal.returns-in_err-reset-in-Code
 returns-in_err-reset-in-Code-clause-step c =
     let has : HasAllRows c.args.image.now.header.l0 c.steps.self =
     (subst (λ z. IsInCode (stage_kind z)) (sym c.in-Code.is) (in_code_of c.in-Code.code.begun), subst (λ z. min c.steps.self.left c.args.image.now.header.l0 ≤ stage_row z) (sym c.in-Code.is) (let le = c.if-code-min.false in let min_is = c.min.ensures in omega (arith, le, min_is))) in
-    let step = c.in_err-reset-in-Code.ensures.step has (held c.steps.lent.window.now) c.steps.lent.learned.now in
+    let step = c.in_err-reset-in-Code.ensures.step (held c.steps.lent.window.now) c.steps.lent.learned.now in
     turn_exit (fields_of c.args.image.now.header) c.args.image.now.height (walk_lent c.args.self.now c.args.lent.now) (walk_lent c.find_end.new.self c.steps.lent) c.args.piece.now.rest.now c.find_end.new.piece.rest.now c.from_residual-in_err-reset-in-Code.result _ c.from_residual-in_err-reset-in-Code.ensures.1
     (off_then (fields_of c.args.image.now.header) c.args.image.now.height (walk_lent c.args.self.now c.args.lent.now) (walk_lent c.steps.self c.steps.lent) c.args.piece.now.rest.now c.steps.piece.rest.now c.steps.invariant.so_far _ step.err)
     (λ e. let m = step.more (ap Err e) in (on_then (fields_of c.args.image.now.header) c.args.image.now.height (walk_lent c.args.self.now c.args.lent.now) (walk_lent c.steps.self c.steps.lent) c.args.piece.now.rest.now c.steps.piece.rest.now c.steps.invariant.so_far (walk_lent c.find_end.new.self c.steps.lent) c.find_end.new.piece.rest.now [] m.0, m.1))
@@ -60,8 +60,8 @@ pub steps-preserved : goal.steps-preserved
 steps-preserved c =
     let has : HasAllRows c.args.image.now.header.l0 c.steps.self =
     (subst (λ z. IsInCode (stage_kind z)) (sym c.in-Code.is) (in_code_of c.in-Code.code.begun), subst (λ z. min c.steps.self.left c.args.image.now.header.l0 ≤ stage_row z) (sym c.in-Code.is) (let le = c.if-code-min.false in let min_is = c.min.ensures in omega (arith, le, min_is))) in
-    let step = c.in_ok-reset-in-Code.ensures.step has (held c.steps.lent.window.now) c.steps.lent.learned.now in
-    let still = (c.in_ok-reset-in-Code.ensures.same has).0 in
+    let step = c.in_ok-reset-in-Code.ensures.step (held c.steps.lent.window.now) c.steps.lent.learned.now in
+    let still = c.in_ok-reset-in-Code.ensures.same.0 in
     let now = c.end_stripe.ensures.lent in
     let was = c.steps.invariant.lends in
     record {
