@@ -29,8 +29,9 @@ pub waiting_is : (d : T85Decoder) (e : PieceDecoder) → ArePieceNumbers d.numbe
 waiting_is d e is = by e.phase is.phase_is where
   by : (p : Phase) → ArePhaseNumbers d.numbers p → is_waiting d ≡ (phase_is_open p && phase_waits p)
   by phase.Known k = ap (λ b. b && is_set d.numbers.waits) k
-  by phase.InCode k = λ i. k.0 i && k.1 i
-  by (phase.Behind head) k = λ i. k.0 i && k.1 i
+  by phase.InCode k = λ i. k.0 i && is_set (k.1 i)
+  by (phase.Behind head) k = λ i. k.0 i && is_set (k.1 i)
+  by phase.Late k = λ i. k.0 i && is_set (k.1 i)
 
 pub ended_same : (s : Stage) (d : T85Decoder) (entities : ℕ) → AreStageNumbers d.numbers.stage s → d.numbers.entities ≡ entities → stripes_ended_by d ≡ entities_behind (stage_kind s) entities
 ended_same s d entities is many = ap (λ n. cond {A = ℕ} ((d.numbers.stage.next == 2) || (d.numbers.stage.next == 3)) (n + 1) n) many ∙ by s is where

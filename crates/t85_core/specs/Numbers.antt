@@ -6,7 +6,7 @@ use Rattle.qm_core.specs.Decoder.{decoder_registers, has_stopped}
 use Rattle.raster_core.specs.Row.{row_place_numbers}
 use Rattle.raster_core.specs.declared.place.RowPlace.{RowPlace}
 use Rattle.raster_core.specs.declared.place.RowPlaceNumbers.{RowPlaceNumbers}
-use Rattle.t85_core.specs.Phases.{phase_behind, phase_is_open, phase_waits}
+use Rattle.t85_core.specs.Phases.{phase_behind, phase_is_open}
 use Rattle.t85_core.specs.declared.pieces.PieceDecoder.{PieceDecoder}
 use Rattle.t85_core.specs.declared.pieces.code.InCode.{InCode}
 use Rattle.t85_core.specs.declared.pieces.head.Head.{Head}
@@ -87,6 +87,12 @@ stage_numbers (stage.Code c) = record {
 }
 stage_numbers stage.Done = record { at = move_numbers None; comment = 0; row = 0; place = place_numbers None; ahead = 0; marker = 0; next = 4 }
 
+abbrev pub waits_number : Phase → ℕ
+waits_number phase.Known = 0
+waits_number phase.InCode = 0
+waits_number (phase.Behind head) = 1
+waits_number phase.Late = 2
+
 -- the numbers of a decoder, without its end
 abbrev pub piece_numbers : PieceDecoder → PieceNumbers
 piece_numbers d = record {
@@ -99,7 +105,7 @@ piece_numbers d = record {
   offset = d.walk.kept.offset;
   is_previous_typical = from_bool d.walk.kept.previous_typical;
   is_open = from_bool (phase_is_open d.phase);
-  waits = from_bool (phase_waits d.phase);
+  waits = waits_number d.phase;
   is_given = from_bool d.walk.given;
 }
 
@@ -142,8 +148,9 @@ AreStageNumbers n stage.Done = n.next ≡ 4
 -- whether a height may still arrive
 abbrev pub ArePhaseNumbers : PieceNumbers → Phase → Type 0
 ArePhaseNumbers n phase.Known = is_set n.is_open ≡ false
-ArePhaseNumbers n phase.InCode = (is_set n.is_open ≡ true) × (is_set n.waits ≡ false)
-ArePhaseNumbers n (phase.Behind head) = (is_set n.is_open ≡ true) × (is_set n.waits ≡ true) × AreHeadNumbers n.behind head
+ArePhaseNumbers n phase.InCode = (is_set n.is_open ≡ true) × (n.waits ≡ 0)
+ArePhaseNumbers n (phase.Behind head) = (is_set n.is_open ≡ true) × (n.waits ≡ 1) × AreHeadNumbers n.behind head
+ArePhaseNumbers n phase.Late = (is_set n.is_open ≡ true) × (n.waits ≡ 2)
 
 -- the numbers of a parser state
 pub record AreWalkNumbers (n : PieceNumbers) (w : Walk) : Type 0 where

@@ -35,6 +35,12 @@ is_code (stage.Head head) = false
 is_code (stage.Code code) = true
 is_code stage.Done = false
 
+-- whether the image is complete
+abbrev pub is_done : Stage → Bool
+is_done (stage.Head head) = false
+is_done (stage.Code code) = false
+is_done stage.Done = true
+
 -- the move of the stripe
 abbrev pub stage_move : Stage → Option Move
 stage_move (stage.Head head) = head.at

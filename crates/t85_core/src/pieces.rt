@@ -5,7 +5,8 @@ ghost use Rattle.qm_core.specs.Place.{Estimate};
 ghost use Rattle.raster_core.specs.Packed.{Held};
 ghost use Rattle.raster_core.specs.Window.{width_of};
 ghost use Rattle.t85_core.specs.Outcomes.{end_in};
-ghost use Rattle.t85_core.specs.Stages.{is_code};
+ghost use Rattle.t85_core.specs.Stages.{is_code, is_done};
+ghost use Rattle.t85_core.specs.Phases.{phase_looks};
 ghost use Rattle.t85_core.specs.declared.pieces.phase.Phase.TheVariants as phase_type;
 
 pub mod code;
@@ -83,6 +84,8 @@ pub struct PieceDecoder {
     /// How the stream has ended, if it has.
     end: Option<End>,
     ghost code: { phase ≡ phase_type.InCode → is_code walk.stage ≡ true },
+    ghost first: { phase_looks phase ≡ true → image.height ≡ image.header.yd },
+    ghost late: { phase ≡ phase_type.Late → is_done walk.stage ≡ true },
 }
 
 impl PieceDecoder {

@@ -241,7 +241,7 @@ fn misuse_of_a_decoder_is_told(rt: HostRuntime) {
 }
 
 /// The number of ways in which `spoil` changes a struct.
-const WAYS: u32 = 15;
+const WAYS: u32 = 18;
 
 /// Changes a struct among the rows of a stream to one that no call leaves; there are several ways.
 fn spoil(decoder: &mut T85Decoder, way: u32) {
@@ -271,6 +271,9 @@ fn spoil(decoder: &mut T85Decoder, way: u32) {
             numbers.waits = 0;
             numbers.stage.next = 0;
         }
+        15 => numbers.waits = 2,
+        16 => numbers.waits = 3,
+        17 => numbers.height = 1,
         _ => {}
     }
 }

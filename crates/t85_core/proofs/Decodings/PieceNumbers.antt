@@ -80,26 +80,26 @@ pub open_of : (n : PieceNumbers) (p : Phase) → ArePhaseNumbers n p → is_set 
 open_of n phase.Known k = k
 open_of n phase.InCode k = k.0
 open_of n (phase.Behind head) k = k.0
+open_of n phase.Late k = k.0
 
-pub known_phase : (n : PieceNumbers) (p : Phase) → n.is_open ≡ 0 → ArePhaseNumbers n p → phase.Known ≡ p
-known_phase n phase.Known zero k = refl
-known_phase n phase.InCode zero k = absurd (flag_set n.is_open k.0 zero)
-known_phase n (phase.Behind head) zero k = absurd (flag_set n.is_open k.0 zero)
+-- the phase of these numbers is the one that a test of them found
+pub closed_phase : (n : PieceNumbers) (p : Phase) → n.is_open ≡ 0 → ArePhaseNumbers n p → phase.Known ≡ p
+closed_phase n phase.Known zero k = refl
+closed_phase n phase.InCode zero k = absurd (flag_set n.is_open k.0 zero)
+closed_phase n (phase.Behind head) zero k = absurd (flag_set n.is_open k.0 zero)
+closed_phase n phase.Late zero k = absurd (flag_set n.is_open k.0 zero)
 
-pub code_phase : (n : PieceNumbers) (p : Phase) → (n.is_open ≡ 0 → ⊥) → n.waits ≡ 0 → ArePhaseNumbers n p → phase.InCode ≡ p
-code_phase n phase.Known open_ zero k = absurd (open_ (flag_clear n.is_open k))
-code_phase n phase.InCode open_ zero k = refl
-code_phase n (phase.Behind head) open_ zero k = absurd (flag_set n.waits k.1 zero)
-
-pub behind_phase : (n : PieceNumbers) (p : Phase) (head : Head) → (n.is_open ≡ 0 → ⊥) → (n.waits ≡ 0 → ⊥) → ((other : Head) → AreHeadNumbers n.behind other → head ≡ other) → ArePhaseNumbers n p → phase.Behind head ≡ p
+pub behind_phase : (n : PieceNumbers) (p : Phase) (head : Head) → (n.is_open ≡ 0 → ⊥) → n.waits ≡ 1 → ((other : Head) → AreHeadNumbers n.behind other → head ≡ other) → ArePhaseNumbers n p → phase.Behind head ≡ p
 behind_phase n phase.Known head open_ waits one k = absurd (open_ (flag_clear n.is_open k))
-behind_phase n phase.InCode head open_ waits one k = absurd (waits (flag_clear n.waits k.1))
+behind_phase n phase.InCode head open_ waits one k = let z : 0 ≡ 1 = sym k.1 ∙ waits in let bot : ⊥ = cc in absurd bot
 behind_phase n (phase.Behind other) head open_ waits one k = ap phase.Behind (one other k.2)
+behind_phase n phase.Late head open_ waits one k = let z : 2 ≡ 1 = sym k.1 ∙ waits in let bot : ⊥ = cc in absurd bot
 
-pub no_phase : (n : PieceNumbers) (p : Phase) → (n.is_open ≡ 0 → ⊥) → (n.waits ≡ 0 → ⊥) → ((head : Head) → AreHeadNumbers n.behind head → ⊥) → ArePhaseNumbers n p → ⊥
+pub no_phase : (n : PieceNumbers) (p : Phase) → (n.is_open ≡ 0 → ⊥) → n.waits ≡ 1 → ((head : Head) → AreHeadNumbers n.behind head → ⊥) → ArePhaseNumbers n p → ⊥
 no_phase n phase.Known open_ waits none k = open_ (flag_clear n.is_open k)
-no_phase n phase.InCode open_ waits none k = waits (flag_clear n.waits k.1)
+no_phase n phase.InCode open_ waits none k = let z : 0 ≡ 1 = sym k.1 ∙ waits in let bot : ⊥ = cc in bot
 no_phase n (phase.Behind head) open_ waits none k = none head k.2
+no_phase n phase.Late open_ waits none k = let z : 2 ≡ 1 = sym k.1 ∙ waits in let bot : ⊥ = cc in bot
 
 -- a decoder that has not stopped has the numbers of any
 pub resumed_decoder : (d : Decoder) → (e : Decoder) × (has_stopped e ≡ false) × (decoder_registers d ≡ decoder_registers e) × (has_stopped d ≡ false → e ≡ d)

@@ -26,10 +26,13 @@ use Rattle.t85_core.specs.Lent.{PieceView, WalkView, waits_behind}
 use Rattle.t85_core.specs.declared.pieces.Outcome.{Outcome}
 use Rattle.t85_core.specs.declared.pieces.Outcome.TheVariants as outcome
 use Rattle.t85_core.specs.declared.pieces.head.Head.{Head}
-use Rattle.t85_core.specs.Stages.{Kind, comment_left, head_kind, place_from}
+use Rattle.t85_core.specs.Stages.{head_start, Kind, comment_left, head_kind, is_done, place_from, stage_kind}
+use Rattle.t85_core.specs.declared.pieces.walk.Stage.{Stage}
+use Rattle.t85_core.specs.declared.pieces.walk.Stage.TheVariants as stage_type
 use Rattle.t85_core.specs.Stages as stage
 use Rattle.t85_core.specs.Header.{Fields, is_variable}
 use Rattle.t85_core.specs.Options.{fields_of}
+use Rattle.t85_core.specs.Phases.{first_phase, phase_behind, phase_is_open, phase_waits}
 use Rattle.t85_core.specs.Height.{GivesHeight, IsHeight}
 use Rattle.t85_core.specs.Laws.{IsInUse}
 use Rattle.t85_core.specs.Pieces.{AwaitsHeight, HasDecoded, HasHeight, HandsOut, HoldsImage, row_held, stripes_ended}
@@ -38,7 +41,7 @@ use Rattle.t85_core.specs.Steps.Behind.{BehindStands, BreaksBehind, StopsBehind,
 use Rattle.t85_core.specs.Steps.InTime.{MarkerAfterRows}
 use Rattle.t85_core.specs.Steps.Pieces.{HeadStands, CommentStands, IsFirstWalk, SomeStands, WalkStands, CutOff, StepsOn, StepsOff, RowStep, RowLeaves, StageStands, KeepsPlace, HasMarker, IsInCode, head_place}
 use Rattle.t85_core.specs.Steps.StripeEnds.{StripeEnds}
-use Rattle.t85_core.specs.Steps.SizedImage.{sized}
+use Rattle.t85_core.specs.Steps.SizedImage.{SizedImage, sized}
 use Rattle.t85_core.specs.Steps.PieceStands.{DecoderStands, HeightKnown, StandsAs, CodeWalks, WalkWaits, IsAtMarker, entities_behind, is_last, place_behind, last_behind}
 use Rattle.t85_core.specs.Steps.PieceSteps.{SomeStand, DecoderOn, DecoderOnAfterRows, EndsConsumed, EndsWhole, EndsBroken, NoHeightBelow, StaysOpen, StepLeaves, KeepsDecoder, StripeLeft, StripeClosed, HeadEntered, steps_left}
 use Rattle.t85_core.proofs.Decodings.ImagePut.{in_use}
@@ -48,6 +51,13 @@ use Rattle.t85_core.proofs.Decodings.PieceInTime.{in_time_more, in_time_empty}
 use Rattle.t85_core.proofs.Decodings.PieceHead.{head_code, head_cut, comment_off}
 
 -- more text
+-- a relation at the height in use holds at the header's, if that is the same
+pub at_first : (Holds : SizedImage → Type 0) {h : Fields} {height : ℕ} → height ≡ h.yd → Holds (sized h height) → Holds (sized h h.yd)
+at_first Holds {h} same k = subst (λ n. Holds (sized h n)) same k
+
+pub at_last : (Holds : SizedImage → Type 0) {h : Fields} {height : ℕ} → height ≡ h.yd → Holds (sized h h.yd) → Holds (sized h height)
+at_last Holds {h} same k = subst (λ n. Holds (sized h n)) (sym same) k
+
 -- a height that may still be followed by another
 pub known_open : {h : Fields} {height : ℕ} {is_open : Bool} {text : List ℕ} → is_open ≡ true → HeightKnown h height is_open text → HeightKnown h height true text
 known_open {h} {height} {text = text} late k = subst (λ b. HeightKnown h height b text) late k
@@ -348,6 +358,21 @@ leaves_broken is_all d d' p p' f header going broken = leaves_as is_all d d' p p
 pub leaves_done : (is_all : Bool) (d d' : PieceView) (p p' : List ℕ) (n : ℕ) → d'.header ≡ d.header → d'.end ≡ d.end → d'.height ≡ n → EndsWhole is_all d p n → EndsConsumed is_all d d' p p' n → StepLeaves is_all d d' p p' (Some (outcome.Done n))
 leaves_done is_all d d' p p' n header going height whole consumed = leaves_as is_all d d' p p' (Some (outcome.Done n)) header going (height, whole, consumed)
 
+-- a walk that is over waits for nothing
+pub done_kind : (s : Stage) → is_done s ≡ true → stage_kind s ≡ stage.Done
+done_kind (stage_type.Head head) e = absurd (true≢false (sym e))
+done_kind (stage_type.Code code) e = absurd (true≢false (sym e))
+done_kind stage_type.Done e = refl
+
+pub done_nowhere : (d : PieceView) → d.is_open ≡ true → d.waits ≡ true → d.walk.stage ≡ stage.Done → SomeStand d → ⊥
+done_nowhere d late waits done some = elim (waits_of d some.0 some.1 late waits some.2).at [
+  | inl head ↦ (let e : stage.Head ≡ stage.Done = sym head.0 ∙ done in let bot : ⊥ = cc in bot)
+  | inr code ↦ elim code.0 [
+    | inl is ↦ (let e : stage.Code ≡ stage.Done = sym is ∙ done in let bot : ⊥ = cc in bot)
+    | inr is ↦ (let e : stage.Row ≡ stage.Done = sym is ∙ done in let bot : ⊥ = cc in bot)
+  ]
+]
+
 -- ---- in the code
 
 -- a part of a piece was taken
@@ -619,6 +644,18 @@ pub fewer_after : (old mid new : Bool) (p p1 p' : List ℕ) → mid ≡ old → 
 fewer_after old mid new p p1 p' same le less = let k : steps_left new p' < 2 * length p1 + cond {A = ℕ} old 0 1 = subst (λ b. steps_left new p' < 2 * length p1 + cond {A = ℕ} b 0 1) same less in omega (arith, k, le)
 
 -- before the first byte
+pub first_open : (b : Bool) → phase_is_open (first_phase b) ≡ b
+first_open true = refl
+first_open false = refl
+
+pub first_waits : (b : Bool) → phase_waits (first_phase b) ≡ phase_is_open (first_phase b)
+first_waits true = refl
+first_waits false = refl
+
+pub first_none : (b : Bool) → phase_behind (first_phase b) ≡ head_start
+first_none true = refl
+first_none false = refl
+
 pub started : (d : PieceView) → d.is_open ≡ is_variable (fields_of d.header) → d.waits ≡ d.is_open → d.height ≡ d.header.yd → IsFirstWalk d.walk → WalkStands (sized (fields_of d.header) d.header.yd) d.walk [] [] → d.behind.at ≡ None → d.behind.comment ≡ None → DecoderStands d [] []
 started d open_is waits height first s at comment = by d.is_open refl where
   known : HeightKnown (fields_of d.header) d.height d.is_open []

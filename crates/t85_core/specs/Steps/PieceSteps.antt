@@ -8,7 +8,9 @@ use Rattle.t85_core.specs.declared.pieces.PieceDecoder.{PieceDecoder}
 use Rattle.t85_core.specs.declared.pieces.Outcome.TheVariants as outcome
 use Rattle.t85_core.specs.Options.{fields_of}
 use Rattle.t85_core.specs.Steps.PieceStands.{DecoderStands, WalkWaits, last_behind, place_behind}
-use Rattle.t85_core.specs.Phases.{phase_is_open, phase_waits}
+use Rattle.t85_core.specs.Phases.{phase_waits}
+use Rattle.t85_core.specs.declared.pieces.head.Head.{Head}
+use Rattle.t85_core.specs.declared.pieces.phase.Phase.TheVariants as phase
 use Rattle.t85_core.specs.Stages.{stage_kind, head_kind}
 use Rattle.t85_core.specs.Stages as stage
 use Rattle.t85_core.specs.declared.segments.Place.{Place}
@@ -26,11 +28,11 @@ use Rattle.t85_core.specs.Steps.Passage.{passage}
 
 -- a decoder with late heights that looks for one
 abbrev pub LooksForHeight : PieceDecoder → Type 0
-LooksForHeight d = (phase_is_open d.phase ≡ true) × (phase_waits d.phase ≡ true)
+LooksForHeight d = (head : Head) × (d.phase ≡ phase.Behind head)
 
 -- one that does not look for it yet
 abbrev pub DecodesCode : PieceDecoder → Type 0
-DecodesCode d = (phase_is_open d.phase ≡ true) × (phase_waits d.phase ≡ false)
+DecodesCode d = d.phase ≡ phase.InCode
 
 -- it is at some position
 abbrev pub SomeStand : PieceView → Type 0

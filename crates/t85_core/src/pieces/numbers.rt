@@ -3,7 +3,7 @@
 ghost use Rattle.std.specs.Prelude.{◌≡◌, List, None, Some, ℕ, IfSome, IsSome, IsSomeAnd};
 ghost use Rattle.qm_core.specs.Place.{Estimate};
 ghost use Rattle.raster_core.specs.Packed.{Held};
-ghost use Rattle.t85_core.specs.Numbers.{ArePhaseNumbers, ArePieceNumbers, AreWalkNumbers, IsWalkAs, piece_numbers};
+ghost use Rattle.t85_core.specs.Numbers.{ArePhaseNumbers, ArePieceNumbers, AreWalkNumbers, IsWalkAs, piece_numbers, waits_number};
 ghost use Rattle.t85_core.specs.Options.{fields_of};
 ghost use Rattle.t85_core.specs.declared.pieces.phase.Phase.{Phase};
 
@@ -82,10 +82,22 @@ pub struct PieceNumbers {
     pub is_previous_typical: u8,
     /// Whether a height may still arrive.
     pub is_open: u8,
-    /// Whether the decoder is waiting for the bytes behind an end marker.
+    /// If one may: 0 in the code of a stripe, 1 behind an end marker or before the first stripe, 2 if a height behind the
+    /// last stripe has ended the image.
     pub waits: u8,
     /// Whether a NEWLEN gave a height.
     pub is_given: u8,
+}
+
+/// The number of a phase while a height may arrive.
+fn number_of_waits(phase: Phase) -> u8
+    ensures { result ≡ waits_number phase }
+{
+    match phase {
+        Phase::Behind(_) => 1,
+        Phase::Late => 2,
+        _ => 0,
+    }
 }
 
 /// The greatest offset of the adaptive template pixel in T.85.
@@ -132,10 +144,12 @@ impl PieceNumbers {
         if self.is_open == 0 {
             return Some(Phase::Known);
         }
-        if self.waits == 0 {
-            return Some(Phase::InCode);
+        match self.waits {
+            0 => Some(Phase::InCode),
+            1 => Some(Phase::Behind(self.behind.head()?)),
+            2 => Some(Phase::Late),
+            _ => None,
         }
-        Some(Phase::Behind(self.behind.head()?))
     }
 
     /// The position in the stream.
@@ -192,7 +206,7 @@ impl PieceDecoder {
         numbers.offset = walk.kept.offset;
         numbers.is_previous_typical = u8::from(walk.kept.previous_typical);
         numbers.is_open = u8::from(self.phase.is_open());
-        numbers.waits = u8::from(self.phase.waits());
+        numbers.waits = number_of_waits(self.phase);
         numbers.is_given = u8::from(walk.given);
     }
 
@@ -214,7 +228,13 @@ impl PieceDecoder {
         }
         let walk = numbers.walk()?;
         let phase = numbers.phase()?;
-        if matches!(phase, Phase::InCode) && !walk.is_in_code() {
+        let fits = match phase {
+            Phase::Known => true,
+            Phase::InCode => walk.is_in_code() && numbers.height == header.yd,
+            Phase::Behind(_) => numbers.height == header.yd,
+            Phase::Late => walk.is_done(),
+        };
+        if !fits {
             return None;
         }
         Some(PieceDecoder {

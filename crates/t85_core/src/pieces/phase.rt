@@ -3,8 +3,7 @@
 ghost use Rattle.std.specs.Prelude.{◌≡◌};
 ghost use Rattle.t85_core.specs.Header.{is_variable};
 ghost use Rattle.t85_core.specs.Options.{fields_of};
-ghost use Rattle.t85_core.specs.Stages.{head_start};
-ghost use Rattle.t85_core.specs.Phases.{phase_behind, phase_is_open, phase_waits};
+ghost use Rattle.t85_core.specs.Phases.{first_phase, phase_behind, phase_is_open};
 
 use crate::header::Header;
 use crate::pieces::head::Head;
@@ -19,14 +18,14 @@ pub enum Phase {
     /// A height may arrive next: the decoder is behind an end marker, or before the first stripe. These marker segments
     /// have arrived there.
     Behind(Head),
+    /// A height behind the last stripe has ended the image.
+    Late,
 }
 
 impl Phase {
     /// Before the first stripe of a stream with this header.
     pub fn first(header: &Header) -> Phase
-        ensures is_open { phase_is_open result ≡ is_variable (fields_of header.now) }
-        ensures waits { phase_waits result ≡ phase_is_open result }
-        ensures none { phase_behind result ≡ head_start }
+        ensures { result ≡ first_phase (is_variable (fields_of header.now)) }
     {
         if header.is_variable() {
             Phase::Behind(Head::start())
@@ -35,25 +34,13 @@ impl Phase {
         }
     }
 
-    /// Whether a height may still arrive.
+    /// Whether no height was known before the end of the image.
     pub fn is_open(&self) -> bool
         ensures { result ≡ phase_is_open self.now }
     {
         match self {
             Phase::Known => false,
-            Phase::InCode => true,
-            Phase::Behind(_) => true,
-        }
-    }
-
-    /// Whether a height may arrive next.
-    pub fn waits(&self) -> bool
-        ensures { result ≡ phase_waits self.now }
-    {
-        match self {
-            Phase::Known => false,
-            Phase::InCode => false,
-            Phase::Behind(_) => true,
+            _ => true,
         }
     }
 

@@ -11,7 +11,6 @@ ghost use Rattle.raster_core.specs.Packed.{Held};
 ghost use Rattle.t85_core.specs.Lent.{KeepsLent, decoder_lent as over, decoder_view, walk_lent};
 
 use crate::fault::Fault;
-use crate::header::SizedImage;
 use crate::input_buffer::ESCAPE;
 use crate::lent::Lent;
 use crate::pieces::head::Head;
@@ -63,6 +62,7 @@ impl PieceDecoder {
             Phase::Known => Some(self.take_turn(lent, piece, is_all)),
             Phase::InCode => self.step_in_code(lent, piece, is_all),
             Phase::Behind(head) => self.step_behind(head, lent, piece, is_all),
+            Phase::Late => Some(Outcome::Done(self.image.height)),
         }
     }
 
@@ -118,11 +118,7 @@ impl PieceDecoder {
             piece.new.rest.now result }
         ensures lowers { Lowers self.old self.new piece.old.rest.now piece.new.rest.now result }
     {
-        let image = SizedImage {
-            header: self.image.header,
-            height: self.image.header.yd,
-        };
-        match self.walk.find_end(&image, piece) {
+        match self.walk.find_end(&self.image, piece) {
             Ok(_) => {
                 self.phase = Phase::Behind(Head::start());
                 None
@@ -150,11 +146,7 @@ impl PieceDecoder {
         let bytes = piece.rest;
         let (front, behind) = bytes.split_at(code_len(bytes));
         let mut part = Piece { rest: front };
-        let image = SizedImage {
-            header: self.image.header,
-            height: self.image.header.yd,
-        };
-        match self.walk.next_row(&image, lent, &mut part) {
+        match self.walk.next_row(&self.image, lent, &mut part) {
             Ok(()) => {
                 let (_, rest) = bytes.split_at(front.len().saturating_sub(part.rest.len()));
                 piece.rest = rest;

@@ -146,6 +146,8 @@ impl PieceDecoder {
         }
         if self.ends_in_stripe(left) {
             piece.rest = rest;
+            self.walk.stage = Stage::Done;
+            self.phase = Phase::Late;
             self.image.height = height;
             return Some(Outcome::Done(height));
         }
@@ -153,8 +155,8 @@ impl PieceDecoder {
         piece.rest = rest;
         self.walk.given = true;
         self.walk.left = self.walk.left.saturating_sub(fewer);
-        self.image.height = height;
         self.phase = Phase::Known;
+        self.image.height = height;
         None
     }
 

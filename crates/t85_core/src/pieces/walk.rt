@@ -11,7 +11,7 @@ ghost use Rattle.t85_core.specs.Lent.{KeepsLent, walk_view, walk_lent as over};
 ghost use Rattle.t85_core.specs.Steps.Buffers.{copies};
 ghost use Rattle.t85_core.specs.Steps.Pieces.{WalkStands, IsFirstWalk, Alone, HasAllRows, IsInCode, KeepsPlace, LeavesRow, MarkerIs, MarkerRead, RowIsLeft, RowStep, SomeStands, Step, Turn};
 ghost use Rattle.t85_core.specs.Steps.InTime.{ReachesMarker};
-ghost use Rattle.t85_core.specs.Stages.{is_code, stage_first, stage_kind, stage_marker, stage_row};
+ghost use Rattle.t85_core.specs.Stages.{is_code, is_done, stage_first, stage_kind, stage_marker, stage_row};
 ghost use Rattle.t85_core.specs.declared.fault.Fault.TheVariants.{Changed};
 ghost use Rattle.t85_core.specs.declared.segments.Code.TheVariants as code;
 ghost use Rattle.t85_core.specs.Steps.SizedImage.{sized_of};
@@ -156,6 +156,16 @@ impl Walk {
     {
         match &self.stage {
             Stage::Code(_) => true,
+            _ => false,
+        }
+    }
+
+    /// Whether the image is complete.
+    pub fn is_done(&self) -> bool
+        ensures { result ≡ is_done self.now.stage }
+    {
+        match &self.stage {
+            Stage::Done => true,
             _ => false,
         }
     }

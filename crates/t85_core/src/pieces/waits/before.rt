@@ -4,7 +4,6 @@ ghost use Rattle.std.specs.Prelude.{◌≡◌, ◌≤◌, ◌<◌, ◌+◌, ◌-
 ghost use Rattle.t85_core.specs.Steps.PieceSteps.{LooksForHeight};
 ghost use Rattle.t85_core.specs.Lent.{KeepsLent, decoder_lent as over};
 
-use crate::header::SizedImage;
 use crate::lent::Lent;
 use crate::pieces::PieceDecoder;
 use crate::pieces::piece::Piece;
@@ -59,6 +58,7 @@ impl PieceDecoder {
     pub(super) fn gives_below(&mut self, lent: &mut Lent<'_, '_>, limit: u32) -> bool
         requires looks { LooksForHeight self.old }
         requires limit { limit ≤ min self.old.walk.left self.old.image.header.l0 }
+        ensures phase { self.new.phase ≡ self.old.phase }
         ensures keeps { KeepsDecoder (over self.old lent.old) (over self.new lent.new) }
         ensures gives { result ≡ true → SomeStand (over self.old lent.old) → GivesBelow (over
             self.old lent.old) (over self.new lent.new) limit }
@@ -70,11 +70,7 @@ impl PieceDecoder {
             return false;
         }
         let mut none = Piece { rest: &[] };
-        let image = SizedImage {
-            header: self.image.header,
-            height: self.image.header.yd,
-        };
-        let _given = self.walk.next_row(&image, lent, &mut none).is_ok();
+        let _given = self.walk.next_row(&self.image, lent, &mut none).is_ok();
         true
     }
 
@@ -83,6 +79,7 @@ impl PieceDecoder {
     pub(super) fn enter_head(&mut self, lent: &mut Lent<'_, '_>)
         requires looks { LooksForHeight self.old }
         requires all { RowsAreGiven (over self.old lent.old) }
+        ensures phase { self.new.phase ≡ self.old.phase }
         ensures keeps { KeepsDecoder (over self.old lent.old) (over self.new lent.new) }
         ensures head { is_last_of self.old ≡ false → SomeStand (over self.old lent.old) →
             HeadEntered (over self.old lent.old) (over self.new lent.new) }
@@ -96,6 +93,7 @@ impl PieceDecoder {
     pub(super) fn end_stripe(&mut self, lent: &mut Lent<'_, '_>)
         requires looks { LooksForHeight self.old }
         requires all { RowsAreGiven (over self.old lent.old) }
+        ensures phase { self.new.phase ≡ self.old.phase }
         ensures keeps { KeepsDecoder (over self.old lent.old) (over self.new lent.new) }
         ensures ends { IsInCode (stage_kind self.old.walk.stage) → SomeStand
             (over self.old lent.old) → StripeLeft (over self.old lent.old)
@@ -104,12 +102,8 @@ impl PieceDecoder {
             StripeClosed (over self.old lent.old) (over self.new lent.new) }
         ensures lent { KeepsLent lent.old lent.new }
     {
-        let image = SizedImage {
-            header: self.image.header,
-            height: self.image.header.yd,
-        };
         if let Some(reset) = self.walk.end_marker() {
-            self.walk.end_stripe(&image, reset, lent);
+            self.walk.end_stripe(&self.image, reset, lent);
         }
     }
 }

@@ -1,4 +1,5 @@
 use Rattle.std.proofs.Common.{◌≡◌, ◌∙◌, None, Some, refl, ap, sym, subst, false, rules, arith}
+use Rattle.t85_core.specs.Phases.{phase_is_open, phase_waits}
 use Rattle.t85_core.specs.Options.{fields_of}
 use Rattle.t85_core.specs.Steps.PieceStands.{last_behind}
 use Rattle.t85_core.specs.Steps.PieceSteps.{HeadEntered, SomeStand}
@@ -15,7 +16,7 @@ use Rattle.t85_core.proofs.pieces.PieceDecoder.take_code.Goals as goal
 pub returns-then-gives_below-clause-leaves : goal.returns-then-gives_below-clause-leaves
 returns-then-gives_below-clause-leaves c = λ is_all.
     row_where is_all (decoder_lent c.args.self.now c.args.lent.now) (decoder_lent c.gives_below.new.self c.gives_below.new.lent) c.args.piece.now.rest.now c.args.piece.now.rest.now c.gives_below.ensures.keeps.header c.gives_below.ensures.keeps.going (λ some.
-    leaves_code (decoder_lent c.args.self.now c.args.lent.now) (decoder_lent c.gives_below.new.self c.gives_below.new.lent) c.requires.looks.0 c.requires.looks.1 c.min.result (c.gives_below.ensures.gives (search rules) some) c.args.code c.args.piece.now.rest.now c.args.rest.now c.requires.between c.requires.more c.requires.code c.requires.comes (let e = c.min.ensures in omega (arith, e)) is_all)
+    leaves_code (decoder_lent c.args.self.now c.args.lent.now) (decoder_lent c.gives_below.new.self c.gives_below.new.lent) (ap phase_is_open c.requires.looks.1) (ap phase_waits c.requires.looks.1) c.min.result (c.gives_below.ensures.gives (search rules) some) c.args.code c.args.piece.now.rest.now c.args.rest.now c.requires.between c.requires.more c.requires.code c.requires.comes (let e = c.min.ensures in omega (arith, e)) is_all)
 
 -- the code has begun
 there : (c : goal.After-self-3-1) (h : HeadEntered (decoder_lent c.gives_below.new.self c.gives_below.new.lent) (decoder_lent c.enter_head.new.self c.enter_head.new.lent)) →
@@ -33,5 +34,5 @@ returns-clause-leaves c = λ is_all.
     let h = c.enter_head.ensures.head (subst (λ z. last_behind (fields_of z.header) z.walk.stage z.walk.left ≡ false) (sym above.same) c.requires.more) (subst SomeStand (sym above.same) some) in
     leaves_of above.same
     (leaves_on is_all (decoder_lent c.gives_below.new.self c.gives_below.new.lent) _ c.args.piece.now.rest.now c.args.rest.now h.keeps.header h.keeps.going
-    (code_entered c.coder_laws.ensures (decoder_lent c.gives_below.new.self c.gives_below.new.lent) (decoder_lent c.enter_head.new.self c.enter_head.new.lent) _ c.args.code c.start-self.result c.args.piece.now.rest.now c.args.rest.now (ap (λ z. z.is_open) above.same ∙ c.requires.looks.0) (ap (λ z. z.waits) above.same ∙ c.requires.looks.1) h
-    (ap (λ z. z.behind.comment) above.same ∙ c.requires.between) c.requires.code c.start-self.ensures.stands c.requires.comes refl refl (sym (h.keeps.is_open ∙ ap (λ z. z.is_open) above.same ∙ c.requires.looks.0)) refl (there c h))))
+    (code_entered c.coder_laws.ensures (decoder_lent c.gives_below.new.self c.gives_below.new.lent) (decoder_lent c.enter_head.new.self c.enter_head.new.lent) _ c.args.code c.start-self.result c.args.piece.now.rest.now c.args.rest.now (ap (λ z. z.is_open) above.same ∙ (ap phase_is_open c.requires.looks.1)) (ap (λ z. z.waits) above.same ∙ ap phase_waits c.requires.looks.1) h
+    (ap (λ z. z.behind.comment) above.same ∙ c.requires.between) c.requires.code c.start-self.ensures.stands c.requires.comes refl refl (sym (h.keeps.is_open ∙ ap (λ z. z.is_open) above.same ∙ (ap phase_is_open c.requires.looks.1))) refl (there c h))))

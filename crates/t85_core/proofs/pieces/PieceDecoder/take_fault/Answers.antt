@@ -1,4 +1,5 @@
 use Rattle.std.proofs.Common.{◌≡◌, ◌∙◌, false, sym, ap, subst, rules, arith}
+use Rattle.t85_core.specs.Phases.{phase_is_open, phase_waits}
 use Rattle.t85_core.specs.Options.{fields_of}
 use Rattle.t85_core.specs.Steps.Behind.{StopsBehind, behind_at}
 use Rattle.t85_core.specs.Steps.PieceStands.{place_behind, last_behind}
@@ -11,7 +12,7 @@ use Rattle.t85_core.proofs.pieces.PieceDecoder.take_fault.Goals as goal
 pub returns-then-gives_below-clause-leaves : goal.returns-then-gives_below-clause-leaves
 returns-then-gives_below-clause-leaves c =
     row_where c.args.is_all (decoder_lent c.args.self.now c.args.lent.now) (decoder_lent c.gives_below.new.self c.gives_below.new.lent) c.args.piece.now.rest.now c.args.piece.now.rest.now c.gives_below.ensures.keeps.header c.gives_below.ensures.keeps.going (λ some.
-    leaves_fault (decoder_lent c.args.self.now c.args.lent.now) (decoder_lent c.gives_below.new.self c.gives_below.new.lent) c.requires.looks.0 c.requires.looks.1 c.min.result (c.gives_below.ensures.gives (search rules) some) c.args.fault c.args.piece.now.rest.now c.requires.more c.requires.stops (let e = c.min.ensures in omega (arith, e)) (let e = c.min.ensures in omega (arith, e)) c.args.is_all c.requires.end)
+    leaves_fault (decoder_lent c.args.self.now c.args.lent.now) (decoder_lent c.gives_below.new.self c.gives_below.new.lent) (ap phase_is_open c.requires.looks.1) (ap phase_waits c.requires.looks.1) c.min.result (c.gives_below.ensures.gives (search rules) some) c.args.fault c.args.piece.now.rest.now c.requires.more c.requires.stops (let e = c.min.ensures in omega (arith, e)) (let e = c.min.ensures in omega (arith, e)) c.args.is_all c.requires.end)
 
 pub returns-clause-leaves : goal.returns-clause-leaves
 returns-clause-leaves c =
@@ -21,5 +22,5 @@ returns-clause-leaves c =
     let h = c.enter_head.ensures.head (subst (λ z. last_behind (fields_of z.header) z.walk.stage z.walk.left ≡ false) (sym above.same) c.requires.more) (subst SomeStand (sym above.same) some) in
     leaves_of above.same
     (leaves_broken c.args.is_all (decoder_lent c.gives_below.new.self c.gives_below.new.lent) (decoder_lent c.enter_head.new.self c.enter_head.new.lent) c.args.piece.now.rest.now c.args.piece.now.rest.now c.args.fault h.keeps.header h.keeps.going
-    (behind_broken (decoder_lent c.gives_below.new.self c.gives_below.new.lent) (decoder_lent c.enter_head.new.self c.enter_head.new.lent) c.coder_laws.ensures (ap (λ z. z.is_open) above.same ∙ c.requires.looks.0) (ap (λ z. z.waits) above.same ∙ c.requires.looks.1) h c.args.piece.now.rest.now c.args.fault
+    (behind_broken (decoder_lent c.gives_below.new.self c.gives_below.new.lent) (decoder_lent c.enter_head.new.self c.enter_head.new.lent) c.coder_laws.ensures (ap (λ z. z.is_open) above.same ∙ (ap phase_is_open c.requires.looks.1)) (ap (λ z. z.waits) above.same ∙ ap phase_waits c.requires.looks.1) h c.args.piece.now.rest.now c.args.fault
     (subst (λ z. StopsBehind (fields_of z.header) (behind_at (place_behind (fields_of z.header) z.walk.stage z.walk.entities) false) z.behind c.args.piece.now.rest.now c.args.fault) (sym above.same) c.requires.stops) c.args.is_all c.requires.end)))

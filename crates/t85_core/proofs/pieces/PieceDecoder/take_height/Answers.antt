@@ -1,6 +1,5 @@
 use Rattle.std.proofs.Common.{◌≡◌, ◌∙◌, ◌≤◌, ◌<◌, ◌-◌, refl, sym, ap, subst, true, false, rules, arith}
-use Rattle.std.specs.Prelude.{◌&&◌}
-use Rattle.t85_core.specs.Phases.{phase_waits}
+use Rattle.t85_core.specs.Phases.{phase_is_open, phase_waits}
 use Rattle.t85_core.specs.Options.{fields_of}
 use Rattle.t85_core.specs.Steps.Pieces.{IsInCode}
 use Rattle.t85_core.specs.Steps.PieceStands.{last_behind}
@@ -15,7 +14,7 @@ use Rattle.t85_core.proofs.pieces.PieceDecoder.take_height.Goals as goal
 pub returns-then-gives_below-clause-leaves : goal.returns-then-gives_below-clause-leaves
 returns-then-gives_below-clause-leaves c = λ is_all.
     row_where is_all (decoder_lent c.args.self.now c.args.lent.now) (decoder_lent c.gives_below.new.self c.gives_below.new.lent) c.args.piece.now.rest.now c.args.piece.now.rest.now c.gives_below.ensures.keeps.header c.gives_below.ensures.keeps.going (λ some.
-    leaves_height (decoder_lent c.args.self.now c.args.lent.now) (decoder_lent c.gives_below.new.self c.gives_below.new.lent) c.requires.looks.0 c.requires.looks.1 c.min.result (c.gives_below.ensures.gives (search rules) some) c.args.height c.args.piece.now.rest.now c.args.rest.now c.requires.between c.requires.comes (let e = c.min.ensures in let left = c.saturating_sub-left.ensures in omega (arith, e, left)) is_all)
+    leaves_height (decoder_lent c.args.self.now c.args.lent.now) (decoder_lent c.gives_below.new.self c.gives_below.new.lent) (ap phase_is_open c.requires.looks.1) (ap phase_waits c.requires.looks.1) c.min.result (c.gives_below.ensures.gives (search rules) some) c.args.height c.args.piece.now.rest.now c.args.rest.now c.requires.between c.requires.comes (let e = c.min.ensures in let left = c.saturating_sub-left.ensures in omega (arith, e, left)) is_all)
 
 pub returns-then-ends_in_stripe-clause-leaves : goal.returns-then-ends_in_stripe-clause-leaves
 returns-then-ends_in_stripe-clause-leaves c = λ is_all.
@@ -27,11 +26,9 @@ returns-then-ends_in_stripe-clause-leaves c = λ is_all.
     let fits : c.args.self.now.walk.left - (c.args.self.now.image.header.yd - c.args.height) ≤ c.args.self.now.image.header.l0 = omega (arith, low, left) in
     let given = above.all code in
     let few : c.args.self.now.walk.left - (c.args.self.now.image.header.yd - c.args.height) ≤ stage_row c.args.self.now.walk.stage = omega (arith, c.min.ensures, left, fits, given) in
-    let ended = record (decoder_lent c.gives_below.new.self c.gives_below.new.lent) { height = c.args.height } in
-    leaves_done is_all (decoder_lent c.args.self.now c.args.lent.now) ended c.args.piece.now.rest.now c.args.rest.now c.args.height (ap (λ z. z.header) above.same) (ap (λ z. z.end) above.same) refl
-    (late_whole (decoder_lent c.args.self.now c.args.lent.now) c.coder_laws.ensures c.args.height c.args.piece.now.rest.now c.args.rest.now c.requires.looks.0 c.requires.looks.1 c.requires.between code c.requires.comes fits few is_all)
-    (late_consumed (decoder_lent c.args.self.now c.args.lent.now) c.coder_laws.ensures c.args.height c.args.piece.now.rest.now c.args.rest.now c.requires.looks.0 c.requires.looks.1 c.requires.between code c.requires.comes fits few ended is_all
-    (ap (λ z. z.is_open && z.waits) above.same ∙ ap (λ b. b && (phase_waits c.args.self.now.phase)) c.requires.looks.0 ∙ c.requires.looks.1))
+    leaves_done is_all (decoder_lent c.args.self.now c.args.lent.now) _ c.args.piece.now.rest.now c.args.rest.now c.args.height (ap (λ z. z.header) above.same) (ap (λ z. z.end) above.same) refl
+    (late_whole (decoder_lent c.args.self.now c.args.lent.now) c.coder_laws.ensures c.args.height c.args.piece.now.rest.now c.args.rest.now (ap phase_is_open c.requires.looks.1) (ap phase_waits c.requires.looks.1) c.requires.between code c.requires.comes fits few is_all)
+    (late_consumed (decoder_lent c.args.self.now c.args.lent.now) c.coder_laws.ensures c.args.height c.args.piece.now.rest.now c.args.rest.now (ap phase_is_open c.requires.looks.1) (ap phase_waits c.requires.looks.1) c.requires.between code c.requires.comes fits few (record (decoder_lent c.args.self.now c.args.lent.now) { is_open = true; waits = true }) is_all refl)
 
 pub returns-clause-leaves : goal.returns-clause-leaves
 returns-clause-leaves c = λ is_all.
@@ -43,9 +40,9 @@ returns-clause-leaves c = λ is_all.
     λ code.
     let more : c.args.self.now.image.header.l0 < c.saturating_sub-left.result = subst (λ z. z.header.l0 < c.saturating_sub-left.result) above.same (c.ends_in_stripe.ensures.no (search rules) (subst (λ z. IsInCode z.walk.stage) (sym above.same) code)) in
     omega (arith, more, left) in
-    let more = not_last (decoder_lent c.args.self.now c.args.lent.now) c.requires.looks.0 c.requires.looks.1 some (λ code. let n = over code in omega (arith, n)) in
+    let more = not_last (decoder_lent c.args.self.now c.args.lent.now) (ap phase_is_open c.requires.looks.1) (ap phase_waits c.requires.looks.1) some (λ code. let n = over code in omega (arith, n)) in
     let h = subst (λ z. HeadEntered z (decoder_lent c.enter_head.new.self c.enter_head.new.lent)) above.same (c.enter_head.ensures.head (subst (λ z. last_behind (fields_of z.header) z.walk.stage z.walk.left ≡ false) (sym above.same) more) (subst SomeStand (sym above.same) some)) in
     leaves_on is_all (decoder_lent c.args.self.now c.args.lent.now) _ c.args.piece.now.rest.now c.args.rest.now h.keeps.header h.keeps.going
-    (raised_on (decoder_lent c.args.self.now c.args.lent.now) (decoder_lent c.enter_head.new.self c.enter_head.new.lent) _ c.args.height c.args.piece.now.rest.now c.args.rest.now c.requires.looks.0 c.requires.looks.1 h c.requires.between c.requires.comes
-    (height_over (decoder_lent c.args.self.now c.args.lent.now) (decoder_lent c.enter_head.new.self c.enter_head.new.lent) c.args.height c.args.piece.now.rest.now c.args.rest.now c.requires.looks.0 c.requires.looks.1 some h c.requires.comes over)
+    (raised_on (decoder_lent c.args.self.now c.args.lent.now) (decoder_lent c.enter_head.new.self c.enter_head.new.lent) _ c.args.height c.args.piece.now.rest.now c.args.rest.now (ap phase_is_open c.requires.looks.1) (ap phase_waits c.requires.looks.1) h c.requires.between c.requires.comes
+    (height_over (decoder_lent c.args.self.now c.args.lent.now) (decoder_lent c.enter_head.new.self c.enter_head.new.lent) c.args.height c.args.piece.now.rest.now c.args.rest.now (ap phase_is_open c.requires.looks.1) (ap phase_waits c.requires.looks.1) some h c.requires.comes over)
     refl refl refl (ap (λ z. record (walk_lent c.enter_head.new.self.walk c.enter_head.new.lent) { left = z; given = true }) c.saturating_sub-self.ensures)))

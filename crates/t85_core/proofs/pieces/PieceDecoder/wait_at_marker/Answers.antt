@@ -1,5 +1,5 @@
 use Rattle.std.proofs.Common.{◌++◌, ◌∙◌, ap, refl, sym, subst, append-nil, inr}
-use Rattle.t85_core.specs.Phases.{phase_is_open}
+use Rattle.t85_core.specs.Phases.{phase_is_open, phase_waits}
 use Rattle.t85_core.specs.Options.{fields_of}
 use Rattle.t85_core.specs.Grammar.{marker_bytes}
 use Rattle.t85_core.specs.Steps.Pieces.{IsInCode, WalkStands}
@@ -12,10 +12,10 @@ use Rattle.t85_core.proofs.pieces.PieceDecoder.wait_at_marker.Goals as goal
 
 pub returns-in-Some-clause-on : goal.returns-in-Some-clause-on
 returns-in-Some-clause-on c = λ ahead unmarked stage rows learned text out s cut.
-    let w = code_of (decoder_view c.args.self.now rows learned) text out c.requires.in_code.0 c.requires.in_code.1 s in (
+    let w = code_of (decoder_view c.args.self.now rows learned) text out (ap phase_is_open c.requires.in_code) (ap phase_waits c.requires.in_code) s in (
       marker_bytes c.in-Some.reset,
       marker_split c.in-Some.reset c.args.piece.now.rest.now c.in-Some.ensures.some.0 c.split_at.result.1.now c.in-Some.ensures.some.1 c.split_at.ensures.back,
-      put_waits _ _ _ refl refl (known_open c.requires.in_code.0 (known_more (fields_of c.args.self.now.image.header) c.args.self.now.image.height (phase_is_open c.args.self.now.phase) text (marker_bytes c.in-Some.reset) s.height))
+      put_waits _ _ _ refl refl (known_open (ap phase_is_open c.requires.in_code) (known_more (fields_of c.args.self.now.image.header) c.args.self.now.image.height (phase_is_open c.args.self.now.phase) text (marker_bytes c.in-Some.reset) s.height))
           (waits_first (fields_of c.args.self.now.image.header) _ c.start.result _ _
           (subst (WalkStands (sized (fields_of c.args.self.now.image.header) c.args.self.now.image.header.yd) (walk_view c.read_ahead.new.self rows learned) (text ++ marker_bytes c.in-Some.reset)) (sym (append-nil out)) (subst (λ z. WalkStands (sized (fields_of c.args.self.now.image.header) c.args.self.now.image.header.yd) z (text ++ marker_bytes c.in-Some.reset) out) (sym (c.read_ahead.ensures.ahead stage rows learned)) (walk_ahead (fields_of c.args.self.now.image.header) c.args.self.now.image.header.yd (walk_view c.args.self.now.walk rows learned) text out c.in-Some.reset stage ahead unmarked w.walk)))
           (inr (subst IsInCode (sym (ap (λ z. z.stage) (c.read_ahead.ensures.ahead stage rows learned))) stage, (c.in-Some.reset, inr (ap (λ z. z.first) (c.read_ahead.ensures.ahead stage rows learned))))) (ap (λ z. z.given) (c.read_ahead.ensures.ahead stage rows learned) ∙ w.ungiven) (λ _. in_time_here c.in-Some.reset cut) (ap (λ b. b.at) c.start.ensures) (ap (λ b. b.comment) c.start.ensures)),
