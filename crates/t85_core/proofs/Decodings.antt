@@ -37,6 +37,7 @@ pub mod PieceNumbers
 pub mod PieceLook
 pub mod LookOver
 pub mod PieceCertain
+pub mod PieceCounts
 pub mod PieceBelow
 pub mod PieceOpen
 pub mod WalkDecoded

@@ -1,5 +1,5 @@
 -- The view of a decoder: its own numbers, and the memory that it borrows.
-use Rattle.std.specs.Prelude.{ℕ, ◌≡◌, Bool, ◌&&◌, List, Option}
+use Rattle.std.specs.Prelude.{ℕ, ◌≡◌, Bool, true, ◌&&◌, List, Option}
 use Rattle.qm_core.specs.declared.decoder.Decoder.{Decoder}
 use Rattle.qm_core.specs.Place.{Estimate}
 use Rattle.raster_core.specs.Packed.{Held, next_place}
@@ -14,6 +14,7 @@ use Rattle.t85_core.specs.declared.segments.atmove.Move.{Move}
 use Rattle.t85_core.specs.declared.pieces.End.{End}
 use Rattle.t85_core.specs.declared.pieces.PieceDecoder.{PieceDecoder}
 use Rattle.t85_core.specs.declared.pieces.head.Head.{Head}
+use Rattle.t85_core.specs.declared.pieces.walk.Stage.{Stage}
 use Rattle.t85_core.specs.declared.pieces.walk.Walk.{Walk}
 use Rattle.t85_core.specs.declared.pieces.code.InCode.{InCode}
 use Rattle.t85_core.specs.Phases.{phase_behind, phase_is_open, phase_waits}
@@ -59,21 +60,25 @@ pub record WalkView : Type 0 where
   pub first : Option Code
   pub marker : Option Bool
 
-abbrev pub walk_view : Walk → Held → List Estimate → WalkView
-walk_view w rows learned = record {
+-- the view of a walk that is at this stage
+abbrev pub stage_view : Walk → Stage → Held → List Estimate → WalkView
+stage_view w stage rows learned = record {
   carried = record { held = rows; kept = w.kept; learned = learned };
   decoder = w.decoder;
-  stage = stage_kind w.stage;
+  stage = stage_kind stage;
   entities = w.entities;
   left = w.left;
   given = w.given;
-  at = stage_move w.stage;
-  comment = stage_comment w.stage;
-  row = stage_row w.stage;
-  place = stage_place w.stage;
-  first = stage_first w.stage;
-  marker = stage_marker w.stage;
+  at = stage_move stage;
+  comment = stage_comment stage;
+  row = stage_row stage;
+  place = stage_place stage;
+  first = stage_first stage;
+  marker = stage_marker stage;
 }
+
+abbrev pub walk_view : Walk → Held → List Estimate → WalkView
+walk_view w rows learned = stage_view w w.stage rows learned
 
 abbrev pub walk_over : Walk → Window → List Estimate → WalkView
 walk_over w window learned = walk_view w (held window) learned
@@ -123,6 +128,10 @@ pub record PieceView : Type 0 where
 -- whether it waits for the bytes behind an end marker, or for a height before the first stripe
 abbrev pub waits_behind : PieceView → Bool
 waits_behind d = d.is_open && d.waits
+
+-- the same decoder, still behind an end marker with these marker segments
+abbrev pub waiting : Head → PieceView → PieceView
+waiting head d = record d { is_open = true; waits = true; behind = head }
 
 abbrev pub decoder_view : PieceDecoder → Held → List Estimate → PieceView
 decoder_view d rows learned = record {

@@ -1,6 +1,6 @@
 //! Decodes a stream that arrives in pieces, row by row.
 
-ghost use Rattle.std.specs.Prelude.{◌≡◌, ◌≤◌, [], List, None, IfSome, true, false};
+ghost use Rattle.std.specs.Prelude.{◌-◌, ◌*◌, ◌≡◌, ◌≤◌, [], List, None, IfSome, true, false};
 ghost use Rattle.qm_core.specs.Place.{Estimate};
 ghost use Rattle.raster_core.specs.Packed.{Held};
 ghost use Rattle.raster_core.specs.Window.{width_of};
@@ -86,6 +86,9 @@ pub struct PieceDecoder {
     ghost code: { phase ≡ phase_type.InCode → is_code walk.stage ≡ true },
     ghost first: { phase_looks phase ≡ true → image.height ≡ image.header.yd },
     ghost late: { phase ≡ phase_type.Late → is_done walk.stage ≡ true },
+    ghost going: { phase_looks phase ≡ true → is_done walk.stage ≡ false },
+    ghost none: { phase_looks phase ≡ true → is_code walk.stage ≡ false → walk.entities ≡ 0 },
+    ghost counts: { walk.left ≡ image.height - walk.entities * image.header.l0 },
 }
 
 impl PieceDecoder {
@@ -169,15 +172,11 @@ impl PieceDecoder {
             AreCertain (decoder_view self.now rows learned) result }
         ensures ended { IfSome self.now.end (λ _. result ≡ self.now.image.height) }
     {
-        if !self.phase.is_open() || self.end.is_some() {
+        if !self.phase.looks() || self.end.is_some() {
             return self.image.height;
         }
         // Each stripe that has begun contains a row of the image.
-        self.image
-            .header
-            .yd
-            .saturating_sub(self.walk.left)
-            .saturating_add(1)
+        self.image.header.yd - self.walk.left + 1
     }
 
     /// The current height: the header's, until another has arrived.

@@ -241,7 +241,7 @@ fn misuse_of_a_decoder_is_told(rt: HostRuntime) {
 }
 
 /// The number of ways in which `spoil` changes a struct.
-const WAYS: u32 = 18;
+const WAYS: u32 = 21;
 
 /// Changes a struct among the rows of a stream to one that no call leaves; there are several ways.
 fn spoil(decoder: &mut T85Decoder, way: u32) {
@@ -274,6 +274,9 @@ fn spoil(decoder: &mut T85Decoder, way: u32) {
         15 => numbers.waits = 2,
         16 => numbers.waits = 3,
         17 => numbers.height = 1,
+        18 => numbers.entities = 1,
+        19 => numbers.left = 0,
+        20 => numbers.left = 8,
         _ => {}
     }
 }

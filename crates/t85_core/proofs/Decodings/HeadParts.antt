@@ -13,7 +13,7 @@ use Rattle.t85_core.specs.declared.pieces.walk.Stage.TheVariants as stage
 use Rattle.t85_core.specs.declared.pieces.walk.Walk.{Walk}
 use Rattle.t85_core.specs.declared.segments.Code as code_type
 use Rattle.t85_core.specs.declared.segments.atmove.Move as move
-use Rattle.t85_core.specs.Lent.{Carried, WalkView, walk_view}
+use Rattle.t85_core.specs.Lent.{stage_view, Carried, WalkView, walk_view}
 use Rattle.t85_core.specs.Stages as kind
 use Rattle.t85_core.specs.Stages.{StartsCode, code_kind, head_kind, place_from}
 use Rattle.t85_core.specs.Header.{Fields}
@@ -33,7 +33,7 @@ use Rattle.t85_core.proofs.Decodings.PieceSteps.{on_same, walk_at, walk_with, at
 abbrev pub code_started : Walk → Held → List Estimate → Option move.Move → code_type.Code → WalkView
 code_started w rows learned at c = record (walk_view w rows learned) { stage = kind.Code; at = at; comment = 0; row = 0; place = place_from None; first = Some c; marker = None }
 
-pub started_view : (w : Walk) (rows : Held) (learned : List Estimate) {at : Option move.Move} {c : code_type.Code} {code : InCode} → StartsCode at c code → walk_view (record w { stage = stage.Code code }) rows learned ≡ code_started w rows learned at c
+pub started_view : (w : Walk) (rows : Held) (learned : List Estimate) {at : Option move.Move} {c : code_type.Code} {code : InCode} → StartsCode at c code → stage_view w (stage.Code code) rows learned ≡ code_started w rows learned at c
 started_view w rows learned s =
     λ i. record {
       carried = record { held = rows; kept = w.kept; learned = learned };
@@ -132,7 +132,7 @@ module _ {h : Fields} {height entities : ℕ} {given : Bool} {carried : Carried}
 -- ---- a walk there
 
 abbrev pub head_view : Walk → Held → List Estimate → Head → WalkView
-head_view w rows learned b = walk_view (record w { stage = stage.Head b }) rows learned
+head_view w rows learned b = stage_view w (stage.Head b) rows learned
 
 abbrev carried_with : Walk → Held → List Estimate → Carried
 carried_with w rows learned = record { held = rows; kept = w.kept; learned = learned }
@@ -187,7 +187,7 @@ module _ {h : Fields} {height : ℕ} (w : Walk) (rows : Held) (learned : List Es
     head_changes {p} {p'} q use_ n none valid legal other taken text out s = head_other (at_head s) q use_ p p' n none valid legal other taken
 
     -- the code
-    pub head_begins : {p p' : List ℕ} (c : code_type.Code) → IsByteOrMarker c → (d : Decoder) → DecoderIsAt d start [] → (code : InCode) → StartsCode b.at c code → p ≡ code_bytes c ++ p' → StepsOn (sized h height) (head_view w rows learned b) (walk_view (record w { decoder = d; stage = stage.Code code }) rows learned) p p' []
+    pub head_begins : {p p' : List ℕ} (c : code_type.Code) → IsByteOrMarker c → (d : Decoder) → DecoderIsAt d start [] → (code : InCode) → StartsCode b.at c code → p ≡ code_bytes c ++ p' → StepsOn (sized h height) (head_view w rows learned b) (stage_view (record w { decoder = d }) (stage.Code code) rows learned) p p' []
     head_begins {p} {p'} c is d stands code same taken =
         subst (λ z. StepsOn (sized h height) (head_view w rows learned b) z p p' []) (sym (started_view (record w { decoder = d }) rows learned same))
         (λ text out s. on_same h height (code_started (record w { decoder = d }) rows learned b.at c) text out p p' (code_bytes c) taken (walk_with s is tt (omega (arith, s.within)) (head_code (at_head s) c is d stands)))

@@ -1,5 +1,6 @@
 -- A decoder that is made of another one's numbers.
-use Rattle.std.proofs.Common.{◌≡◌, ◌≤◌, ◌<◌, ℕ, Bool, true, false, List, Option, Some, None, refl, sym, ap, ◌∙◌, subst, true≢false, arith}
+use Rattle.std.proofs.Common.{◌≡◌, ◌≤◌, ◌<◌, ◌+◌, ◌^◌, ℕ, Bool, true, false, List, Option, Some, None, refl, sym, ap, ◌∙◌, subst, true≢false, arith}
+use Rattle.std.specs.Prelude.{◌&&◌, ◌==◌, not}
 use Rattle.std.specs.Coded.{le_prop}
 use Rattle.std.specs.Int.{from_bool}
 use Rattle.std.proofs.lemmas.Bool.Decides.{nat_tests}
@@ -17,7 +18,7 @@ use Rattle.raster_core.specs.declared.shape.Kept.{Kept}
 use Rattle.raster_core.specs.declared.place.RowPlace.{RowPlace}
 use Rattle.t85_core.specs.Lent.{PieceView, WalkView, walk_view, decoder_view}
 use Rattle.t85_core.specs.declared.pieces.PieceDecoder.{PieceDecoder}
-use Rattle.t85_core.specs.Phases.{phase_behind, phase_is_open, phase_waits}
+use Rattle.t85_core.specs.Phases.{phase_behind, phase_is_open, phase_looks, phase_waits}
 use Rattle.t85_core.specs.declared.pieces.head.Head.{Head}
 use Rattle.t85_core.specs.declared.pieces.phase.Phase.{Phase}
 use Rattle.t85_core.specs.declared.pieces.phase.Phase.TheVariants as phase
@@ -26,7 +27,7 @@ use Rattle.t85_core.specs.declared.pieces.code.InCode.{InCode}
 use Rattle.t85_core.specs.declared.pieces.numbers.MoveNumbers.{MoveNumbers}
 use Rattle.t85_core.specs.declared.pieces.numbers.PieceNumbers.{PieceNumbers}
 use Rattle.t85_core.specs.declared.pieces.walk.Stage.{Stage}
-use Rattle.t85_core.specs.Stages.{Kind, stage_comment, stage_first, stage_kind, stage_marker, stage_move, stage_place, stage_row}
+use Rattle.t85_core.specs.Stages.{is_done, Kind, stage_comment, stage_first, stage_kind, stage_marker, stage_move, stage_place, stage_row}
 use Rattle.t85_core.specs.Stages as stage
 use Rattle.t85_core.specs.declared.segments.Code as code_type
 use Rattle.t85_core.specs.declared.segments.Code.TheVariants as code
@@ -82,6 +83,13 @@ open_of n phase.InCode k = k.0
 open_of n (phase.Behind head) k = k.0
 open_of n phase.Late k = k.0
 
+-- whether one may arrive
+pub looks_of : (n : PieceNumbers) (p : Phase) → ArePhaseNumbers n p → phase_looks p ≡ is_set n.is_open && not (n.waits == 2)
+looks_of n phase.Known k = sym (ap (λ b. b && not (n.waits == 2)) k)
+looks_of n phase.InCode k = λ i. sym (k.0) i && not (sym (k.1) i == 2)
+looks_of n (phase.Behind head) k = λ i. sym (k.0) i && not (sym (k.1) i == 2)
+looks_of n phase.Late k = λ i. sym (k.0) i && not (sym (k.1) i == 2)
+
 -- the phase of these numbers is the one that a test of them found
 pub closed_phase : (n : PieceNumbers) (p : Phase) → n.is_open ≡ 0 → ArePhaseNumbers n p → phase.Known ≡ p
 closed_phase n phase.Known zero k = refl
@@ -118,9 +126,9 @@ pub some_is : {A : Type 0} {a b : A} → Some a ≡ Some b → a ≡ b
 some_is {A} {a} e = ap (λ o. unwrap_or o a) e
 
 -- a walk of these numbers
-pub walk_numbers : (w : Walk) {n : PieceNumbers} {kept : Kept} {decoder going : Decoder} {stage : Stage} → AreWalkNumbers n w → kept.offset ≡ n.offset → kept.previous_typical ≡ is_set n.is_previous_typical → decoder ≡ going → (has_stopped w.decoder ≡ false → going ≡ w.decoder) → stage ≡ w.stage →
-    IsWalkAs w (record { kept = kept; decoder = decoder; stage = stage; entities = n.entities; left = n.left; given = is_set n.is_given })
-walk_numbers w {n} {kept} {decoder} k offset typical is same stage_is = record {
+pub walk_numbers : (w : Walk) {n : PieceNumbers} {kept : Kept} {decoder going : Decoder} {stage : Stage} → AreWalkNumbers n w → kept.offset ≡ n.offset → kept.previous_typical ≡ is_set n.is_previous_typical → decoder ≡ going → (has_stopped w.decoder ≡ false → going ≡ w.decoder) → stage ≡ w.stage → (few : n.entities + n.left < 2 ^ 32) → (some : is_done stage ≡ false → 1 ≤ n.left) →
+    IsWalkAs w (record { kept = kept; decoder = decoder; stage = stage; entities = n.entities; left = n.left; given = is_set n.is_given; few = few; some = some })
+walk_numbers w {n} {kept} {decoder} k offset typical is same stage_is few some = record {
   decoder_is = λ going. is ∙ same going;
   same =
       λ i. record {
@@ -130,6 +138,8 @@ walk_numbers w {n} {kept} {decoder} k offset typical is same stage_is = record {
         entities = k.entities_are i;
         left = k.left_is i;
         given = k.given_is i;
+        few = is_prop→PathP (λ j. k.entities_are j + k.left_is j < 2 ^ 32) (λ j. hlevel props) few w.few i;
+        some = is_prop→PathP (λ j. is_done (stage_is j) ≡ false → 1 ≤ k.left_is j) (λ j. hlevel props) some w.some i;
       };
 }
 

@@ -20,12 +20,20 @@ use Rattle.t85_core.specs.declared.segments.Code.{Code}
 use Rattle.t85_core.specs.declared.segments.Code.TheVariants as code
 use Rattle.t85_core.specs.declared.segments.atmove.Move.{Move}
 use Rattle.t85_core.specs.Steps.Segments.{IsByteOrMarker}
-use Rattle.t85_core.specs.Steps.Pieces.{CutOff, HeadStands, WalkStands, StageStands, StepsOn, StepsOff, StepsToEnd, Step, RowStep, RowLeaves, KeepsPlace, Turn, IsOver, CodeStands, IsInCode, rows_in, head_place, code_place}
+use Rattle.t85_core.specs.declared.pieces.walk.Walk.{Walk}
+use Rattle.t85_core.specs.Steps.Pieces.{CountsOn, KeepsStripes, CutOff, HeadStands, WalkStands, StageStands, StepsOn, StepsOff, StepsToEnd, Step, RowStep, RowLeaves, KeepsPlace, Turn, IsOver, CodeStands, IsInCode, rows_in, head_place, code_place}
 use Rattle.t85_core.specs.Steps.StripeEnds.{StripeEnds}
 use Rattle.t85_core.specs.Steps.SizedImage.{SizedImage, sized}
 use Rattle.t85_core.proofs.Walks.Passed.{passed_none}
 use Rattle.t85_core.proofs.Decodings.ImagePut.{stripes_start}
 use Rattle.t85_core.proofs.Bytes.Lengths.{more_stripes}
+
+-- the counts of stripe data entities and of rows left
+pub counts_kept : (image : SizedImage) (w w' : Walk) → KeepsStripes w w' → CountsOn image w w'
+counts_kept image w w' k e = k.1 ∙ e ∙ ap (λ n. image.height - n * image.fields.l0) (sym k.0)
+
+pub counts_then : (image : SizedImage) (w w' w'' : Walk) → CountsOn image w w' → CountsOn image w' w'' → CountsOn image w w''
+counts_then image w w' w'' one two e = two (one e)
 
 -- bytes were taken, and nothing was handed out
 pub on_same : (h : Fields) (height : ℕ) (w' : WalkView) (text out p p' given : List ℕ) → p ≡ given ++ p' → WalkStands (sized h height) w' (text ++ given) out →

@@ -22,17 +22,22 @@ use Rattle.t85_core.specs.Steps.Segments.{HasPassed, IsByteOrMarker, PieceFault,
 use Rattle.t85_core.specs.declared.fault.Fault.{Fault}
 use Rattle.t85_core.specs.declared.fault.Fault.TheVariants.{Truncated, Changed}
 use Rattle.t85_core.specs.declared.header.Header.{Header}
-use Rattle.t85_core.specs.Lent.{PieceView, WalkView, waits_behind}
+use Rattle.t85_core.specs.Lent.{decoder_view, PieceView, WalkView, waits_behind}
 use Rattle.t85_core.specs.declared.pieces.Outcome.{Outcome}
 use Rattle.t85_core.specs.declared.pieces.Outcome.TheVariants as outcome
 use Rattle.t85_core.specs.declared.pieces.head.Head.{Head}
-use Rattle.t85_core.specs.Stages.{head_start, Kind, comment_left, head_kind, is_done, place_from, stage_kind}
+use Rattle.t85_core.specs.Stages.{head_start, Kind, comment_left, head_kind, is_code, is_done, place_from, stage_kind}
 use Rattle.t85_core.specs.declared.pieces.walk.Stage.{Stage}
 use Rattle.t85_core.specs.declared.pieces.walk.Stage.TheVariants as stage_type
 use Rattle.t85_core.specs.Stages as stage
 use Rattle.t85_core.specs.Header.{Fields, is_variable}
 use Rattle.t85_core.specs.Options.{fields_of}
-use Rattle.t85_core.specs.Phases.{first_phase, phase_behind, phase_is_open, phase_waits}
+use Rattle.t85_core.specs.declared.pieces.PieceDecoder.{PieceDecoder}
+use Rattle.t85_core.specs.declared.pieces.phase.Phase.{Phase}
+use Rattle.t85_core.specs.declared.pieces.phase.Phase.TheVariants as phase
+use Rattle.raster_core.specs.Packed.{Held}
+use Rattle.qm_core.specs.Place.{Estimate}
+use Rattle.t85_core.specs.Phases.{first_phase, phase_behind, phase_is_open, phase_looks, phase_waits}
 use Rattle.t85_core.specs.Height.{GivesHeight, IsHeight}
 use Rattle.t85_core.specs.Laws.{IsInUse}
 use Rattle.t85_core.specs.Pieces.{AwaitsHeight, HasDecoded, HasHeight, HandsOut, HoldsImage, row_held, stripes_ended}
@@ -283,9 +288,7 @@ row_after d w late waits some code p' r leaves = (on_ok r _ (leaves.whole (marke
 
 -- a stripe ended
 pub stripe_ended : {d d' : PieceView} → d.is_open ≡ true → d.waits ≡ true → SomeStand d → KeepsDecoder d d' → StripeEnds (sized (fields_of d.header) d.header.yd) d.walk d'.walk → StripeLeft d d'
-stripe_ended {d} late waits some keeps ends =
-    let here = waits_of d some.0 some.1 late waits some.2 in
-    record { keeps = keeps; entities = ends.entities (here.done, some.1, here.walk); given = ends.next.1; at = ends.next.2; stage = ends.left; stands = ends.on; read = ends.read }
+stripe_ended late waits some keeps ends = record { keeps = keeps; entities = ends.entities; given = ends.next.1; at = ends.next.2; stage = ends.left; stands = ends.on; read = ends.read }
 
 -- ---- steps one after another
 
@@ -372,6 +375,37 @@ done_nowhere d late waits done some = elim (waits_of d some.0 some.1 late waits 
     | inr is ↦ (let e : stage.Row ≡ stage.Done = sym is ∙ done in let bot : ⊥ = cc in bot)
   ]
 ]
+
+-- the height is known at a position where none may arrive
+pub closed_of : (d : PieceDecoder) (rows : Held) (learned : List Estimate) (text out : List ℕ) → phase_looks d.phase ≡ false → DecoderStands (decoder_view d rows learned) text out → phase_is_open d.phase ≡ false
+closed_of d rows learned text out quiet s = by d.phase refl where
+  by : (p : Phase) → d.phase ≡ p → phase_is_open d.phase ≡ false
+  by phase.Known e = ap phase_is_open e
+  by phase.InCode e = absurd (true≢false (sym (ap phase_looks e) ∙ quiet))
+  by (phase.Behind head) e = absurd (true≢false (sym (ap phase_looks e) ∙ quiet))
+  by phase.Late e = absurd (done_nowhere (decoder_view d rows learned) (ap phase_is_open e) (ap phase_waits e) (done_kind d.walk.stage (d.late e)) (text, out, s))
+
+pub open_looks : (p : Phase) → phase_looks p ≡ true → phase_is_open p ≡ true
+open_looks phase.Known e = absurd (true≢false (sym e))
+open_looks phase.InCode e = refl
+open_looks (phase.Behind head) e = refl
+open_looks phase.Late e = refl
+
+-- a stage in a code
+pub code_is : (s : Stage) → IsInCode (stage_kind s) → is_code s ≡ true
+code_is (stage_type.Head head) code = by head.comment code where
+  by : (comment : Option ℕ) → IsInCode (head_kind comment) → false ≡ true
+  by None k = elim k [ inl e ↦ (let bot : ⊥ = cc in absurd bot) | inr e ↦ (let bot : ⊥ = cc in absurd bot) ]
+  by (Some left) k = elim k [ inl e ↦ (let bot : ⊥ = cc in absurd bot) | inr e ↦ (let bot : ⊥ = cc in absurd bot) ]
+code_is (stage_type.Code c) code = refl
+code_is stage_type.Done code = elim code [ inl e ↦ (let bot : ⊥ = cc in absurd bot) | inr e ↦ (let bot : ⊥ = cc in absurd bot) ]
+
+pub entities_more : (s : Kind) (n : ℕ) → n ≤ entities_behind s n
+entities_more stage.Head n = omega arith
+entities_more stage.Comment n = omega arith
+entities_more stage.Code n = omega arith
+entities_more stage.Row n = omega arith
+entities_more stage.Done n = omega arith
 
 -- ---- in the code
 

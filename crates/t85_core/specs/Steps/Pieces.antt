@@ -205,6 +205,14 @@ pub record KeepsPlace (w w' : WalkView) : Type 0 where
   pub given : w'.given ≡ w.given
   pub at : w'.at ≡ w.at
 
+-- the same stripe data entities are complete, and as many rows are left
+abbrev pub KeepsStripes : Walk → Walk → Type 0
+KeepsStripes w w' = (w'.entities ≡ w.entities) × (w'.left ≡ w.left)
+
+-- the rows left are still those behind the complete stripe data entities
+abbrev pub CountsOn : SizedImage → Walk → Walk → Type 0
+CountsOn image w w' = w.left ≡ image.height - w.entities * image.fields.l0 → w'.left ≡ image.height - w'.entities * image.fields.l0
+
 -- the code of a stripe has begun
 abbrev pub IsInCode : Kind → Type 0
 IsInCode s = (s ≡ stage.Code) ⊎ (s ≡ stage.Row)

@@ -4,7 +4,7 @@ use Rattle.t85_core.specs.Lent.{WalkView}
 use Rattle.t85_core.specs.Stages as stage
 use Rattle.t85_core.specs.Steps.DecodeStripes.{StripesRead}
 use Rattle.t85_core.specs.Steps.Passage.{passage}
-use Rattle.t85_core.specs.Steps.Pieces.{IsInCode, MarkerIs, SomeStands, WalkStands}
+use Rattle.t85_core.specs.Steps.Pieces.{IsInCode, MarkerIs, WalkStands}
 use Rattle.t85_core.specs.Steps.SizedImage.{SizedImage}
 
 -- A stripe ended, and the next one follows, or none.
@@ -14,7 +14,7 @@ pub record StripeEnds (image : SizedImage) (w w' : WalkView) : Type 0 where
       StripesRead image.fields image.height (passage (Some text) (Some []) (Some []) (Some out)) (w.entities + 1) (if w.given then 1 else 0) w'.carried
   pub left : image.fields.l0 < w.left → w'.stage ≡ stage.Head
   pub next : (w'.left ≡ w.left - image.fields.l0) × (w'.given ≡ w.given) × (w'.at ≡ None)
-  pub entities : SomeStands image w → w'.entities ≡ w.entities + 1
+  pub entities : w'.entities ≡ w.entities + 1
 
 -- It does, if this is its end marker, and it has all rows.
 abbrev pub EndsAtMarker : SizedImage → Bool → WalkView → WalkView → Type 0

@@ -13,7 +13,7 @@ mod stage;
 use crate::header::{Header, SizedImage};
 use crate::pieces::PieceDecoder;
 use crate::pieces::phase::Phase;
-use crate::pieces::walk::Walk;
+use crate::pieces::walk::{Stage, Walk};
 use qm_core::{Decoder, DecoderRegisters};
 use raster_core::{Kept, RowPlaceNumbers};
 
@@ -158,7 +158,11 @@ impl PieceNumbers {
         ensures all { (w : Walk) → AreWalkNumbers self.now w → IsSomeAnd result (IsWalkAs w) }
         ensures is { IfSome result (AreWalkNumbers self.now) }
     {
-        if self.offset > MOST_OFFSET {
+        if self.offset > MOST_OFFSET || self.left > u32::MAX - self.entities {
+            return None;
+        }
+        let stage = self.stage.stage()?;
+        if self.left == 0 && !matches!(stage, Stage::Done) {
             return None;
         }
         Some(Walk {
@@ -167,7 +171,7 @@ impl PieceNumbers {
                 previous_typical: self.is_previous_typical != 0,
             },
             decoder: Decoder::from_registers(self.decoder)?,
-            stage: self.stage.stage()?,
+            stage,
             entities: self.entities,
             left: self.left,
             given: self.is_given != 0,
@@ -228,20 +232,21 @@ impl PieceDecoder {
         }
         let walk = numbers.walk()?;
         let phase = numbers.phase()?;
+        let image = SizedImage {
+            header,
+            height: numbers.height,
+        };
         let fits = match phase {
             Phase::Known => true,
             Phase::InCode => walk.is_in_code() && numbers.height == header.yd,
-            Phase::Behind(_) => numbers.height == header.yd,
+            Phase::Behind(_) => walk.is_behind() && numbers.height == header.yd,
             Phase::Late => walk.is_done(),
         };
-        if !fits {
+        if !fits || !walk.fits(&image) {
             return None;
         }
         Some(PieceDecoder {
-            image: SizedImage {
-                header,
-                height: numbers.height,
-            },
+            image,
             walk,
             phase,
             end: None,

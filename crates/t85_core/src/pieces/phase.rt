@@ -3,7 +3,7 @@
 ghost use Rattle.std.specs.Prelude.{◌≡◌};
 ghost use Rattle.t85_core.specs.Header.{is_variable};
 ghost use Rattle.t85_core.specs.Options.{fields_of};
-ghost use Rattle.t85_core.specs.Phases.{first_phase, phase_behind, phase_is_open};
+ghost use Rattle.t85_core.specs.Phases.{first_phase, phase_behind, phase_is_open, phase_looks};
 
 use crate::header::Header;
 use crate::pieces::head::Head;
@@ -40,6 +40,17 @@ impl Phase {
     {
         match self {
             Phase::Known => false,
+            _ => true,
+        }
+    }
+
+    /// Whether a height may arrive.
+    pub fn looks(&self) -> bool
+        ensures { result ≡ phase_looks self.now }
+    {
+        match self {
+            Phase::Known => false,
+            Phase::Late => false,
             _ => true,
         }
     }

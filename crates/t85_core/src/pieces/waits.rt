@@ -41,9 +41,6 @@ impl PieceDecoder {
         ensures lowers { Lowers self.old self.new piece.old.rest.now piece.new.rest.now result }
         ensures lent { KeepsLent lent.old lent.new }
     {
-        if self.walk.entities == u32::MAX {
-            return Some(Outcome::Broken(Fault::Truncated));
-        }
         let is_last = self.is_last();
         let at = SegmentPlace {
             header: &self.image.header,
@@ -140,22 +137,23 @@ impl PieceDecoder {
         // The proof uses these laws of the coder.
         coder_laws();
         let fewer = self.image.header.yd - height;
-        let left = self.walk.left.saturating_sub(fewer);
+        let left = self.walk.left - fewer;
         if self.gives_below(lent, left.min(self.image.header.l0)) {
             return Some(Outcome::Row);
         }
         if self.ends_in_stripe(left) {
             piece.rest = rest;
-            self.walk.stage = Stage::Done;
             self.phase = Phase::Late;
+            self.walk.stage = Stage::Done;
+            self.walk.left = 0;
+            self.walk.entities += 1;
             self.image.height = height;
             return Some(Outcome::Done(height));
         }
         self.enter_head(lent);
         piece.rest = rest;
         self.walk.given = true;
-        self.walk.left = self.walk.left.saturating_sub(fewer);
-        self.phase = Phase::Known;
+        self.walk.left -= fewer;
         self.image.height = height;
         None
     }
@@ -183,9 +181,10 @@ impl PieceDecoder {
         if self.gives_below(lent, self.walk.left.min(self.image.header.l0)) {
             return Some(Outcome::Row);
         }
+        let at = self.phase.behind().at;
         self.enter_head(lent);
         piece.rest = rest;
-        self.walk.stage = Stage::Code(InCode::start(self.phase.behind().at, code));
+        self.walk.stage = Stage::Code(InCode::start(at, code));
         self.walk.decoder = Decoder::start();
         self.phase = Phase::InCode;
         None
@@ -236,7 +235,6 @@ impl PieceDecoder {
             return Outcome::Row;
         }
         self.end_stripe(lent);
-        self.phase = Phase::Known;
         Outcome::Done(self.image.height)
     }
 }

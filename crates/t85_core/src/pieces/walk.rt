@@ -1,21 +1,7 @@
 //! The position and state of decoding in a stream that arrives in pieces.
 
-ghost use Rattle.std.specs.Prelude.{◌≡◌, ◌≢◌, ◌≤◌, ◌<◌, ◌⊎◌, ◌++◌, [], ℕ, Bool, List, None, Ok, Some, length, min, true, false, IfErr, IfOk, OnOk};
-ghost use Rattle.qm_core.specs.Place.{Estimate};
-ghost use Rattle.raster_core.specs.Packed.{Held};
-ghost use Rattle.raster_core.specs.Window.{held, width_of};
-ghost use Rattle.t85_core.specs.Stages as stage;
-ghost use Rattle.t85_core.specs.declared.pieces.head.Head.{Head};
-ghost use Rattle.t85_core.specs.declared.pieces.walk.Stage.TheVariants as stage_type;
-ghost use Rattle.t85_core.specs.Lent.{KeepsLent, walk_view, walk_lent as over};
-ghost use Rattle.t85_core.specs.Steps.Buffers.{copies};
-ghost use Rattle.t85_core.specs.Steps.Pieces.{WalkStands, IsFirstWalk, Alone, HasAllRows, IsInCode, KeepsPlace, LeavesRow, MarkerIs, MarkerRead, RowIsLeft, RowStep, SomeStands, Step, Turn};
-ghost use Rattle.t85_core.specs.Steps.InTime.{ReachesMarker};
-ghost use Rattle.t85_core.specs.Stages.{is_code, is_done, stage_first, stage_kind, stage_marker, stage_row};
-ghost use Rattle.t85_core.specs.declared.fault.Fault.TheVariants.{Changed};
-ghost use Rattle.t85_core.specs.declared.segments.Code.TheVariants as code;
-ghost use Rattle.t85_core.specs.Steps.SizedImage.{sized_of};
-ghost use Rattle.t85_core.specs.Steps.StripeEnds.{EndsAtMarker};
+ghost use Rattle.std.specs.Prelude.{◌≡◌, ◌≤◌, ◌<◌, ◌+◌, ◌^◌, false};
+ghost use Rattle.t85_core.specs.Stages.{is_done};
 
 use crate::fault::Fault;
 use crate::header::SizedImage;
@@ -52,9 +38,28 @@ pub struct Walk {
     pub left: u32,
     /// Whether a NEWLEN gave a height.
     pub given: bool,
+    ghost few: { entities + left < 2 ^ 32 },
+    ghost some: { is_done stage ≡ false → 1 ≤ left },
 }
 
 impl Walk {
+    ghost use Rattle.std.specs.Prelude.{◌≡◌, ◌≢◌, ◌≤◌, ◌<◌, ◌⊎◌, ◌++◌, [], ℕ, Bool, List, None, Ok, Some, length, min, nat_eq, ◌+◌, ◌-◌, ◌*◌, true, false, IfErr, IfOk, OnOk};
+    ghost use Rattle.qm_core.specs.Place.{Estimate};
+    ghost use Rattle.raster_core.specs.Packed.{Held};
+    ghost use Rattle.raster_core.specs.Window.{held, width_of};
+    ghost use Rattle.t85_core.specs.Stages as stage;
+    ghost use Rattle.t85_core.specs.declared.pieces.head.Head.{Head};
+    ghost use Rattle.t85_core.specs.declared.pieces.walk.Stage.TheVariants as stage_type;
+    ghost use Rattle.t85_core.specs.Lent.{KeepsLent, walk_view, walk_lent as over};
+    ghost use Rattle.t85_core.specs.Steps.Buffers.{copies};
+    ghost use Rattle.t85_core.specs.Steps.Pieces.{WalkStands, IsFirstWalk, Alone, CountsOn, HasAllRows, IsInCode, KeepsStripes, KeepsPlace, LeavesRow, MarkerIs, MarkerRead, RowIsLeft, RowStep, SomeStands, Step, Turn};
+    ghost use Rattle.t85_core.specs.Steps.InTime.{ReachesMarker};
+    ghost use Rattle.t85_core.specs.Stages.{is_code, is_done, stage_first, stage_kind, stage_marker, stage_row};
+    ghost use Rattle.t85_core.specs.declared.fault.Fault.TheVariants.{Changed};
+    ghost use Rattle.t85_core.specs.declared.segments.Code.TheVariants as code;
+    ghost use Rattle.t85_core.specs.Steps.SizedImage.{sized_of};
+    ghost use Rattle.t85_core.specs.Steps.StripeEnds.{EndsAtMarker};
+
     /// The state before the first byte after the header. Makes the window white, and resets the contexts.
     pub fn start(image: &SizedImage, lent: &mut Lent<'_, '_>) -> Walk
         requires width { width_of lent.old.window.now ≡ image.now.header.xd }
@@ -86,6 +91,7 @@ impl Walk {
         ensures step { Turn (sized_of image.now) (over self.old lent.old)
             (over self.new lent.new) piece.old.rest.now piece.new.rest.now result }
         ensures code { result ≡ Ok true → (over self.new lent.new).stage ≡ stage.Code }
+        ensures counts { CountsOn (sized_of image.now) self.old self.new }
         ensures lent { KeepsLent lent.old lent.new }
     {
         'steps: loop {
@@ -112,8 +118,10 @@ impl Walk {
         head: Head,
         piece: &mut Piece<'_>,
     ) -> Result<(), Fault>
-        ensures step { self.old.stage ≡ stage_type.Head head → Alone (λ w w'. Step (sized_of
-            image.now) w w' piece.old.rest.now piece.new.rest.now result) self.old self.new }
+        requires head { self.old.stage ≡ stage_type.Head head }
+        ensures step { Alone (λ w w'. Step (sized_of image.now) w w' piece.old.rest.now
+            piece.new.rest.now result) self.old self.new }
+        ensures counts { KeepsStripes self.old self.new }
         ensures lowers { OnOk result (length piece.new.rest.now < length piece.old.rest.now) }
     {
         // The proof uses these laws of the coder.
@@ -149,6 +157,7 @@ impl Walk {
     }
 
     /// Whether the code of a stripe has begun.
+    #[inline(always)]
     pub fn is_in_code(&self) -> bool
         ensures is { result ≡ is_code self.now.stage }
         ensures yes { result ≡ true → IsInCode (stage_kind self.now.stage) }
@@ -161,12 +170,43 @@ impl Walk {
     }
 
     /// Whether the image is complete.
+    #[inline(always)]
     pub fn is_done(&self) -> bool
         ensures { result ≡ is_done self.now.stage }
     {
         match &self.stage {
             Stage::Done => true,
             _ => false,
+        }
+    }
+
+    /// Whether there may be marker segments here: behind the code of a stripe, or before the first one.
+    #[inline(always)]
+    pub fn is_behind(&self) -> bool
+        ensures going { result ≡ true → is_done self.now.stage ≡ false }
+        ensures none { result ≡ true → is_code self.now.stage ≡ false → self.now.entities ≡ 0 }
+        ensures all { is_done self.now.stage ≡ false →
+            (is_code self.now.stage ≡ false → self.now.entities ≡ 0) → result ≡ true }
+    {
+        match &self.stage {
+            Stage::Head(_) => self.entities == 0,
+            Stage::Code(_) => true,
+            Stage::Done => false,
+        }
+    }
+
+    /// Whether its counts are those of this image.
+    #[inline(always)]
+    pub fn fits(&self, image: &SizedImage) -> bool
+        ensures { result ≡ nat_eq self.now.left (image.now.height - self.now.entities *
+            image.now.header.l0) }
+    {
+        let before = u64::from(self.entities) * u64::from(image.header.l0);
+        let height = u64::from(image.height);
+        if before < height {
+            u64::from(self.left) == height - before
+        } else {
+            self.left == 0
         }
     }
 
@@ -200,6 +240,8 @@ impl Walk {
     pub fn read_ahead(&mut self, reset: bool)
         ensures ahead { IsInCode (stage_kind self.old.stage) → Alone (λ w w'. w' ≡ record w
             { first = Some (code.Marker reset); marker = None }) self.old self.new }
+        ensures stays { (is_code self.new.stage ≡ is_code self.old.stage) ×
+            KeepsStripes self.old self.new }
     {
         if let Stage::Code(code) = &mut self.stage {
             code.marker = None;
@@ -215,12 +257,13 @@ impl Walk {
         piece: &mut Piece<'_>,
     ) -> Result<(), Fault>
         requires left { RowIsLeft image.now.header.l0 (over self.old lent.old) }
-        ensures step { RowStep (sized_of image.now) (over self.old lent.old) (over self.new lent.new)
-            piece.old.rest.now piece.new.rest.now result }
-        ensures leaves { LeavesRow (sized_of image.now) (over self.old lent.old) (over self.new lent.new)
-            piece.old.rest.now piece.new.rest.now result }
+        ensures step { RowStep (sized_of image.now) (over self.old lent.old)
+            (over self.new lent.new) piece.old.rest.now piece.new.rest.now result }
+        ensures leaves { LeavesRow (sized_of image.now) (over self.old lent.old)
+            (over self.new lent.new) piece.old.rest.now piece.new.rest.now result }
         ensures code { OnOk result (stage_kind self.new.stage ≡ stage.Code) }
-        ensures stays { is_code self.new.stage ≡ is_code self.old.stage }
+        ensures stays { (is_code self.new.stage ≡ is_code self.old.stage) ×
+            KeepsStripes self.old self.new }
         ensures lent { KeepsLent lent.old lent.new }
     {
         match &mut self.stage {
@@ -235,20 +278,20 @@ impl Walk {
     /// resets. Reads the marker ahead. If it has not arrived yet, skips the bytes that have.
     pub fn find_end(&mut self, image: &SizedImage, piece: &mut Piece<'_>) -> Result<bool, Fault>
         requires all { HasAllRows image.now.header.l0 self.old }
-        ensures step { Alone (λ w w'. Step (sized_of
-            image.now) w w' piece.old.rest.now piece.new.rest.now result) self.old self.new }
-        ensures in_time { (MarkerRead (stage_marker
-            self.old.stage) (stage_first self.old.stage) → ⊥) → Alone (λ w w'. OnOk result
-            (ReachesMarker (sized_of image.now) w piece.old.rest.now piece.new.rest.now)) self.old
-            self.new }
-        ensures other { Alone (λ w w'. SomeStands
-            (sized_of image.now) w → IfErr result (λ f. f ≢ Changed)) self.old self.new }
-        ensures same { HasAllRows image.now.header.l0
-            self.new × Alone KeepsPlace self.old self.new }
+        ensures step { Alone (λ w w'. Step (sized_of image.now) w w' piece.old.rest.now
+            piece.new.rest.now result) self.old self.new }
+        ensures in_time { (MarkerRead (stage_marker self.old.stage) (stage_first self.old.stage) →
+            ⊥) → Alone (λ w w'. OnOk result (ReachesMarker (sized_of image.now) w
+            piece.old.rest.now piece.new.rest.now)) self.old self.new }
+        ensures other { Alone (λ w w'. SomeStands (sized_of image.now) w →
+            IfErr result (λ f. f ≢ Changed)) self.old self.new }
+        ensures same { HasAllRows image.now.header.l0 self.new ×
+            Alone KeepsPlace self.old self.new }
+        ensures counts { KeepsStripes self.old self.new }
         ensures marked { IfOk result (λ reset. MarkerIs reset (stage_marker self.new.stage)
             (stage_first self.new.stage)) }
-        ensures none { IfErr result (λ _. (stage_first
-            self.new.stage ≡ None) × (stage_marker self.new.stage ≡ None)) }
+        ensures none { IfErr result (λ _. (stage_first self.new.stage ≡ None) ×
+            (stage_marker self.new.stage ≡ None)) }
         ensures no_more { length piece.new.rest.now ≤ length piece.old.rest.now }
     {
         match &mut self.stage {
@@ -259,6 +302,9 @@ impl Walk {
 
     /// Prepares for the next stripe after the end marker of a code, all of whose rows are decoded.
     pub fn end_stripe(&mut self, image: &SizedImage, reset: bool, lent: &mut Lent<'_, '_>)
+        requires code { is_code self.old.stage ≡ true }
+        ensures counts { CountsOn (sized_of image.now) self.old self.new }
+        ensures one { self.new.entities ≡ self.old.entities + 1 }
         ensures ends { EndsAtMarker (sized_of image.now) reset (over self.old lent.old)
             (over self.new lent.new) }
         ensures stage { (self.new.stage ≡ stage_type.Done) ⊎ ((head : Head) ×
@@ -268,8 +314,8 @@ impl Walk {
         // The proof uses these laws of the coder.
         coder_laws();
         next_stripe(reset, lent.window, &mut self.kept, lent.learned);
-        self.entities = self.entities.saturating_add(1);
         self.left -= self.left.min(image.header.l0);
+        self.entities += 1;
         self.stage = if self.left == 0 {
             Stage::Done
         } else {

@@ -1,10 +1,9 @@
 use Rattle.std.proofs.Common.{◌∙◌, false, sym, ap, subst, refl, rules, arith}
-use Rattle.t85_core.specs.Phases.{phase_is_open, phase_waits}
+use Rattle.t85_core.specs.Phases.{phase_behind, phase_is_open, phase_waits}
 use Rattle.t85_core.specs.Options.{fields_of}
 use Rattle.t85_core.specs.Steps.Pieces.{IsInCode}
 use Rattle.t85_core.specs.Steps.PieceSteps.{SomeStand, StripeLeft, EndsConsumed, EndsWhole}
-use Rattle.t85_core.specs.Stages.{head_start}
-use Rattle.t85_core.specs.Lent.{decoder_lent, walk_lent}
+use Rattle.t85_core.specs.Lent.{decoder_lent, waiting, walk_lent}
 use Rattle.t85_core.proofs.Decodings.PieceStood.{leaves_done, row_where, done_where, waits_of}
 use Rattle.t85_core.proofs.Decodings.LookOver.{look_consumed, look_whole}
 use Rattle.t85_core.proofs.Decodings.PieceLook.{in_last, own_first}
@@ -20,8 +19,8 @@ pub returns-clause-leaves : goal.returns-clause-leaves
 returns-clause-leaves c =
     let d = decoder_lent c.args.self.now c.args.lent.now in
     let p = c.args.piece.now.rest.now in
-    let left = decoder_lent c.end_stripe.new.self c.end_stripe.new.lent in
-    let ended = record (decoder_lent c.end_stripe.new.self c.end_stripe.new.lent) { is_open = false; waits = false; behind = head_start } in
+    let left = waiting (phase_behind c.gives_below.new.self.phase) (decoder_lent c.end_stripe.new.self c.end_stripe.new.lent) in
+    let ended = decoder_lent c.end_stripe.new.self c.end_stripe.new.lent in
     let above = c.gives_below.ensures.stays (search rules) in
     let keeps = c.end_stripe.ensures.keeps in
     done_where c.args.is_all d ended p p (keeps.header ∙ ap (λ z. z.header) above.same) (keeps.going ∙ ap (λ z. z.end) above.same) c.end_stripe.new.self.image.height refl (λ some.
@@ -31,4 +30,4 @@ returns-clause-leaves c =
     let height = sym (e.keeps.height ∙ own_first d (ap phase_is_open c.requires.looks.1) some) in
     leaves_done c.args.is_all d ended p p _ e.keeps.header e.keeps.going refl
     (subst (EndsWhole c.args.is_all d p) height (look_whole d left p c.args.is_all c.coder_laws.ensures (ap phase_is_open c.requires.looks.1) (ap phase_waits c.requires.looks.1) c.requires.last (c.requires.over some) e))
-    (subst (EndsConsumed c.args.is_all d ended p p) height (look_consumed d left p c.args.is_all c.coder_laws.ensures (ap phase_is_open c.requires.looks.1) (ap phase_waits c.requires.looks.1) c.requires.last (c.requires.over some) e ended refl)))
+    (subst (EndsConsumed c.args.is_all d ended p p) height (look_consumed d left p c.args.is_all c.coder_laws.ensures (ap phase_is_open c.requires.looks.1) (ap phase_waits c.requires.looks.1) c.requires.last (c.requires.over some) e ended (ap phase_waits c.end_stripe.ensures.phase))))

@@ -1,4 +1,4 @@
-use Rattle.std.proofs.Common.{Some, ap, refl, subst, sym, true, rules, arith}
+use Rattle.std.proofs.Common.{Some, ap, refl, subst, sym, true, rules}
 use Rattle.t85_core.specs.Options.{fields_of}
 use Rattle.t85_core.specs.Phases.{phase_behind, phase_is_open, phase_waits}
 use Rattle.t85_core.specs.declared.pieces.Outcome.TheVariants as outcome
@@ -6,7 +6,7 @@ use Rattle.t85_core.specs.Steps.Behind.{StopsBehind, behind_at}
 use Rattle.t85_core.specs.Steps.PieceStands.{last_behind}
 use Rattle.t85_core.specs.Stages.{stage_kind}
 use Rattle.t85_core.specs.Lent.{decoder_lent}
-use Rattle.t85_core.proofs.Decodings.PieceStood.{leaves_after, leaves_more, on_none, fewer_after, leaves_nowhere, waits_few}
+use Rattle.t85_core.proofs.Decodings.PieceStood.{leaves_after, leaves_more, on_none, fewer_after}
 use Rattle.t85_core.specs.declared.fault.Fault.TheVariants.{Truncated}
 use Rattle.t85_core.proofs.Decodings.PieceLook.{passed_behind}
 use Rattle.t85_core.proofs.Decodings.PieceOpen.{still_open}
@@ -31,10 +31,3 @@ returns-then-is_open_end-clause-leaves c =
 
 pub returns-else-is_open_end-clause-leaves : goal.returns-else-is_open_end-clause-leaves
 returns-else-is_open_end-clause-leaves c = leaves_after c.args.is_all (decoder_lent c.args.self.now c.args.lent.now) _ (decoder_lent c.stop_behind.new.self c.stop_behind.new.lent) c.args.piece.now.rest.now c.pass-found.new.piece.rest.now c.pass-found.new.piece.rest.now refl refl (passed_behind (decoder_lent c.args.self.now c.args.lent.now) _ c.args.head c.pass-found.new.self c.args.piece.now.rest.now c.pass-found.new.piece.rest.now _ _ (ap phase_is_open c.requires.looks) (ap phase_waits c.requires.looks) (ap phase_behind c.requires.looks) refl refl refl refl refl refl c.place_behind.ensures c.is_last-is_last.ensures (c.pass-found.ensures.on c.place_behind.result.given)) (Some c.stop_behind.result) c.stop_behind.ensures.leaves
-
-pub returns-then-self-clause-leaves : goal.returns-then-self-clause-leaves
-returns-then-self-clause-leaves c =
-    leaves_nowhere c.args.is_all (decoder_lent c.args.self.now c.args.lent.now) (decoder_lent c.args.self.now c.args.lent.now) c.args.piece.now.rest.now c.args.piece.now.rest.now refl refl Truncated (λ some. let few = waits_few (decoder_lent c.args.self.now c.args.lent.now) (ap phase_is_open c.requires.looks) (ap phase_waits c.requires.looks) some in omega (arith, few, c.if-self.true))
-
-pub returns-then-self-clause-lowers : goal.returns-then-self-clause-lowers
-returns-then-self-clause-lowers c = λ e. absurd (let bot : ⊥ = cc in bot)

@@ -1,5 +1,5 @@
-use Rattle.std.proofs.Common.{◌++◌, ◌∙◌, ap, refl, sym, subst, append-nil, inr}
-use Rattle.t85_core.specs.Phases.{phase_is_open, phase_waits}
+use Rattle.std.proofs.Common.{true≢false, true, ◌*◌, ◌-◌, ◌≡◌, ◌++◌, ◌∙◌, ap, refl, sym, subst, append-nil, inr}
+use Rattle.t85_core.specs.Phases.{phase_is_open, phase_looks, phase_waits}
 use Rattle.t85_core.specs.Options.{fields_of}
 use Rattle.t85_core.specs.Grammar.{marker_bytes}
 use Rattle.t85_core.specs.Steps.Pieces.{IsInCode, WalkStands}
@@ -7,6 +7,8 @@ use Rattle.t85_core.specs.Steps.SizedImage.{sized}
 use Rattle.t85_core.specs.Lent.{decoder_view, walk_view}
 use Rattle.t85_core.proofs.Decodings.Entities.{none_of}
 use Rattle.t85_core.proofs.Decodings.PieceInTime.{in_time_here}
+use Rattle.t85_core.specs.Stages.{is_code}
+use Rattle.t85_core.proofs.Decodings.PieceCounts.{code_not_done}
 use Rattle.t85_core.proofs.Decodings.PieceStood.{known_open, code_of, on_none, put_waits, waits_first, walk_ahead, known_more, marker_split}
 use Rattle.t85_core.proofs.pieces.PieceDecoder.wait_at_marker.Goals as goal
 
@@ -29,3 +31,16 @@ returns-in_default-clause-marked c = λ reset rest is. absurd (c.marker_at.ensur
 
 pub returns-in_default-clause-on : goal.returns-in_default-clause-on
 returns-in_default-clause-on c = λ ahead unmarked stage rows learned text out s cut. on_none (decoder_view c.args.self.now rows learned) (decoder_view c.args.self.now rows learned) c.args.piece.now.rest.now (λ text out s. s) text out s
+
+pub invariant_of-self : goal.invariant_of-self
+invariant_of-self c =
+    let here : is_code c.read_ahead.new.self.stage ≡ true = c.read_ahead.ensures.stays.0 ∙ c.args.self.now.code c.requires.in_code in
+    let counts = c.read_ahead.ensures.stays.1 in
+    record {
+      code = λ e. absurd (let bot : ⊥ = cc in bot);
+      first = λ _. c.args.self.now.first (ap phase_looks c.requires.in_code);
+      late = λ e. absurd (let bot : ⊥ = cc in bot);
+      going = λ _. code_not_done c.read_ahead.new.self.stage here;
+      none = λ _ outside. absurd (true≢false (sym here ∙ outside));
+      counts = counts.1 ∙ c.args.self.now.counts ∙ ap (λ n. c.args.self.now.image.height - n * c.args.self.now.image.header.l0) (sym counts.0);
+    }

@@ -10,4 +10,4 @@ returns-in_err-from_registers-clause-all c = λ w k.
 pub returns-clause-all : goal.returns-clause-all
 returns-clause-all c = λ w k.
     let going = resumed_decoder w.decoder in
-    walk_numbers w k refl refl (some_is (c.in_ok-from_registers.ensures.same going.0 going.1 (k.decoder_is ∙ going.2))) going.3 (some_is (c.in_ok-stage.ensures.all w.stage k.stage_is))
+    walk_numbers w k refl refl (some_is (c.in_ok-from_registers.ensures.same going.0 going.1 (k.decoder_is ∙ going.2))) going.3 (some_is (c.in_ok-stage.ensures.all w.stage k.stage_is)) _ _

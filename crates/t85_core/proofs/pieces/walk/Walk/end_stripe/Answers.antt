@@ -1,6 +1,6 @@
 use Rattle.std.proofs.Common.{cond, ◌≡◌, ◌+◌, ◌-◌, ◌*◌, ◌++◌, ◌≤◌, [], List, ℕ, Some, inl, inr, min, refl, ap, sym, subst, append-nil, ◌∙◌, arith}
 use Rattle.raster_core.specs.Window.{held}
-use Rattle.t85_core.specs.Lent.{WalkView, carried_by, walk_lent, walk_over}
+use Rattle.t85_core.specs.Lent.{WalkView, carried_by, stage_view, walk_lent}
 use Rattle.t85_core.specs.Options.{fields_of}
 use Rattle.t85_core.specs.Stages.{Kind, head_start, stage_kind, stage_row, stage_first, stage_marker}
 use Rattle.t85_core.specs.Stages as kind
@@ -24,20 +24,13 @@ use Rattle.t85_core.proofs.pieces.walk.Walk.end_stripe.Goals.{then-self-eq0, els
 use Rattle.t85_core.proofs.pieces.walk.Walk.end_stripe.Goals as goal
 
 -- the view before, and after, at this stage
-abbrev before : goal.After-self-3-1 → WalkView
+abbrev before : goal.After-self-1 → WalkView
 before c = walk_lent c.args.self.now c.args.lent.now
 
-abbrev there : goal.After-self-3-1 → Stage → ℕ → WalkView
-there c st entities = walk_over (record c.args.self.now { kept = c.next_stripe.new.kept; stage = st; entities = entities; left = c.args.self.now.left - c.min.result }) c.next_stripe.new.window c.next_stripe.new.learned
+abbrev there : goal.After-self-1 → Stage → ℕ → WalkView
+there c st entities = record (stage_view c.args.self.now st (held c.next_stripe.new.window) c.next_stripe.new.learned) { carried = carried_by c.next_stripe.new.window c.next_stripe.new.kept c.next_stripe.new.learned; entities = entities; left = c.args.self.now.left - c.min.result }
 
-module _ (c : goal.After-self-3-1) (code : IsInCode (stage_kind c.args.self.now.stage)) (all : min c.args.self.now.left c.args.image.now.header.l0 ≤ stage_row c.args.self.now.stage) (marker : MarkerIs c.args.reset (stage_marker c.args.self.now.stage) (stage_first c.args.self.now.stage)) where
-  few : {text out : List ℕ} → WalkStands (sized (fields_of c.args.image.now.header) c.args.image.now.height) (before c) text out → c.saturating_add-self.result ≡ c.args.self.now.entities + 1
-  few {text} {out} s =
-      let few = walk_few (fields_of c.args.image.now.header) c.args.image.now.height (before c) text out c.args.image.now.header.some_rows code s in
-      let most = few_rows c.args.image.now in
-      let sum = c.saturating_add-self.ensures in
-      omega (arith, few, most, sum)
-
+module _ (c : goal.After-self-1) (code : IsInCode (stage_kind c.args.self.now.stage)) (all : min c.args.self.now.left c.args.image.now.header.l0 ≤ stage_row c.args.self.now.stage) (marker : MarkerIs c.args.reset (stage_marker c.args.self.now.stage) (stage_first c.args.self.now.stage)) where
   module _ {text out : List ℕ} (s : WalkStands (sized (fields_of c.args.image.now.header) c.args.image.now.height) (before c) text out) where
     between : stage_kind c.args.self.now.stage ≡ kind.Code
     between = elim code [
@@ -63,16 +56,16 @@ module _ (c : goal.After-self-3-1) (code : IsInCode (stage_kind c.args.self.now.
 
     -- a walk there
     stands_there : (k : Kind) → StageStands k (sized (fields_of c.args.image.now.header) c.args.image.now.height) (record (there c stage.Done (c.args.self.now.entities + 1)) { stage = k }) text out →
-        WalkStands (sized (fields_of c.args.image.now.header) c.args.image.now.height) (record (there c stage.Done c.saturating_add-self.result) { stage = k }) text out
+        WalkStands (sized (fields_of c.args.image.now.header) c.args.image.now.height) (record (there c stage.Done (c.args.self.now.entities + 1)) { stage = k }) text out
     stands_there k stands =
-        subst (λ n. WalkStands (sized (fields_of c.args.image.now.header) c.args.image.now.height) (record (there c stage.Done n) { stage = k }) text out) (sym (few s)) (record {
+        record {
           left_is = left_is;
           width_is = c.next_stripe.ensures.window.0.0 ∙ s.width_is;
           code_is = tt;
           behind = tt;
           within = omega (arith, s.within);
           stands = stands;
-        })
+        }
 
     carries : (last : RowStart) → IsCarried last (carried_by c.args.lent.now.window.now c.args.self.now.kept c.args.lent.now.learned.now) → IsCarried (first_row_start (next_stripe_start (fields_of c.args.image.now.header).xd c.args.reset last)) (carried_by c.next_stripe.new.window c.next_stripe.new.kept c.next_stripe.new.learned)
     carries = kept_wide (held c.args.lent.now.window.now).width (fields_of c.args.image.now.header).xd c.args.reset (carried_by c.args.lent.now.window.now c.args.self.now.kept c.args.lent.now.learned.now) (carried_by c.next_stripe.new.window c.next_stripe.new.kept c.next_stripe.new.learned) s.width_is c.next_stripe.ensures.next
@@ -84,7 +77,7 @@ module _ (c : goal.After-self-3-1) (code : IsInCode (stage_kind c.args.self.now.
         (whole k c.coder_laws.ensures (in_use c.args.image.now) (rows_all between s all) [] [] c.args.reset m (carried_by c.next_stripe.new.window c.next_stripe.new.kept c.next_stripe.new.learned) (carries k.read.last k.read.is_carried))
 
     -- it was the last
-    done : c.args.self.now.left - c.min.result ≡ 0 → WalkStands (sized (fields_of c.args.image.now.header) c.args.image.now.height) (there c stage.Done c.saturating_add-self.result) text out
+    done : c.args.self.now.left - c.min.result ≡ 0 → WalkStands (sized (fields_of c.args.image.now.header) c.args.image.now.height) (there c stage.Done (c.args.self.now.entities + 1)) text out
     done none =
         let left : c.args.self.now.left ≡ c.args.image.now.height - c.args.self.now.entities * c.args.image.now.header.l0 = s.left_is in
         let times : (c.args.self.now.entities + 1) * c.args.image.now.header.l0 ≡ c.args.self.now.entities * c.args.image.now.header.l0 + c.args.image.now.header.l0 = omega arith in
@@ -95,7 +88,7 @@ module _ (c : goal.After-self-3-1) (code : IsInCode (stage_kind c.args.self.now.
         (stripe_last k c.coder_laws.ensures (in_use c.args.image.now) (rows_all between s all) [] [] c.args.reset m (carried_by c.next_stripe.new.window c.next_stripe.new.kept c.next_stripe.new.learned) (carries k.read.last k.read.is_carried) last))
 
     -- another one follows
-    goes_on : (c.args.self.now.left - c.min.result ≡ 0 → ⊥) → WalkStands (sized (fields_of c.args.image.now.header) c.args.image.now.height) (there c (stage.Head head_start) c.saturating_add-self.result) text out
+    goes_on : (c.args.self.now.left - c.min.result ≡ 0 → ⊥) → WalkStands (sized (fields_of c.args.image.now.header) c.args.image.now.height) (there c (stage.Head head_start) (c.args.self.now.entities + 1)) text out
     goes_on some =
         let left : c.args.self.now.left ≡ c.args.image.now.height - c.args.self.now.entities * c.args.image.now.header.l0 = s.left_is in
         let times : (c.args.self.now.entities + 1) * c.args.image.now.header.l0 ≡ c.args.self.now.entities * c.args.image.now.header.l0 + c.args.image.now.header.l0 = omega arith in
@@ -107,18 +100,18 @@ module _ (c : goal.After-self-3-1) (code : IsInCode (stage_kind c.args.self.now.
 
 pub returns-clause-ends : goal.returns-clause-ends
 returns-clause-ends c = λ code all marker. elim c.if-self-eq0.branch [
-  | then-self-eq0 w ↦ subst (λ z. StripeEnds (sized (fields_of c.args.image.now.header) c.args.image.now.height) (before c) (there c z c.saturating_add-self.result)) (sym w.self-is) (record {
+  | then-self-eq0 w ↦ subst (λ z. StripeEnds (sized (fields_of c.args.image.now.header) c.args.image.now.height) (before c) (there c z (c.args.self.now.entities + 1))) (sym w.self-is) (record {
     on = λ text out s. done c code all marker s w.if-self-eq0.true;
     read = λ text out s. came c code all marker s;
     left = λ more. absurd (let none = w.if-self-eq0.true in let min_is = c.min.ensures in omega (arith, none, min_is, more));
     next = ((let min_is = c.min.ensures in omega (arith, min_is)), refl, refl);
-    entities = λ some. few c code all marker some.2;
+    entities = refl;
   })
-  | else-self-eq0 w ↦ subst (λ z. StripeEnds (sized (fields_of c.args.image.now.header) c.args.image.now.height) (before c) (there c z c.saturating_add-self.result)) (sym (w.self-is ∙ ap stage.Head w.start.ensures)) (record {
+  | else-self-eq0 w ↦ subst (λ z. StripeEnds (sized (fields_of c.args.image.now.header) c.args.image.now.height) (before c) (there c z (c.args.self.now.entities + 1))) (sym (w.self-is ∙ ap stage.Head w.start.ensures)) (record {
     on = λ text out s. goes_on c code all marker s w.if-self-eq0.false;
     read = λ text out s. came c code all marker s;
     left = λ more. refl;
     next = ((let min_is = c.min.ensures in omega (arith, min_is)), refl, refl);
-    entities = λ some. few c code all marker some.2;
+    entities = refl;
   })
 ]

@@ -3,27 +3,30 @@ use Rattle.raster_core.specs.Window.{held}
 use Rattle.t85_core.specs.Options.{fields_of}
 use Rattle.t85_core.specs.Lent.{walk_lent}
 use Rattle.t85_core.specs.Stages.{stage_kind, stage_row}
+use Rattle.t85_core.specs.Steps.SizedImage.{sized}
 use Rattle.t85_core.specs.Steps.Pieces.{HasAllRows, IsInCode, RowIsLeft}
-use Rattle.t85_core.proofs.Decodings.PieceSteps.{ends_on, in_code_of, on_then, off_then, stays, turn_exit, turn_row}
+use Rattle.t85_core.proofs.Decodings.PieceSteps.{counts_kept, counts_then, ends_on, in_code_of, on_then, off_then, stays, turn_exit, turn_row}
 use Rattle.t85_core.proofs.pieces.walk.Walk.next.Goals as goal
 
 pub steps-init : goal.steps-init
 steps-init c = record {
   lends = (refl, refl, (refl, refl));
+  counts = λ e. e;
   so_far = stays (fields_of c.args.image.now.header) c.args.image.now.height (walk_lent c.args.self.now c.args.lent.now) c.args.piece.now.rest.now;
 }
 
 pub steps-preserved-in-Continue-1 : goal.steps-preserved-in-Continue-1
 steps-preserved-in-Continue-1 c =
-    let step = c.in_ok-read_head-in-Head.ensures.step c.in-Head.is (held c.steps.lent.window.now) c.steps.lent.learned.now in
+    let step = c.in_ok-read_head-in-Head.ensures.step (held c.steps.lent.window.now) c.steps.lent.learned.now in
     record {
       lends = c.steps.invariant.lends;
+      counts = counts_then (sized (fields_of c.args.image.now.header) c.args.image.now.height) c.args.self.now c.steps.self c.read_head.new.self c.steps.invariant.counts (counts_kept (sized (fields_of c.args.image.now.header) c.args.image.now.height) c.steps.self c.read_head.new.self c.read_head.ensures.counts);
       so_far = on_then (fields_of c.args.image.now.header) c.args.image.now.height (walk_lent c.args.self.now c.args.lent.now) (walk_lent c.steps.self c.steps.lent) c.args.piece.now.rest.now c.steps.piece.rest.now c.steps.invariant.so_far (walk_lent c.read_head.new.self c.steps.lent) c.read_head.new.piece.rest.now [] step.ok;
     }
 
 pub returns-in_err-read_head-in-Head-clause-step : goal.returns-in_err-read_head-in-Head-clause-step
 returns-in_err-read_head-in-Head-clause-step c =
-    let step = c.in_err-read_head-in-Head.ensures.step c.in-Head.is (held c.steps.lent.window.now) c.steps.lent.learned.now in
+    let step = c.in_err-read_head-in-Head.ensures.step (held c.steps.lent.window.now) c.steps.lent.learned.now in
     turn_exit (fields_of c.args.image.now.header) c.args.image.now.height (walk_lent c.args.self.now c.args.lent.now) (walk_lent c.read_head.new.self c.steps.lent) c.args.piece.now.rest.now c.read_head.new.piece.rest.now c.from_residual.result _ c.from_residual.ensures.1
     (off_then (fields_of c.args.image.now.header) c.args.image.now.height (walk_lent c.args.self.now c.args.lent.now) (walk_lent c.steps.self c.steps.lent) c.args.piece.now.rest.now c.steps.piece.rest.now c.steps.invariant.so_far _ step.err)
     (λ e. let m = step.more (ap Err e) in (on_then (fields_of c.args.image.now.header) c.args.image.now.height (walk_lent c.args.self.now c.args.lent.now) (walk_lent c.steps.self c.steps.lent) c.args.piece.now.rest.now c.steps.piece.rest.now c.steps.invariant.so_far (walk_lent c.read_head.new.self c.steps.lent) c.read_head.new.piece.rest.now [] m.0, m.1))
@@ -66,8 +69,21 @@ steps-preserved c =
     let was = c.steps.invariant.lends in
     record {
       lends = (now.0 ∙ was.0, now.1 ∙ was.1, (now.2.0 ∙ was.2.0, now.2.1 ∙ was.2.1));
+      counts = counts_then (sized (fields_of c.args.image.now.header) c.args.image.now.height) c.args.self.now c.steps.self c.end_stripe.new.self c.steps.invariant.counts (counts_then (sized (fields_of c.args.image.now.header) c.args.image.now.height) c.steps.self c.find_end.new.self c.end_stripe.new.self (counts_kept (sized (fields_of c.args.image.now.header) c.args.image.now.height) c.steps.self c.find_end.new.self c.find_end.ensures.counts) c.end_stripe.ensures.counts);
       so_far =
           on_then (fields_of c.args.image.now.header) c.args.image.now.height (walk_lent c.args.self.now c.args.lent.now) (walk_lent c.find_end.new.self c.steps.lent) c.args.piece.now.rest.now c.find_end.new.piece.rest.now
           (on_then (fields_of c.args.image.now.header) c.args.image.now.height (walk_lent c.args.self.now c.args.lent.now) (walk_lent c.steps.self c.steps.lent) c.args.piece.now.rest.now c.steps.piece.rest.now c.steps.invariant.so_far (walk_lent c.find_end.new.self c.steps.lent) c.find_end.new.piece.rest.now [] step.ok)
           (walk_lent c.end_stripe.new.self c.end_stripe.new.lent) c.find_end.new.piece.rest.now [] (ends_on c.find_end.new.piece.rest.now (c.end_stripe.ensures.ends still.0 still.1 c.in_ok-reset-in-Code.ensures.marked));
     }
+
+pub returns-in_err-read_head-in-Head-clause-counts : goal.returns-in_err-read_head-in-Head-clause-counts
+returns-in_err-read_head-in-Head-clause-counts c = counts_then (sized (fields_of c.args.image.now.header) c.args.image.now.height) c.args.self.now c.steps.self c.read_head.new.self c.steps.invariant.counts (counts_kept (sized (fields_of c.args.image.now.header) c.args.image.now.height) c.steps.self c.read_head.new.self c.read_head.ensures.counts)
+
+pub returns-in_err-next_row-in-Code-clause-counts : goal.returns-in_err-next_row-in-Code-clause-counts
+returns-in_err-next_row-in-Code-clause-counts c = counts_then (sized (fields_of c.args.image.now.header) c.args.image.now.height) c.args.self.now c.steps.self c.next_row.new.self c.steps.invariant.counts (counts_kept (sized (fields_of c.args.image.now.header) c.args.image.now.height) c.steps.self c.next_row.new.self c.next_row.ensures.stays.1)
+
+pub returns-then-code-min-clause-counts : goal.returns-then-code-min-clause-counts
+returns-then-code-min-clause-counts c = counts_then (sized (fields_of c.args.image.now.header) c.args.image.now.height) c.args.self.now c.steps.self c.next_row.new.self c.steps.invariant.counts (counts_kept (sized (fields_of c.args.image.now.header) c.args.image.now.height) c.steps.self c.next_row.new.self c.next_row.ensures.stays.1)
+
+pub returns-in_err-reset-in-Code-clause-counts : goal.returns-in_err-reset-in-Code-clause-counts
+returns-in_err-reset-in-Code-clause-counts c = counts_then (sized (fields_of c.args.image.now.header) c.args.image.now.height) c.args.self.now c.steps.self c.find_end.new.self c.steps.invariant.counts (counts_kept (sized (fields_of c.args.image.now.header) c.args.image.now.height) c.steps.self c.find_end.new.self c.find_end.ensures.counts)

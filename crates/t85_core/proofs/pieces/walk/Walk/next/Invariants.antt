@@ -3,13 +3,14 @@ use Rattle.t85_core.specs.Lent.{KeepsLent, walk_lent}
 use Rattle.t85_core.specs.Options.{fields_of}
 use Rattle.t85_core.specs.declared.pieces.walk.Stage.{Stage}
 use Rattle.t85_core.specs.declared.pieces.walk.Stage.TheVariants as stage
-use Rattle.t85_core.specs.Steps.Pieces.{StepsOn}
+use Rattle.t85_core.specs.Steps.Pieces.{CountsOn, StepsOn}
 use Rattle.t85_core.specs.Steps.SizedImage.{sized}
 use Rattle.t85_core.proofs.pieces.walk.Walk.next.Given as goal
 
 abbrev pub invariant-steps : goal.invariant-steps
 invariant-steps l = record {
   lends : KeepsLent l.fn.lent l.lent;
+  counts : CountsOn (sized (fields_of l.image.header) l.image.height) l.fn.self l.self;
   so_far : StepsOn (sized (fields_of l.image.header) l.image.height) (walk_lent l.fn.self l.fn.lent) (walk_lent l.self l.lent) l.fn.piece.rest.now l.piece.rest.now [];
 }
 

@@ -1,6 +1,7 @@
 use Rattle.std.proofs.Common.{ap, subst}
+use Rattle.raster_core.specs.Window.{held}
 use Rattle.t85_core.specs.Options.{fields_of}
-use Rattle.t85_core.specs.Lent.{walk_lent}
+use Rattle.t85_core.specs.Lent.{stage_view}
 use Rattle.t85_core.specs.Stages.{code_kind}
 use Rattle.t85_core.specs.Steps.Pieces.{WalkStands}
 use Rattle.t85_core.specs.Steps.SizedImage.{sized}
@@ -9,7 +10,7 @@ use Rattle.t85_core.proofs.pieces.walk.Walk.repeat_rows.Goals as goal
 pub returns-in-Code-clause-on : goal.returns-in-Code-clause-on
 returns-in-Code-clause-on c = λ text out w.
     c.repeat.ensures.on (record { entities = c.args.self.now.entities; left = c.args.self.now.left; given = c.args.self.now.given }) text out c.min-rows.ensures
-    (subst (λ z. WalkStands (sized (fields_of c.args.image.now.header) c.args.image.now.height) (walk_lent (record c.args.self.now { stage = z }) c.args.lent.now) text out) c.in-Code.is w)
+    (subst (λ z. WalkStands (sized (fields_of c.args.image.now.header) c.args.image.now.height) (stage_view c.args.self.now z (held c.args.lent.now.window.now) c.args.lent.now.learned.now) text out) c.in-Code.is w)
 
 pub returns-in-Code-clause-code : goal.returns-in-Code-clause-code
 returns-in-Code-clause-code c = λ some. ap code_kind (c.repeat.ensures.begun some)
