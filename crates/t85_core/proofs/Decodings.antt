@@ -23,12 +23,12 @@ pub mod PieceRows
 pub mod PieceMarker
 pub mod PieceHead
 pub mod PieceSteps
+pub mod PieceTurns
 pub mod PieceWalk
 pub mod PieceGiven
 pub mod PieceHeights
 pub mod PieceBehind
 pub mod HeadParts
-pub mod PieceAhead
 pub mod PieceLate
 pub mod PieceInTime
 pub mod PieceStood

@@ -25,6 +25,7 @@ pub mod Written
 pub mod Looked
 pub mod Sent
 pub mod RowStream
+pub mod RowTurns
 pub mod ByRow
 pub mod RowLaws
 pub mod MostBytes

@@ -11,7 +11,7 @@ ghost use Rattle.t85_core.specs.Steps.Buffers.{ReadsOn, WritesOn, reading};
 ghost use Rattle.t85_core.specs.Steps.Views.{text_taken, passage_of, WritesBehind};
 ghost use Rattle.t85_core.specs.Steps.Passage.{passage};
 ghost use Rattle.t85_core.specs.Steps.DecodeStripes.{ImageRead, ImageCut, ImageUnwritten};
-ghost use Rattle.t85_core.specs.Steps.Pieces.{WalkStands};
+ghost use Rattle.t85_core.specs.Steps.Pieces.{SomeStands, WalkStands};
 ghost use Rattle.t85_core.specs.Steps.SizedImage.{sized_of};
 ghost use Rattle.t85_core.specs.Steps.Reading.{HeldTurn, ReadTurn, RowsTurn, SameSource, still_left};
 ghost use Rattle.t85_core.specs.Failures.{CountsBoth, SameOutput};
@@ -219,7 +219,8 @@ fn next_row<S: HeldSource>(
 ) -> Result<bool, Fault>
     ensures turn { ReadTurn (sized_of image.now) (over walk.old lent.old)
         (over walk.new lent.new) (S.view stream.old) (S.view stream.new) result }
-    ensures code { result ≡ Ok true → (over walk.new lent.new).stage ≡ stage.Code }
+    ensures code { SomeStands (sized_of image.now) (over walk.old lent.old) → result ≡ Ok true →
+        (over walk.new lent.new).stage ≡ stage.Code }
 {
     'turns: loop {
         match turn_held(image, walk, lent, stream) {
@@ -244,7 +245,8 @@ fn turn_held<S: HeldSource>(
     ensures still { still_left (S.view stream.new) (S.bytes stream.new) ≡
         still_left (S.view stream.old) (S.bytes stream.old) }
     ensures same { SameSource (S.view stream.old) (S.view stream.new) }
-    ensures code { result ≡ Ok true → (over walk.new lent.new).stage ≡ stage.Code }
+    ensures code { SomeStands (sized_of image.now) (over walk.old lent.old) → result ≡ Ok true →
+        (over walk.new lent.new).stage ≡ stage.Code }
 {
     let mut piece = Piece {
         rest: stream.held(),

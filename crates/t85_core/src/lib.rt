@@ -29,6 +29,6 @@ pub use options::Options;
 pub use parts::{Found, Part, PartKind, PartWalk};
 pub use pieces::held::HeldBytes;
 pub use pieces::numbers::{HeadNumbers, MoveNumbers, PieceNumbers, StageNumbers};
-pub use pieces::steps::marker_at;
 pub use pieces::{More, Outcome, PieceDecoder, Progress};
+pub use segments::marker_at;
 pub use summary::{Summary, info, summarize};

@@ -1,6 +1,6 @@
 //! Parses the marker segments of a stripe, and the bytes of its code (T.82, 6.2).
 
-ghost use Rattle.std.specs.Prelude.{◌≡◌, ◌≤◌, ◌-◌, ◌^◌, ◌<◌, ◌++◌, ◌∷◌, [], List, ℕ, length, OnOk, IfOk, IfErr, Some, false, true};
+ghost use Rattle.std.specs.Prelude.{◌≡◌, ◌≤◌, ◌-◌, ◌^◌, ◌<◌, ◌++◌, ◌∷◌, [], Bool, List, ℕ, length, OnOk, IfOk, IfErr, IfSome, None, Some, false, true};
 ghost use Rattle.std.specs.Io.KnownBytes.{Consumes};
 ghost use Rattle.byteorder.specs.Endian.{big_bytes};
 ghost use Rattle.t85_core.specs.declared.fault.Fault.TheVariants.{Truncated};
@@ -8,7 +8,7 @@ ghost use Rattle.t85_core.specs.Options.{fields_of};
 ghost use Rattle.t85_core.specs.Steps.Buffers.{ReadsOn};
 ghost use Rattle.t85_core.specs.Failures.{Ends};
 ghost use Rattle.t85_core.specs.Refusal.{move_fault, comment_fault};
-ghost use Rattle.t85_core.specs.Grammar.{NewLength};
+ghost use Rattle.t85_core.specs.Grammar.{NewLength, marker_bytes};
 ghost use Rattle.t85_core.specs.Steps.Segments.{code_bytes, IsByteOrMarker, PieceFault, Passes, PassesSegments, SegmentsFault, PassesCode, RestFault, CodeFault};
 
 mod atmove;
@@ -284,4 +284,18 @@ pub fn number<S: ByteSource>(stream: &mut S) -> Result<u32, Fault>
     let c = stream.next()?;
     let d = stream.next()?;
     Ok(BigEndian::read_u32(&[a, b, c, d]))
+}
+
+/// The end marker (SDNORM or SDRST) at the beginning of these bytes: whether it resets the contexts (T.82, 6.2.5).
+pub fn marker_at(bytes: &[u8]) -> Option<bool>
+    ensures some { IfSome result (λ reset. (rest : List ℕ) ×
+        (bytes.now ≡ marker_bytes reset ++ rest)) }
+    ensures none { result ≡ None → (reset : Bool) (rest : List ℕ) →
+        bytes.now ≡ marker_bytes reset ++ rest → ⊥ }
+{
+    match bytes {
+        [ESCAPE, SDNORM, ..] => Some(false),
+        [ESCAPE, SDRST, ..] => Some(true),
+        _ => None,
+    }
 }

@@ -55,10 +55,6 @@ pub map_if_ok : {T E : Type 0} (r : Result T E) {P Q : T → Type 0} → ((x : T
 map_if_ok (Ok x) k p = k x p
 map_if_ok (Err e) k p = tt
 
-pub if_err : {T E : Type 0} (r : Result T E) {P Q S : E → Type 0} → ((e : E) → P e → Q e → S e) → IfErr r P → IfErr r Q → IfErr r S
-if_err (Ok x) k p q = tt
-if_err (Err e) k p q = k e p q
-
 pub always : {T E : Type 0} (r : Result T E) {P : Type 0} → P → OnOk r P
 always (Ok x) p = p
 always (Err e) p = tt

@@ -62,10 +62,6 @@ last_right [] y ys = refl
 last_right (x ∷ []) y ys = refl
 last_right (x ∷ z ∷ xs) y ys = last_right (z ∷ xs) y ys
 
-last_end : (xs : List ℕ) (y : ℕ) → last_of (xs ++ y ∷ []) ≡ y
-unfolding last_of
-last_end xs y = last_right xs y []
-
 stuffed_last : (code : List ℕ) → last_of (stuffed code) ≡ 255 → ⊥
 unfolding last_of
 stuffed_last [] e = absurd (omega arith)
@@ -86,6 +82,3 @@ stuffed_last (b ∷ c ∷ code) e = stuffed_last (c ∷ code) (went (stuff_cases
         last_of (stuffed (c ∷ code)) ≡ 255
     went (inl p) is = from 255 (0 ∷ (stuffed code ++ [])) (is ∙ ap (λ z. z ++ (stuffed code ++ [])) p.1)
     went (inr p) is = from c (stuffed code ++ []) (is ∙ ap (λ z. z ++ (stuffed code ++ [])) p.1)
-
-pub no_escape_last : (code x : List ℕ) → stuffed code ≡ x ++ 255 ∷ [] → ⊥
-no_escape_last code x e = stuffed_last code (ap last_of e ∙ last_end x 255)

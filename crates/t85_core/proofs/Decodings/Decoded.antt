@@ -28,11 +28,14 @@ use Rattle.t85_core.proofs.Grammar.Faults.{body_faults, uncounted_body}
 use Rattle.t85_core.proofs.Theorems.FixedRows.{one_fixed_at}
 use Rattle.t85_core.proofs.Bytes.Known.{stable_rest, counted-other}
 use Rattle.t85_core.proofs.Theorems.OneRaster.{one_raster_at}
-use Rattle.t85_core.proofs.Decodings.Entities.{consumes_front}
 use Rattle.t85_core.proofs.Decodings.Firsts.{pbm_of}
 use Rattle.t85_core.proofs.Bytes.HeldBack.{beginning_handed}
 use Rattle.t85_core.proofs.Walks.Passed.{Consumes-none}
 use Rattle.t85_core.proofs.Bytes.Streams.{Appends-more, Consumes-more, beginning_after, beginning_longer, longer_or_all}
+
+consumes_front : (known : Option (List ℕ)) (front : List ℕ) → Consumes (prepend_known front known) known front
+consumes_front None front = tt
+consumes_front (Some known) front = refl
 
 -- fixed rows stay so, whatever bytes follow, unless the end is the error
 pub fixes_more : (h : Fields) (height : ℕ) (given more : List ℕ) (fault : Fault) (rows : List (List Bool)) → Fixes h height given fault rows → (fault ≡ Truncated) ⊎ Fixes h height (given ++ more) fault rows

@@ -1,6 +1,5 @@
 -- A data entity, pull by pull.
-use Rattle.std.proofs.Common.{◌≡◌, ◌≤◌, ◌⊎◌, inl, inr, ℕ, List, [], ◌∷◌, length, Option, None, Some, refl, sym, ◌∙◌, subst, arith}
-use Rattle.std.specs.Io.KnownBytes.{Consumes, prepend_known}
+use Rattle.std.proofs.Common.{◌≡◌, ◌≤◌, ◌⊎◌, inl, inr, ℕ, List, [], ◌∷◌, ◌++◌, length, Option, None, Some, refl, sym, ap, ◌∙◌, subst, append_assoc, arith}
 use Rattle.qm_core.specs.Code.{stuffed}
 use Rattle.qm_core.specs.Source.{bytes_of, heard_of, IsClosed, Pulls, Gives}
 use Rattle.qm_core.specs.declared.source.Pulled.{Pulled}
@@ -8,32 +7,24 @@ use Rattle.qm_core.specs.declared.source.Pulled.TheVariants.{Byte, End, Fault}
 use Rattle.qm_core.specs.declared.source.Heard.{Heard}
 use Rattle.qm_core.specs.declared.source.Heard.TheVariants.{More, Ended, Stopped}
 use Rattle.t85_core.specs.declared.segments.Code.{Code}
-use Rattle.t85_core.specs.Steps.Entity.{EntityView, GivesByte, GivesEnd, GivesFault, EntityGives}
-use Rattle.t85_core.proofs.Walks.Passed.{Consumes-none}
-use Rattle.t85_core.proofs.Bytes.Streams.{Consumes-more}
+use Rattle.t85_core.specs.Steps.Entity.{EntityView, GivesByte, GivesEnd, GivesFault, StopsAtMarker, EntityGives}
 use Rattle.t85_core.proofs.Bytes.Stuffing.{stuffed_append}
-
-pub consumes_front : (known : Option (List ℕ)) (front : List ℕ) → Consumes (prepend_known front known) known front
-consumes_front None front = tt
-consumes_front (Some known) front = refl
 
 -- ---- pulls
 
 -- the code went on over these bytes
 pub record WentOn (s t : EntityView) (bytes : List ℕ) : Type 0 where
-  pub taken : Consumes s.known t.known (stuffed bytes)
-  pub reads : t.reads ≡ s.reads
+  pub taken : s.left ≡ stuffed bytes ++ t.left
   pub marker : t.marker ≡ None
   pub fault : t.fault ≡ None
   pub begun : ((1 ≤ length bytes) × (t.first ≡ None)) ⊎ ((bytes ≡ []) × (t.first ≡ s.first))
-  pub source : t.source ≡ s.source
-  pub input : t.input ≡ s.input
+  pub waits : t.waits ≡ s.waits
 
 -- what the last answer was, after the bytes
 abbrev pub LastIs : {T : Type 0} → (T → EntityView) → T → Heard → T → Type 0
 LastIs standing mid More t = mid ≡ t
-LastIs standing mid Ended t = GivesEnd (standing mid) (standing t) × ((standing t).source ≡ (standing mid).source) × ((standing t).input ≡ (standing mid).input)
-LastIs standing mid Stopped t = GivesFault (standing mid) (standing t) × ((standing t).source ≡ (standing mid).source) × ((standing t).input ≡ (standing mid).input)
+LastIs standing mid Ended t = GivesEnd (standing mid) (standing t)
+LastIs standing mid Stopped t = GivesFault (standing mid) (standing t) ⊎ StopsAtMarker (standing mid) (standing t)
 
 -- answers are bytes, and then nothing, an end or a fault
 pub record Parted {T : Type 0} (standing : T → EntityView) (s : T) (answers : List Pulled) (t : T) : Type 0 where
@@ -46,7 +37,7 @@ module _ {T : Type 0} (standing : T → EntityView) (failed : T → ℕ) where
   Pull = Pulls (λ a x b. EntityGives (standing a) x (standing b)) failed
 
   stays : (s : T) → (standing s).marker ≡ None → (standing s).fault ≡ None → WentOn (standing s) (standing s) []
-  stays s marker fault = record { taken = Consumes-none (standing s).known; reads = refl; marker = marker; fault = fault; begun = inr (refl, refl); source = refl; input = refl }
+  stays s marker fault = record { taken = refl; marker = marker; fault = fault; begun = inr (refl, refl); waits = refl }
 
   pub pulls_part : (answers : List Pulled) (s t : T) → IsClosed answers → (standing s).marker ≡ None → (standing s).fault ≡ None → Gives Pull s answers t → Parted standing s answers t
   pulls_part [] s t closed marker fault gives = record { mid = s; went = stays s marker fault; last = gives }
@@ -57,13 +48,11 @@ module _ {T : Type 0} (standing : T → EntityView) (failed : T → ℕ) where
       record {
         mid = rest.mid;
         went = record {
-          taken = subst (Consumes (standing s).known (standing rest.mid).known) (sym (stuffed_append (b ∷ []) (bytes_of answers))) (Consumes-more (standing s).known (standing next).known (standing rest.mid).known (stuffed (b ∷ [])) (stuffed (bytes_of answers)) here.taken rest.went.taken);
-          reads = rest.went.reads ∙ here.reads;
+          taken = here.taken ∙ ap (λ z. stuffed (b ∷ []) ++ z) rest.went.taken ∙ sym (append_assoc (stuffed (b ∷ [])) (stuffed (bytes_of answers)) (standing rest.mid).left) ∙ ap (λ z. z ++ (standing rest.mid).left) (sym (stuffed_append (b ∷ []) (bytes_of answers)));
           marker = rest.went.marker;
           fault = rest.went.fault;
           begun = inl (omega arith, first_none (standing rest.mid).first (standing next).first rest.went.begun here.begun);
-          source = rest.went.source ∙ gives.1.step.same_source;
-          input = rest.went.input ∙ gives.1.step.same_input;
+          waits = rest.went.waits ∙ gives.1.step.same_waits;
         };
         last = rest.last;
       } where
@@ -73,13 +62,13 @@ module _ {T : Type 0} (standing : T → EntityView) (failed : T → ℕ) where
   pulls_part (End ∷ []) s t closed marker fault gives = record {
     mid = s;
     went = stays s marker fault;
-    last = subst (λ z. GivesEnd (standing s) (standing z) × ((standing z).source ≡ (standing s).source) × ((standing z).input ≡ (standing s).input)) gives.2 (gives.1.step.gives marker fault, gives.1.step.same_source, gives.1.step.same_input);
+    last = subst (λ z. GivesEnd (standing s) (standing z)) gives.2 (gives.1.step.gives marker fault);
   }
   pulls_part (End ∷ x ∷ answers) s t closed marker fault gives = absurd (let bot : ⊥ = cc in bot)
   pulls_part (Fault ∷ []) s t closed marker fault gives = record {
     mid = s;
     went = stays s marker fault;
-    last = subst (λ z. GivesFault (standing s) (standing z) × ((standing z).source ≡ (standing s).source) × ((standing z).input ≡ (standing s).input)) gives.2 (gives.1.step.gives marker fault, gives.1.step.same_source, gives.1.step.same_input);
+    last = subst (λ z. GivesFault (standing s) (standing z) ⊎ StopsAtMarker (standing s) (standing z)) gives.2 (gives.1.step.gives marker fault);
   }
   pulls_part (Fault ∷ x ∷ answers) s t closed marker fault gives = absurd (let bot : ⊥ = cc in bot)
 

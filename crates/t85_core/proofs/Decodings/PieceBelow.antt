@@ -1,47 +1,42 @@
 -- Rows that waited at an end marker: no height that may come is below them.
-use Rattle.std.proofs.Common.{cond, ◌≡◌, ◌≢◌, ◌<◌, ◌≤◌, ◌+◌, ◌-◌, ◌*◌, ◌⊎◌, inl, inr, ℕ, Bool, true, false, List, [], ◌∷◌, ◌++◌, length, drop, nat_le, count_by, Option, None, Some, refl, sym, ap, ◌∙◌, subst, append_assoc, append-nil, length-append, arith}
+use Rattle.std.proofs.Common.{cond, ◌≡◌, ◌≢◌, ◌<◌, ◌≤◌, ◌+◌, ◌-◌, ◌*◌, ◌⊎◌, inl, inr, ℕ, Bool, true, false, List, [], ◌∷◌, ◌++◌, length, nat_le, count_by, Option, None, Some, refl, sym, ap, ◌∙◌, subst, append_assoc, append-nil, length-append, arith}
 use Rattle.std.specs.Prelude.{flat_map, is_some}
-use Rattle.std.specs.List.{AllByRecursion}
 use Rattle.std.proofs.lemmas.Bool.{cases_lt}
 use Rattle.std.proofs.lemmas.Bool.Decides.{nat_tests}
 use Rattle.byteorder.specs.Endian.{big_bytes}
-use Rattle.qm_core.specs.Code.{stuffed}
 use Rattle.t85_core.specs.declared.fault.Fault.{Fault}
 use Rattle.t85_core.specs.declared.fault.Fault.TheVariants.{Truncated, Changed}
 use Rattle.t85_core.specs.Lent.{PieceView, WalkView}
 use Rattle.t85_core.specs.declared.pieces.Outcome.TheVariants as outcome
-use Rattle.t85_core.specs.Stages as stage
 use Rattle.t85_core.specs.declared.segments.Code as code_type
 use Rattle.t85_core.specs.declared.segments.Code.TheVariants as code
 use Rattle.t85_core.specs.declared.segments.atmove.Move as move
 use Rattle.t85_core.specs.declared.segments.Place.{Place}
 use Rattle.t85_core.specs.Header.{Fields, IsAccepted}
 use Rattle.t85_core.specs.Options.{fields_of}
-use Rattle.t85_core.specs.Grammar.{NewLength, Stripe, ESC, COMMENT, segment_bytes, stripe_bytes, marker_bytes, stripe_count, all_segments, lengths, is_move, is_valid_length}
+use Rattle.t85_core.specs.Grammar.{NewLength, ESC, COMMENT, segment_bytes, stripe_bytes, stripe_count, all_segments, lengths, is_move, is_valid_length}
 use Rattle.t85_core.specs.Refusal.{StripeFault, rest_fault}
 use Rattle.t85_core.specs.Height.{GivesHeight, IsHeight}
 use Rattle.t85_core.specs.Pieces.{MayFollow, row_held, rows_given}
 use Rattle.t85_core.specs.Steps.Segments.{HasPassed, PieceFault, IsByteOrMarker, code_bytes, segments_so_far}
 use Rattle.t85_core.specs.Steps.HeightWalk.{LookEnds}
 use Rattle.t85_core.specs.Steps.Behind.{BehindStands, BreaksBehind, StopsBehind, behind_at}
-use Rattle.t85_core.specs.Steps.PieceCode.{HasNoMarker}
-use Rattle.t85_core.specs.Steps.Pieces.{WalkStands, StepsOn, KeepsPlace, IsInCode, HasMarker, CodeStands, InRowStands, head_place, code_place}
+use Rattle.t85_core.specs.Steps.Pieces.{WalkStands, IsInCode, HasMarker, CodeStands, InRowStands, head_place, code_place}
 use Rattle.t85_core.specs.Steps.SizedImage.{sized}
-use Rattle.t85_core.specs.Steps.PieceStands.{DecoderStands, CodeWalks, WalkWaits, place_behind, last_behind}
+use Rattle.t85_core.specs.Steps.PieceStands.{DecoderStands, WalkWaits, place_behind, last_behind}
 use Rattle.t85_core.specs.Steps.PieceSteps.{DecoderOn, StepLeaves, GivesBelow, HeightComes, LookIsOver}
 use Rattle.t85_core.proofs.Bytes.Known.{stable_rest}
-use Rattle.t85_core.proofs.Bytes.Stuffing.{stuffed_append}
 use Rattle.t85_core.proofs.Bytes.Lengths.{gives_none}
 use Rattle.t85_core.proofs.Walks.Segments.{comment_cut}
-use Rattle.t85_core.proofs.Grammar.Cut.{spot_of, one_front, one_stripe_fault, begun_in_stripe}
+use Rattle.t85_core.proofs.Grammar.Cut.{spot_of, one_stripe_fault}
 use Rattle.t85_core.proofs.Grammar.Heights.{never_suits, given_breaks, none_left, one_height_of}
 use Rattle.t85_core.proofs.Grammar.SomeHeight.{height_of_ended}
 use Rattle.t85_core.proofs.Decodings.PieceBehind.{front_is, part_of}
-use Rattle.t85_core.proofs.Decodings.PieceCertain.{StripesCame, CodeBegins, EntityBegun, IsOpenCode, IsWholeCode, code_begins, entity_opened, entity_closed, whole_stripe, came_before, same_tail, came_gives, after_more, least_below, tail_of}
+use Rattle.t85_core.proofs.Decodings.PieceCertain.{StripesCame, CodeBegins, EntityBegun, IsWholeCode, code_begins, entity_closed, whole_stripe, came_before, same_tail, came_gives, after_more, least_below, tail_of}
 use Rattle.t85_core.proofs.Decodings.PieceGiven.{piece_other}
 use Rattle.t85_core.proofs.Decodings.PieceLook.{comments_behind}
 use Rattle.t85_core.proofs.Decodings.PieceSteps.{nil_of, at_stage, some_row, next_stripe, last_stripe}
-use Rattle.t85_core.proofs.Decodings.PieceStood.{own_height, code_of, waits_of, marker_of, in_code_entities, in_code_last, no_bytes, leaves_row}
+use Rattle.t85_core.proofs.Decodings.PieceStood.{own_height, waits_of, marker_of, in_code_entities, in_code_last, no_bytes, leaves_row}
 
 -- ---- after whole stripes
 
@@ -293,77 +288,3 @@ module _ (d d' : PieceView) (late : d.is_open ≡ true) (waits : d.waits ≡ tru
 
   pub leaves_look : (p : List ℕ) (is_all : Bool) → last_behind H d.walk.stage d.walk.left ≡ true → LookIsOver is_all d p → limit ≤ d.walk.left → StepLeaves is_all d d' p p (Some outcome.Row)
   leaves_look p is_all last over below = leaves is_all p (λ text out s after follows m i. look_in_time text out s p is_all last over below after follows m i)
-
--- ---- a row that did not wait
-
-cancel : (xs a b : List ℕ) → xs ++ a ≡ xs ++ b → a ≡ b
-cancel [] a b e = e
-cancel (x ∷ xs) a b e = cancel xs a b (ap (drop 1) e)
-
--- the code of a stripe goes on to its end marker
-module _ {h : Fields} {entities : ℕ} (ok : IsAccepted h) {before before' : List ℕ} (s : CodeBegins h entities before) (t : CodeBegins h entities before') (b : ℕ) (code bytes : List ℕ) (reset : Bool) (small : AllByRecursion (λ b. b < 256) (b ∷ code)) (small' : AllByRecursion (λ b. b < 256) bytes) where
-  to_marker : (given : List ℕ) → (before ++ stuffed (b ∷ code)) ++ given ≡ before' ++ (stuffed bytes ++ marker_bytes reset) → (more : List ℕ) × (given ≡ stuffed more ++ marker_bytes reset)
-  to_marker given is = (k.1, cancel (stuffed (b ∷ code)) given (stuffed k.1 ++ marker_bytes reset) rest) where
-    stripe : Stripe
-    stripe = record { segments = t.segments; code = bytes; reset = reset }
-
-    tails : flat_map segment_bytes s.segments ++ (stuffed (b ∷ code) ++ given) ≡ flat_map segment_bytes t.segments ++ (stuffed bytes ++ marker_bytes reset)
-    tails = (one_front ok s.stripes t.stripes (flat_map segment_bytes s.segments ++ (stuffed (b ∷ code) ++ given)) (flat_map segment_bytes t.segments ++ (stuffed bytes ++ marker_bytes reset)) s.each t.each (s.many ∙ sym t.many)
-        (sym (append_assoc before (stuffed (b ∷ code)) given ∙ ap (λ z. z ++ (stuffed (b ∷ code) ++ given)) s.text_is ∙ append_assoc (flat_map stripe_bytes s.stripes) (flat_map segment_bytes s.segments) (stuffed (b ∷ code) ++ given)) ∙ is
-        ∙ ap (λ z. z ++ (stuffed bytes ++ marker_bytes reset)) t.text_is ∙ append_assoc (flat_map stripe_bytes t.stripes) (flat_map segment_bytes t.segments) (stuffed bytes ++ marker_bytes reset))).1
-
-    k : (s.segments ≡ t.segments) × (more : List ℕ) × (bytes ≡ (b ∷ code) ++ more)
-    k = begun_in_stripe ok given (record { segments = t.segments; code = bytes; reset = reset }) [] (record { legal = s.begun.legal; one_move = s.begun.one_move; bytes = small }) (record { legal = t.begun.legal; one_move = t.begun.one_move; bytes = small' })
-        (tails ∙ sym (append-nil (flat_map segment_bytes t.segments ++ (stuffed bytes ++ marker_bytes reset))))
-
-    rest : stuffed (b ∷ code) ++ given ≡ stuffed (b ∷ code) ++ (stuffed k.1 ++ marker_bytes reset)
-    rest =
-        cancel (flat_map segment_bytes s.segments) (stuffed (b ∷ code) ++ given) (stuffed bytes ++ marker_bytes reset) (tails ∙ ap (λ z. flat_map segment_bytes z ++ (stuffed bytes ++ marker_bytes reset)) (sym k.0))
-        ∙ ap (λ z. stuffed z ++ marker_bytes reset) k.2 ∙ ap (λ z. z ++ marker_bytes reset) (stuffed_append (b ∷ code) k.1) ∙ append_assoc (stuffed (b ∷ code)) (stuffed k.1) (marker_bytes reset)
-
--- in the code of a stripe
-record InCode (h : Fields) (entities : ℕ) (text : List ℕ) (Is : List ℕ → Type 0) : Type 0 where
-  before : List ℕ
-  begins : CodeBegins h entities before
-  code : List ℕ
-  code_is : Is code
-  text_is : text ≡ before ++ code
-
-in_open_code : (h : Fields) (w : WalkView) (text out : List ℕ) → CodeWalks h w text out → (HasMarker w → ⊥) → InCode h w.entities text IsOpenCode
-in_open_code h w text out c ahead = by c.in_code where
-  by : IsInCode w.stage → InCode h w.entities text IsOpenCode
-  by (inl e) =
-      let s : CodeStands (sized h h.yd) (head_place w.entities false w.at w.carried) (code_place w.row w.first w.marker w.decoder) text out = subst (λ g. CodeStands (sized h h.yd) (head_place w.entities g w.at w.carried) (code_place w.row w.first w.marker w.decoder) text out) c.ungiven (at_stage e c.walk) in
-      record { before = s.before; begins = code_begins s.head; code = s.code; code_is = entity_opened w.first w.marker s.read.answers s.extra s.code s.code_is ahead; text_is = s.text_is }
-  by (inr e) =
-      let s : InRowStands (sized h h.yd) (head_place w.entities false w.at w.carried) (code_place w.row w.first w.marker w.decoder) w.place text out = subst (λ g. InRowStands (sized h h.yd) (head_place w.entities g w.at w.carried) (code_place w.row w.first w.marker w.decoder) w.place text out) c.ungiven (at_stage e c.walk) in
-      record { before = s.before; begins = code_begins s.head; code = s.code; code_is = entity_opened w.first w.marker (s.begun.read.answers ++ s.begun.since) [] s.code s.code_is ahead; text_is = s.text_is }
-
-in_whole_code : (h : Fields) (w : WalkView) (text out : List ℕ) → WalkStands (sized h h.yd) w text out → w.stage ≡ stage.Code → w.given ≡ false → HasMarker w → InCode h w.entities text IsWholeCode
-in_whole_code h w text out walk is ungiven marked =
-    let s : CodeStands (sized h h.yd) (head_place w.entities false w.at w.carried) (code_place w.row w.first w.marker w.decoder) text out = subst (λ g. CodeStands (sized h h.yd) (head_place w.entities g w.at w.carried) (code_place w.row w.first w.marker w.decoder) text out) ungiven (at_stage is walk) in
-    record { before = s.before; begins = code_begins s.head; code = s.code; code_is = entity_closed w.first w.marker s.read.answers s.extra s.code s.code_is marked; text_is = s.text_is }
-
--- its end marker was not read where none was among the bytes
-pub row_unmarked : (d : PieceView) (w : WalkView) (front part row : List ℕ) → d.is_open ≡ true → d.waits ≡ false → (HasMarker d.walk → ⊥) → HasNoMarker front → w.stage ≡ stage.Code → KeepsPlace d.walk w → StepsOn (sized (fields_of d.header) d.header.yd) d.walk w front part row →
-    (text out : List ℕ) → DecoderStands d text out → HasMarker w → ⊥
-row_unmarked d w front part row late going ahead none is keeps on text out s marked = by was.code_is now.code_is where
-  h : Fields
-  h = fields_of d.header
-
-  c : CodeWalks (fields_of d.header) d.walk text out
-  c = code_of d text out late going s
-
-  step : (given : List ℕ) × (front ≡ given ++ part) × WalkStands (sized (fields_of d.header) d.header.yd) w (text ++ given) (out ++ row)
-  step = on text out c.walk
-
-  was : InCode (fields_of d.header) d.walk.entities text IsOpenCode
-  was = in_open_code (fields_of d.header) d.walk text out c ahead
-
-  now : InCode (fields_of d.header) d.walk.entities (text ++ step.0) IsWholeCode
-  now = subst (λ n. InCode (fields_of d.header) n (text ++ step.0) IsWholeCode) keeps.entities (in_whole_code (fields_of d.header) w (text ++ step.0) (out ++ row) step.2 is (keeps.given ∙ c.ungiven) marked)
-
-  by : IsOpenCode was.code → IsWholeCode now.code → ⊥
-  by (b, code, small, code_is) (bytes, reset, small', bytes_are) =
-      let k = to_marker (own_height d.header).accepted was.begins now.begins b code bytes reset small small' step.0 (ap (λ z. (was.before ++ z) ++ step.0) (sym code_is) ∙ ap (λ z. z ++ step.0) (sym was.text_is) ∙ now.text_is ∙ ap (λ z. now.before ++ z) bytes_are) in
-      none k.0 part reset (step.1 ∙ ap (λ z. z ++ part) k.1 ∙ append_assoc (stuffed k.0) (marker_bytes reset) part)

@@ -1,9 +1,6 @@
 -- The code of a stripe that comes in pieces.
 use Rattle.std.proofs.Common.{◌≡◌, ◌≤◌, ◌⊎◌, inl, inr, ℕ, Bool, true, false, List, [], ◌∷◌, ◌++◌, length, Option, None, Some, refl, sym, ap, ◌∙◌, subst, append_assoc, append-nil, length-append, arith}
-use Rattle.std.specs.Prelude.{◌≢◌, ◌==◌, IfSome, if◌then◌else◌}
-use Rattle.std.proofs.lemmas.Bool.{cases_eq}
-use Rattle.std.proofs.lemmas.Bool.Decides.{nat_tests}
-use Rattle.std.specs.Io.KnownBytes.{Consumes, IsAtEnd}
+use Rattle.std.specs.Prelude.{IfSome}
 use Rattle.std.proofs.lemmas.List.{append_cancel_left}
 use Rattle.qm_core.specs.Code.{stuffed, IsBytes}
 use Rattle.qm_core.specs.Source.{bytes_of, heard_of, IsClosed, Gives, before_fault}
@@ -12,18 +9,15 @@ use Rattle.qm_core.specs.declared.source.Pulled.TheVariants.{Byte, End, Fault}
 use Rattle.qm_core.specs.declared.source.Heard.{Heard}
 use Rattle.qm_core.specs.declared.source.Heard.TheVariants.{More, Ended, Stopped}
 use Rattle.t85_core.specs.declared.fault.Fault as fault
-use Rattle.t85_core.specs.declared.fault.Fault.TheVariants.{Truncated, Read}
+use Rattle.t85_core.specs.declared.fault.Fault.TheVariants.{Truncated}
 use Rattle.t85_core.specs.declared.segments.Code.{Code}
 use Rattle.t85_core.specs.declared.segments.Code.TheVariants as code
-use Rattle.t85_core.specs.Header.{Fields}
-use Rattle.t85_core.specs.Grammar.{marker_bytes, ESC}
-use Rattle.t85_core.specs.Failures.{reads_after}
+use Rattle.t85_core.specs.Grammar.{marker_bytes}
+use Rattle.t85_core.specs.Failures.{counted_as}
 use Rattle.t85_core.specs.Steps.Segments.{code_bytes, IsByteOrMarker, RestFault}
-use Rattle.t85_core.specs.Steps.Entity.{EntityView, GivesEnd, GivesFault, entity_known}
-use Rattle.t85_core.specs.Steps.PieceCode.{ahead_bytes, CodeOpen, EntityEnded, CodeText, CodeBreaks}
-use Rattle.t85_core.proofs.Bytes.Known.{counted-other}
-use Rattle.t85_core.proofs.Bytes.Streams.{Consumes-more}
-use Rattle.t85_core.proofs.Bytes.Stuffing.{no_escape_last, stuff, stuffed_cons, stuffed_append, one_stuff, second}
+use Rattle.t85_core.specs.Steps.Entity.{EntityView, GivesEnd, GivesFault, StopsAtMarker, ahead_bytes}
+use Rattle.t85_core.specs.Steps.PieceCode.{CodeOpen, EntityEnded, CodeText, CodeBreaks, MarkerRead}
+use Rattle.t85_core.proofs.Bytes.Stuffing.{stuff, stuffed_cons, stuffed_append, one_stuff, second}
 use Rattle.t85_core.proofs.Grammar.Cut.{marker_no_code}
 use Rattle.t85_core.proofs.Decodings.Entities.{Pull, LastIs, Parted, pulls_part}
 use Rattle.t85_core.proofs.Decodings.RowsSoFar.{bytes_append}
@@ -111,27 +105,10 @@ again_right [] ys h = refl
 again_right (Byte b ∷ xs) ys h = ap (λ z. Byte b ∷ z) (again_right xs ys h)
 again_right xs ys h = absurd (let bot : ⊥ = cc in bot)
 
--- a rest of a code that is cut short
-rest_is : (h : Fields) (rest : List ℕ) → RestFault rest Truncated → (rest ≡ []) ⊎ (rest ≡ 255 ∷ [])
-rest_is h [] f = inl refl
-rest_is h (b ∷ []) f = by (cases_eq b 255)
-  where
-    at : (if b == ESC then Some Truncated else None) ≡ Some Truncated
-    at = f h (record { height = 0; entities = 0; heights = 0 }) 0
-
-    by : (b ≡ 255) ⊎ (b ≢ 255) → (b ∷ [] ≡ []) ⊎ (b ∷ [] ≡ 255 ∷ [])
-    by (inl e) = inr (ap (λ z. z ∷ []) e)
-    by (inr n) = let t : (b == ESC) ≡ false = grind (arith, nat_tests) in absurd (let z : None ≡ Some Truncated = subst (λ u. (if u then Some Truncated else None) ≡ Some Truncated) t at in let bot : ⊥ = cc in bot)
-rest_is h (b ∷ e ∷ bytes) f = let k = f h (record { height = 0; entities = 0; heights = 0 }) 0 in absurd (let bot : ⊥ = grind (arith, nat_tests) in bot)
-
-known_is : (first : Option Code) (p : List ℕ) → entity_known first (Some p) ≡ Some (ahead_bytes first ++ p)
-known_is None p = refl
-known_is (Some c) p = refl
-
 -- ---- a call
 
 module _ {T : Type 0} (standing : T → EntityView) (failed : T → ℕ) (s t : T) (first first1 : Option Code) (marker marker1 : Option Bool) (p p1 : List ℕ)
-    (known_s : (standing s).known ≡ entity_known first (Some p)) (known_t : (standing t).known ≡ entity_known first1 (Some p1))
+    (left_s : (standing s).left ≡ ahead_bytes first ++ p) (left_t : (standing t).left ≡ ahead_bytes first1 ++ p1)
     (first_s : (standing s).first ≡ first) (first_t : (standing t).first ≡ first1) (marker_s : (standing s).marker ≡ marker) (marker_t : (standing t).marker ≡ marker1) (fault_s : (standing s).fault ≡ None)
     (answers more : List Pulled) (text : List ℕ) (closed : IsClosed (answers ++ more)) (small : IsBytes (bytes_of (answers ++ more))) (gives : Gives (Pull standing failed) s more t) where
   abbrev A : List ℕ
@@ -156,18 +133,23 @@ module _ {T : Type 0} (standing : T → EntityView) (failed : T → ℕ) (s t : 
       ∙ sym (append_assoc (stuffed A) (stuffed B) all)
       ∙ ap (λ z. z ++ all) (sym (stuffed_append A B) ∙ ap stuffed (sym both_are))
 
-  -- The code waits for what follows: all of the piece is taken but an escape that is its last byte.
-  pub record Waits : Type 0 where
-    pub given : List ℕ
-    pub rest : List ℕ
-    pub taken : p ≡ given ++ rest
-    pub few : (rest ≡ []) ⊎ (rest ≡ 255 ∷ [])
-    pub plain : (x : List ℕ) → given ≡ x ++ 255 ∷ [] → ⊥
-    pub code_is : CodeOpen None (before_fault (answers ++ more)) [] (text ++ given)
-
   -- the code goes on
   abbrev pub Went : Type 0
   Went = (given : List ℕ) × (p ≡ given ++ p1) × CodeText first1 marker1 (answers ++ more) [] (text ++ given)
+
+  -- The code waits for what follows: all that is not taken begins an escape.
+  abbrev pub Waits : Type 0
+  Waits = (given : List ℕ) × (p ≡ given ++ p1) × CodeOpen first1 (before_fault (answers ++ more)) [] (text ++ given)
+
+  -- The code waits at its end marker, before which these bytes are.
+  pub record WaitsAtMarker : Type 0 where
+    pub waits : Waits
+    pub reset : Bool
+    pub ahead : first1 ≡ Some (code.Marker reset)
+    pub unanswered : marker1 ≡ None
+    pub front : List ℕ
+    pub given_is : waits.0 ≡ front ++ marker_bytes reset
+    pub breaks : CodeBreaks text front (bytes_of (answers ++ more)) Truncated
 
   module _ (o : CodeOpen first answers [] text) (none : marker ≡ None) where
     part : Parted standing s more t
@@ -176,12 +158,33 @@ module _ {T : Type 0} (standing : T → EntityView) (failed : T → ℕ) (s t : 
     going : heard_of (answers ++ more) ≡ heard_of more
     going = heard_right answers more o.going
 
-    -- what was taken of bytes, and then
-    in_all : (u : Option (List ℕ)) (x : List ℕ) → Consumes (standing part.mid).known u x → Consumes (Some (ahead_bytes first ++ p)) u (stuffed B ++ x)
-    in_all u x c = Consumes-more (Some (ahead_bytes first ++ p)) (standing part.mid).known u (stuffed B) x (subst (λ z. Consumes z (standing part.mid).known (stuffed B)) (known_s ∙ known_is first p) part.went.taken) c
+    -- what was taken of bytes
+    taken_mid : ahead_bytes first ++ p ≡ stuffed B ++ (standing part.mid).left
+    taken_mid = sym left_s ∙ part.went.taken
+
+    -- what was read ahead at the last byte
+    mid_ahead : ((1 ≤ length B) × ((standing part.mid).first ≡ None)) ⊎ ((B ≡ []) × ((standing part.mid).first ≡ first))
+    mid_ahead = by part.went.begun where
+      by : ((1 ≤ length B) × ((standing part.mid).first ≡ None)) ⊎ ((B ≡ []) × ((standing part.mid).first ≡ (standing s).first)) → ((1 ≤ length B) × ((standing part.mid).first ≡ None)) ⊎ ((B ≡ []) × ((standing part.mid).first ≡ first))
+      by (inl b) = inl b
+      by (inr b) = inr (b.0, b.1 ∙ first_s)
+
+    -- there are bytes, if nothing is ahead
+    some_bytes : (standing part.mid).first ≡ None → 1 ≤ length (A ++ B)
+    some_bytes none_ahead = by mid_ahead where
+      by : ((1 ≤ length B) × ((standing part.mid).first ≡ None)) ⊎ ((B ≡ []) × ((standing part.mid).first ≡ first)) → 1 ≤ length (A ++ B)
+      by (inl b) = let long = length-append A B in omega (arith, long, b.0)
+      by (inr b) = let old = o.begun (sym b.1 ∙ none_ahead) in let long = length-append A B in let long' = length-append A [] in omega (arith, old, long, long')
+
+    -- bytes came first, or nothing was ahead
+    none_or_some : (standing part.mid).first ≡ None → (first ≡ None) ⊎ (1 ≤ length B)
+    none_or_some none_ahead = by mid_ahead where
+      by : ((1 ≤ length B) × ((standing part.mid).first ≡ None)) ⊎ ((B ≡ []) × ((standing part.mid).first ≡ first)) → (first ≡ None) ⊎ (1 ≤ length B)
+      by (inl b) = inr b.0
+      by (inr b) = inl (sym b.1 ∙ none_ahead)
 
     went_more : heard_of more ≡ More → part.mid ≡ t → Went
-    went_more e last = by_begun part.went.begun where
+    went_more e last = by_begun mid_ahead where
       open_ : marker1 ≡ None
       open_ = sym marker_t ∙ ap (λ z. (standing z).marker) (sym last) ∙ part.went.marker
 
@@ -189,9 +192,7 @@ module _ {T : Type 0} (standing : T → EntityView) (failed : T → ℕ) (s t : 
       mid_first = ap (λ z. (standing z).first) last ∙ first_t
 
       taken : ahead_bytes first ++ p ≡ stuffed B ++ (ahead_bytes first1 ++ p1)
-      taken =
-          subst (λ z. Consumes (Some (ahead_bytes first ++ p)) z (stuffed B)) (ap (λ z. (standing z).known) last ∙ known_t ∙ known_is first1 p1)
-          (subst (λ z. Consumes z (standing part.mid).known (stuffed B)) (known_s ∙ known_is first p) part.went.taken)
+      taken = taken_mid ∙ ap (λ z. stuffed B ++ z) (ap (λ z. (standing z).left) last ∙ left_t)
 
       made : (given : List ℕ) → p ≡ given ++ p1 → ahead_bytes first ++ given ≡ stuffed B ++ ahead_bytes first1 → (IfSome first1 IsByteOrMarker) → (first1 ≡ None → 1 ≤ length (A ++ B)) → Went
       made given at same ahead begun = (
@@ -207,24 +208,23 @@ module _ {T : Type 0} (standing : T → EntityView) (failed : T → ℕ) (s t : 
         }),
       )
 
-      by_begun : ((1 ≤ length B) × ((standing part.mid).first ≡ None)) ⊎ ((B ≡ []) × ((standing part.mid).first ≡ (standing s).first)) → Went
+      by_begun : ((1 ≤ length B) × ((standing part.mid).first ≡ None)) ⊎ ((B ≡ []) × ((standing part.mid).first ≡ first)) → Went
       by_begun (inl b) =
           let none1 : first1 ≡ None = sym mid_first ∙ b.1 in
           let k = taken_bytes first B [] p p1 (inr b.0) (taken ∙ ap (λ z. stuffed B ++ (ahead_bytes z ++ p1)) none1) in
-          made k.given k.taken (k.same ∙ ap (λ z. stuffed B ++ ahead_bytes z) (sym none1)) (subst (λ z. IfSome z IsByteOrMarker) (sym none1) tt) (λ n. let long = length-append A B in omega (arith, long, b.0))
+          made k.given k.taken (k.same ∙ ap (λ z. stuffed B ++ ahead_bytes z) (sym none1)) (subst (λ z. IfSome z IsByteOrMarker) (sym none1) tt) (λ n. some_bytes b.1)
       by_begun (inr b) =
-          let same : first1 ≡ first = sym mid_first ∙ b.1 ∙ first_s in
+          let same : first1 ≡ first = sym mid_first ∙ b.1 in
           let all : ahead_bytes first ++ p ≡ ahead_bytes first ++ p1 = taken ∙ ap (λ z. stuffed z ++ (ahead_bytes first1 ++ p1)) b.0 ∙ ap (λ z. ahead_bytes z ++ p1) same in
           made [] (append_cancel_left (ahead_bytes first) p p1 all) (append-nil (ahead_bytes first) ∙ ap ahead_bytes (sym same) ∙ ap (λ z. stuffed z ++ ahead_bytes first1) (sym b.0)) (subst (λ z. IfSome z IsByteOrMarker) (sym same) o.ahead)
-          (λ n. let old = o.begun (sym same ∙ n) in let long = length-append A B in let long' = length-append A [] in omega (arith, old, long, long'))
+          (λ n. some_bytes (mid_first ∙ n))
 
     went_end : heard_of more ≡ Ended → GivesEnd (standing part.mid) (standing t) → Went
     went_end e g =
         let ended : marker1 ≡ Some g.reset = sym marker_t ∙ g.marker in
         let behind : first1 ≡ None = sym first_t ∙ g.behind in
-        let known : (standing t).known ≡ Some p1 = known_t ∙ known_is first1 p1 ∙ ap (λ z. Some (ahead_bytes z ++ p1)) behind in
-        let taken : ahead_bytes first ++ p ≡ (stuffed B ++ marker_bytes g.reset) ++ p1 = subst (λ z. Consumes (Some (ahead_bytes first ++ p)) z (stuffed B ++ marker_bytes g.reset)) known (in_all (standing t).known (marker_bytes g.reset) g.taken) in
-        let k = taken_marker first B g.reset p p1 (taken ∙ append_assoc (stuffed B) (marker_bytes g.reset) p1) in (
+        let left : (standing t).left ≡ p1 = left_t ∙ ap (λ z. ahead_bytes z ++ p1) behind in
+        let k = taken_marker first B g.reset p p1 (taken_mid ∙ ap (λ z. stuffed B ++ z) (g.taken ∙ ap (λ z. marker_bytes g.reset ++ z) left)) in (
           k.given,
           k.taken,
           subst (λ m. CodeText first1 m (answers ++ more) [] (text ++ k.given)) (sym ended) (record {
@@ -240,122 +240,144 @@ module _ {T : Type 0} (standing : T → EntityView) (failed : T → ℕ) (s t : 
     went_open unstopped = by_last (heard_of more) refl part.last where
       by_last : (k : Heard) → heard_of more ≡ k → LastIs standing part.mid k t → Went
       by_last More e last = went_more e last
-      by_last Ended e last = went_end e last.0
+      by_last Ended e last = went_end e last
       by_last Stopped e last = absurd (unstopped (going ∙ e))
 
+    -- a code that waits at its end marker does not read it
+    unread_open : (heard_of (answers ++ more) ≡ Stopped → ⊥) → (standing s).waits ≡ true → (MarkerRead marker first → ⊥) → MarkerRead marker1 first1 → ⊥
+    unread_open unstopped waits unread = by_last (heard_of more) refl part.last where
+      by_begun : marker1 ≡ None → ((1 ≤ length B) × (first1 ≡ None)) ⊎ ((B ≡ []) × (first1 ≡ first)) → MarkerRead marker1 first1 → ⊥
+      by_begun open_ b (reset, inl e) = let z : None ≡ Some reset = sym open_ ∙ e in let bot : ⊥ = cc in bot
+      by_begun open_ (inl b) (reset, inr e) = let z : None ≡ Some (code.Marker reset) = sym b.1 ∙ e in let bot : ⊥ = cc in bot
+      by_begun open_ (inr b) (reset, inr e) = unread (reset, inr (sym b.1 ∙ e))
+
+      by_last : (k : Heard) → heard_of more ≡ k → LastIs standing part.mid k t → MarkerRead marker1 first1 → ⊥
+      by_last More e last =
+          let same : (standing part.mid).first ≡ first1 = ap (λ z. (standing z).first) last ∙ first_t in
+          by_begun (sym marker_t ∙ ap (λ z. (standing z).marker) (sym last) ∙ part.went.marker) (subst (λ z. ((1 ≤ length B) × (z ≡ None)) ⊎ ((B ≡ []) × (z ≡ first))) same mid_ahead)
+      by_last Ended e g = λ _. let z : true ≡ false = sym (part.went.waits ∙ waits) ∙ g.goes_on in let bot : ⊥ = cc in bot
+      by_last Stopped e last = absurd (unstopped (going ∙ e))
+
+    last_stopped : heard_of (answers ++ more) ≡ Stopped → GivesFault (standing part.mid) (standing t) ⊎ StopsAtMarker (standing part.mid) (standing t)
+    last_stopped stopped = subst (λ k. LastIs standing part.mid k t) (sym going ∙ stopped) part.last
+
+    fault_open : heard_of (answers ++ more) ≡ Stopped → (f : fault.Fault) → (standing t).fault ≡ Some f → GivesFault (standing part.mid) (standing t) × ((g : GivesFault (standing part.mid) (standing t)) → g.why ≡ f)
+    fault_open stopped f is = (by (last_stopped stopped), λ g. some_is g.why f (sym g.fault ∙ is)) where
+      some_is : (a b : fault.Fault) → Some a ≡ Some b → a ≡ b
+      some_is a b e = cc
+
+      by : GivesFault (standing part.mid) (standing t) ⊎ StopsAtMarker (standing part.mid) (standing t) → GivesFault (standing part.mid) (standing t)
+      by (inl g) = g
+      by (inr m) = absurd (let z : None ≡ Some f = sym m.fault ∙ is in let bot : ⊥ = cc in bot)
+
     -- it breaks
-    broke_open : (standing s).reads ≡ 0 → (standing t).reads ≡ 0 → heard_of (answers ++ more) ≡ Stopped → (why : fault.Fault) × ((standing t).fault ≡ Some why) × CodeBreaks text p (bytes_of (answers ++ more)) why
-    broke_open reads_s reads_t stopped = (
-      g.why,
-      g.fault,
-      record {
-        some = subst (λ z. 1 ≤ length z) (sym both_are) (some part.went.begun);
-        small = small;
-        rest = g.ends.given;
-        unread = p1;
-        text_is =
-            ap (λ z. z ++ p) o.text_is ∙ append_assoc (stuffed (A ++ [])) (ahead_bytes first) p ∙ ap (λ z. stuffed z ++ (ahead_bytes first ++ p)) (append-nil A)
-            ∙ ap (λ z. stuffed A ++ z) (taken ∙ append_assoc (stuffed B) g.ends.given p1)
-            ∙ sym (append_assoc (stuffed A) (stuffed B) (g.ends.given ++ p1))
-            ∙ ap (λ z. z ++ (g.ends.given ++ p1)) (sym (stuffed_append A B) ∙ ap stuffed (sym both_are))
-            ∙ sym (append_assoc (stuffed (bytes_of (answers ++ more))) g.ends.given p1);
-        broken = subst (RestFault g.ends.given) (counted-other Truncated g.why unread_not) g.ends.has_fault;
-        counted = counted-other Truncated g.why unread_not;
-        at_end = λ e. subst (λ z. IsEnd z) known (g.ends.at_end e);
-      },
-    ) where
-      last : LastIs standing part.mid Stopped t
-      last = subst (λ k. LastIs standing part.mid k t) (sym going ∙ stopped) part.last
+    broke_open : heard_of (answers ++ more) ≡ Stopped → (f : fault.Fault) → (standing t).fault ≡ Some f → CodeBreaks text p (bytes_of (answers ++ more)) f
+    broke_open stopped f is =
+        let k = fault_open stopped f is in
+        let g = k.0 in
+        let why : g.why ≡ f = k.1 g in record {
+          some = subst (λ z. 1 ≤ length z) (sym both_are) (some_bytes g.begun);
+          small = small;
+          rest = g.ends.rest;
+          unread = g.ends.unread;
+          text_is =
+              ap (λ z. z ++ p) o.text_is ∙ append_assoc (stuffed (A ++ [])) (ahead_bytes first) p ∙ ap (λ z. stuffed z ++ (ahead_bytes first ++ p)) (append-nil A)
+              ∙ ap (λ z. stuffed A ++ z) (taken_mid ∙ ap (λ z. stuffed B ++ z) g.ends.bytes_are)
+              ∙ sym (append_assoc (stuffed A) (stuffed B) (g.ends.rest ++ g.ends.unread))
+              ∙ ap (λ z. z ++ (g.ends.rest ++ g.ends.unread)) (sym (stuffed_append A B) ∙ ap stuffed (sym both_are))
+              ∙ sym (append_assoc (stuffed (bytes_of (answers ++ more))) g.ends.rest g.ends.unread);
+          broken = subst (RestFault g.ends.rest) why g.ends.broken;
+          counted = subst (λ z. counted_as Truncated z ≡ z) why g.ends.counted;
+          at_end = λ e. g.ends.at_end (why ∙ e);
+        }
 
-      g : GivesFault (standing part.mid) (standing t)
-      g = last.0
-
-      IsEnd : Option (List ℕ) → Type 0
-      IsEnd z = IsAtEnd z
-
-      behind : first1 ≡ None
-      behind = sym first_t ∙ g.behind
-
-      known : (standing t).known ≡ Some p1
-      known = known_t ∙ known_is first1 p1 ∙ ap (λ z. Some (ahead_bytes z ++ p1)) behind
-
-      taken : ahead_bytes first ++ p ≡ (stuffed B ++ g.ends.given) ++ p1
-      taken = subst (λ z. Consumes (Some (ahead_bytes first ++ p)) z (stuffed B ++ g.ends.given)) known (in_all (standing t).known g.ends.given g.ends.taken)
-
-      quiet : reads_after g.why 0 ≡ 0
-      quiet = ap (reads_after g.why) (sym (part.went.reads ∙ reads_s)) ∙ sym g.reads ∙ reads_t
-
-      unread_not : g.why ≡ Read → ⊥
-      unread_not e = let one : reads_after g.why 0 ≡ 1 = ap (λ f. reads_after f 0) e in omega (arith, one, quiet)
-
-      some : ((1 ≤ length B) × ((standing part.mid).first ≡ None)) ⊎ ((B ≡ []) × ((standing part.mid).first ≡ (standing s).first)) → 1 ≤ length (A ++ B)
-      some (inl b) = let long = length-append A B in omega (arith, long, b.0)
-      some (inr b) = let old = o.begun (sym first_s ∙ sym b.1 ∙ g.begun) in let long = length-append A B in let long' = length-append A [] in omega (arith, old, long, long')
+    same_bytes : bytes_of (before_fault (answers ++ more)) ≡ bytes_of (answers ++ more)
+    same_bytes = bytes_again (answers ++ more) closed
 
     -- it waits for what follows
-    waits_open : (standing s).reads ≡ 0 → (standing t).reads ≡ 0 → heard_of (answers ++ more) ≡ Stopped → (h : Fields) → (standing t).fault ≡ Some Truncated → Waits
-    waits_open reads_s reads_t stopped h fault_is =
-        record {
-          given = k.given;
-          rest = g.ends.given;
-          taken = k.taken;
-          few = rest_is h g.ends.given (subst (RestFault g.ends.given) (counted-other Truncated g.why unread_not ∙ why_is) g.ends.has_fault);
-          plain = λ x is.
-              no_escape_last B (ahead_bytes first ++ x)
-              (sym (append-nil (stuffed B)) ∙ sym k.same ∙ ap (λ z. ahead_bytes first ++ z) is ∙ sym (append_assoc (ahead_bytes first) x (255 ∷ [])));
-          code_is = record {
+    waits_open : heard_of (answers ++ more) ≡ Stopped → (standing t).fault ≡ Some Truncated → (first1 ≡ None) × (marker1 ≡ None) × Waits
+    waits_open stopped is =
+        let g = (fault_open stopped Truncated is).0 in
+        let behind : first1 ≡ None = sym first_t ∙ g.behind in
+        let left : (standing part.mid).left ≡ p1 = sym g.stays ∙ left_t ∙ ap (λ z. ahead_bytes z ++ p1) behind in
+        let k = taken_bytes first B [] p p1 (none_or_some g.begun) (taken_mid ∙ ap (λ z. stuffed B ++ z) left) in (
+          behind,
+          sym marker_t ∙ g.marker,
+          (
+            k.given,
+            k.taken,
+            record {
+              going = heard_again (answers ++ more) stopped;
+              bytes = subst IsBytes (sym same_bytes) small;
+              small = tt;
+              ahead = subst (λ z. IfSome z IsByteOrMarker) (sym behind) tt;
+              begun = λ _. subst (λ z. 1 ≤ length z) (sym (append-nil (bytes_of (before_fault (answers ++ more))) ∙ same_bytes ∙ both_are)) (some_bytes g.begun);
+              text_is = grown k.given [] o.text_is k.same ∙ ap (λ z. stuffed z ++ []) (sym same_bytes ∙ sym (append-nil (bytes_of (before_fault (answers ++ more))))) ∙ ap (λ z. stuffed (bytes_of (before_fault (answers ++ more)) ++ []) ++ ahead_bytes z) (sym behind);
+            },
+          ),
+        )
+
+    -- it waits at its end marker
+    marker_open : heard_of (answers ++ more) ≡ Stopped → (standing t).fault ≡ None → ((standing s).waits ≡ true) × ((MarkerRead marker first → ⊥) → WaitsAtMarker)
+    marker_open stopped is = (sym part.went.waits ∙ m.waits, made) where
+      at_marker : GivesFault (standing part.mid) (standing t) ⊎ StopsAtMarker (standing part.mid) (standing t) → StopsAtMarker (standing part.mid) (standing t)
+      at_marker (inl g) = absurd (let z : None ≡ Some g.why = sym is ∙ g.fault in let bot : ⊥ = cc in bot)
+      at_marker (inr m) = m
+
+      m : StopsAtMarker (standing part.mid) (standing t)
+      m = at_marker (last_stopped stopped)
+
+      ahead : first1 ≡ Some (code.Marker m.reset)
+      ahead = sym first_t ∙ m.ahead
+
+      made : (MarkerRead marker first → ⊥) → WaitsAtMarker
+      made unread = record {
+        waits = (
+          k.given ++ marker_bytes m.reset,
+          k.taken ∙ sym (append_assoc k.given (marker_bytes m.reset) p1),
+          record {
             going = heard_again (answers ++ more) stopped;
             bytes = subst IsBytes (sym same_bytes) small;
             small = tt;
-            ahead = tt;
-            begun = λ _. subst (λ z. 1 ≤ length z) (sym (append-nil (bytes_of (before_fault (answers ++ more))) ∙ same_bytes ∙ both_are)) (some part.went.begun);
-            text_is = grown k.given [] o.text_is k.same ∙ ap (λ z. stuffed z ++ []) (sym same_bytes ∙ sym (append-nil (bytes_of (before_fault (answers ++ more)))));
-          };
-        }
-      where
-        last : LastIs standing part.mid Stopped t
-        last = subst (λ k. LastIs standing part.mid k t) (sym going ∙ stopped) part.last
+            ahead = subst (λ z. IfSome z IsByteOrMarker) (sym ahead) tt;
+            begun = λ e. absurd (let z : None ≡ Some (code.Marker m.reset) = sym e ∙ ahead in let bot : ⊥ = cc in bot);
+            text_is = sym (append_assoc text k.given (marker_bytes m.reset)) ∙ ap (λ z. z ++ marker_bytes m.reset) front_is ∙ ap (λ z. stuffed z ++ marker_bytes m.reset) (sym same_bytes ∙ sym (append-nil (bytes_of (before_fault (answers ++ more)))))
+                ∙ ap (λ z. stuffed (bytes_of (before_fault (answers ++ more)) ++ []) ++ ahead_bytes z) (sym ahead);
+          },
+        );
+        reset = m.reset;
+        ahead = ahead;
+        unanswered = sym marker_t ∙ m.marker;
+        front = k.given;
+        given_is = refl;
+        breaks = record {
+          some = subst (λ z. 1 ≤ length z) (sym both_are) (some_bytes nothing);
+          small = small;
+          rest = [];
+          unread = [];
+          text_is = front_is ∙ sym (append-nil (stuffed (bytes_of (answers ++ more)))) ∙ sym (append-nil (stuffed (bytes_of (answers ++ more)) ++ []));
+          broken = λ h spot moves. refl;
+          counted = refl;
+          at_end = λ _. refl;
+        };
+      } where
+        nothing : (standing part.mid).first ≡ None
+        nothing = none_of m.begun mid_ahead where
+          none_of : ((standing part.mid).first ≡ None) ⊎ ((standing part.mid).first ≡ Some (code.Marker m.reset)) → ((1 ≤ length B) × ((standing part.mid).first ≡ None)) ⊎ ((B ≡ []) × ((standing part.mid).first ≡ first)) → (standing part.mid).first ≡ None
+          none_of (inl e) b = e
+          none_of (inr e) (inl b) = b.1
+          none_of (inr e) (inr b) = absurd (unread (m.reset, inr (sym b.1 ∙ e)))
 
-        g : GivesFault (standing part.mid) (standing t)
-        g = last.0
+        left : (standing part.mid).left ≡ marker_bytes m.reset ++ p1
+        left = sym m.stays ∙ left_t ∙ ap (λ z. ahead_bytes z ++ p1) ahead ∙ marker_is m.reset where
+          marker_is : (r : Bool) → code_bytes (code.Marker r) ++ p1 ≡ marker_bytes r ++ p1
+          marker_is r = refl
 
-        some_is : (a b : fault.Fault) → Some a ≡ Some b → a ≡ b
-        some_is a b e = cc
+        k : Taken first p (marker_bytes m.reset ++ p1) (stuffed B ++ [])
+        k = taken_bytes first B [] p (marker_bytes m.reset ++ p1) (none_or_some nothing) (taken_mid ∙ ap (λ z. stuffed B ++ z) left)
 
-        why_is : g.why ≡ Truncated
-        why_is = some_is g.why Truncated (sym g.fault ∙ fault_is)
-
-        unread_not : g.why ≡ Read → ⊥
-        unread_not e = let z : Truncated ≡ Read = sym why_is ∙ e in cc
-
-        behind : first1 ≡ None
-        behind = sym first_t ∙ g.behind
-
-        known : (standing t).known ≡ Some p1
-        known = known_t ∙ known_is first1 p1 ∙ ap (λ z. Some (ahead_bytes z ++ p1)) behind
-
-        nothing_left : p1 ≡ []
-        nothing_left = subst (λ z. IsAtEnd z) known (g.ends.at_end why_is)
-
-        taken : ahead_bytes first ++ p ≡ (stuffed B ++ g.ends.given) ++ p1
-        taken = subst (λ z. Consumes (Some (ahead_bytes first ++ p)) z (stuffed B ++ g.ends.given)) known (in_all (standing t).known g.ends.given g.ends.taken)
-
-        all : ahead_bytes first ++ p ≡ stuffed B ++ ([] ++ g.ends.given)
-        all = taken ∙ ap (λ z. (stuffed B ++ g.ends.given) ++ z) nothing_left ∙ append-nil (stuffed B ++ g.ends.given)
-
-        ahead_read : ((1 ≤ length B) × ((standing part.mid).first ≡ None)) ⊎ ((B ≡ []) × ((standing part.mid).first ≡ (standing s).first)) → (first ≡ None) ⊎ (1 ≤ length B)
-        ahead_read (inl b) = inr b.0
-        ahead_read (inr b) = inl (sym first_s ∙ sym b.1 ∙ g.begun)
-
-        k : Taken first p g.ends.given (stuffed B ++ [])
-        k = taken_bytes first B [] p g.ends.given (ahead_read part.went.begun) all
-
-        same_bytes : bytes_of (before_fault (answers ++ more)) ≡ bytes_of (answers ++ more)
-        same_bytes = bytes_again (answers ++ more) closed
-
-        some : ((1 ≤ length B) × ((standing part.mid).first ≡ None)) ⊎ ((B ≡ []) × ((standing part.mid).first ≡ (standing s).first)) → 1 ≤ length (A ++ B)
-        some (inl b) = let long = length-append A B in omega (arith, long, b.0)
-        some (inr b) = let old = o.begun (sym first_s ∙ sym b.1 ∙ g.begun) in let long = length-append A B in let long' = length-append A [] in omega (arith, old, long, long')
+        front_is : text ++ k.given ≡ stuffed (bytes_of (answers ++ more))
+        front_is = grown k.given [] o.text_is k.same ∙ append-nil (stuffed (bytes_of (answers ++ more)))
 
   -- it had ended
   ended_before : (reset : Bool) → EntityEnded first reset answers [] text → marker ≡ Some reset → more ≡ []
@@ -367,9 +389,7 @@ module _ {T : Type 0} (standing : T → EntityView) (failed : T → ℕ) (s t : 
       let same : s ≡ t = subst (λ z. Gives (Pull standing failed) s z t) none gives in
       let first_is : first1 ≡ None = sym first_t ∙ ap (λ z. (standing z).first) (sym same) ∙ first_s ∙ o.behind in
       let marker_is : marker1 ≡ Some reset = sym marker_t ∙ ap (λ z. (standing z).marker) (sym same) ∙ marker_s ∙ is in
-      let known : Some (ahead_bytes first ++ p) ≡ Some (ahead_bytes first1 ++ p1) = sym (known_s ∙ known_is first p) ∙ ap (λ z. (standing z).known) same ∙ (known_t ∙ known_is first1 p1) in
-      let plain : Some p ≡ Some p1 = ap (λ z. Some (ahead_bytes z ++ p)) (sym o.behind) ∙ known ∙ ap (λ z. Some (ahead_bytes z ++ p1)) first_is in
-      let p_is : p ≡ p1 = cc in (
+      let p_is : p ≡ p1 = ap (λ z. ahead_bytes z ++ p) (sym o.behind) ∙ sym left_s ∙ ap (λ z. (standing z).left) same ∙ left_t ∙ ap (λ z. ahead_bytes z ++ p1) first_is in (
         [],
         p_is,
         subst (λ m. CodeText first1 m (answers ++ more) [] (text ++ [])) (sym marker_is) (record {
@@ -381,24 +401,29 @@ module _ {T : Type 0} (standing : T → EntityView) (failed : T → ℕ) (s t : 
         }),
       )
 
+  unstopped_ended : {Leaves : Type 0} (reset : Bool) → EntityEnded first reset answers [] text → marker ≡ Some reset → heard_of (answers ++ more) ≡ Stopped → Leaves
+  unstopped_ended reset o e stopped =
+      let none = ended_before reset o e in
+      absurd (let both : Stopped ≡ Ended = sym stopped ∙ ap (λ z. heard_of (answers ++ z)) none ∙ ap heard_of (append-nil answers) ∙ o.ended in let bot : ⊥ = cc in bot)
+
+  -- one that has not ended, or one that has
+  by_marker : {Leaves : Type 0} → CodeText first marker answers [] text → (CodeOpen first answers [] text → marker ≡ None → Leaves) → ((reset : Bool) → EntityEnded first reset answers [] text → marker ≡ Some reset → Leaves) → Leaves
+  by_marker {Leaves} o going_ ended = by marker refl o where
+    by : (m : Option Bool) → marker ≡ m → CodeText first m answers [] text → Leaves
+    by None e o = going_ o e
+    by (Some reset) e o = ended reset o e
+
   pub code_went : CodeText first marker answers [] text → (heard_of (answers ++ more) ≡ Stopped → ⊥) → Went
-  code_went o unstopped = by_marker marker refl o where
-    by_marker : (m : Option Bool) → marker ≡ m → CodeText first m answers [] text → Went
-    by_marker None e o = went_open o e unstopped
-    by_marker (Some reset) e o = went_ended reset o e
+  code_went o unstopped = by_marker o (λ o e. went_open o e unstopped) (λ reset o e. went_ended reset o e)
 
-  pub code_broke : CodeText first marker answers [] text → (standing s).reads ≡ 0 → (standing t).reads ≡ 0 → heard_of (answers ++ more) ≡ Stopped → (why : fault.Fault) × ((standing t).fault ≡ Some why) × CodeBreaks text p (bytes_of (answers ++ more)) why
-  code_broke o reads_s reads_t stopped = by_marker marker refl o where
-    by_marker : (m : Option Bool) → marker ≡ m → CodeText first m answers [] text → (why : fault.Fault) × ((standing t).fault ≡ Some why) × CodeBreaks text p (bytes_of (answers ++ more)) why
-    by_marker None e o = broke_open o e reads_s reads_t stopped
-    by_marker (Some reset) e o =
-        let none = ended_before reset o e in
-        absurd (let both : Stopped ≡ Ended = sym stopped ∙ ap (λ z. heard_of (answers ++ z)) none ∙ ap heard_of (append-nil answers) ∙ o.ended in let bot : ⊥ = cc in bot)
+  pub code_unread : CodeText first marker answers [] text → (heard_of (answers ++ more) ≡ Stopped → ⊥) → (standing s).waits ≡ true → (MarkerRead marker first → ⊥) → MarkerRead marker1 first1 → ⊥
+  code_unread o unstopped waits unread = by_marker o (λ o e. unread_open o e unstopped waits unread) (λ reset o e. absurd (unread (reset, inl e)))
 
-  pub code_waits : CodeText first marker answers [] text → (standing s).reads ≡ 0 → (standing t).reads ≡ 0 → heard_of (answers ++ more) ≡ Stopped → (h : Fields) → (standing t).fault ≡ Some Truncated → (marker ≡ None) × Waits
-  code_waits o reads_s reads_t stopped h fault_is = by_marker marker refl o where
-    by_marker : (m : Option Bool) → marker ≡ m → CodeText first m answers [] text → (marker ≡ None) × Waits
-    by_marker None e o = (e, waits_open o e reads_s reads_t stopped h fault_is)
-    by_marker (Some reset) e o =
-        let none = ended_before reset o e in
-        absurd (let both : Stopped ≡ Ended = sym stopped ∙ ap (λ z. heard_of (answers ++ z)) none ∙ ap heard_of (append-nil answers) ∙ o.ended in let bot : ⊥ = cc in bot)
+  pub code_broke : CodeText first marker answers [] text → heard_of (answers ++ more) ≡ Stopped → (f : fault.Fault) → (standing t).fault ≡ Some f → CodeBreaks text p (bytes_of (answers ++ more)) f
+  code_broke o stopped f is = by_marker o (λ o e. broke_open o e stopped f is) (λ reset o e. unstopped_ended reset o e stopped)
+
+  pub code_waits : CodeText first marker answers [] text → heard_of (answers ++ more) ≡ Stopped → (standing t).fault ≡ Some Truncated → (first1 ≡ None) × (marker1 ≡ None) × Waits
+  code_waits o stopped is = by_marker o (λ o e. waits_open o e stopped is) (λ reset o e. unstopped_ended reset o e stopped)
+
+  pub code_at_marker : CodeText first marker answers [] text → heard_of (answers ++ more) ≡ Stopped → (standing t).fault ≡ None → ((standing s).waits ≡ true) × ((MarkerRead marker first → ⊥) → WaitsAtMarker)
+  code_at_marker o stopped is = by_marker o (λ o e. marker_open o e stopped is) (λ reset o e. unstopped_ended reset o e stopped)

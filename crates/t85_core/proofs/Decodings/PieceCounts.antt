@@ -1,5 +1,5 @@
 -- The counts of stripe data entities, and of the rows left, of a decoder in pieces.
-use Rattle.std.proofs.Common.{◌≡◌, inl, inr, ◌≤◌, ◌<◌, ◌+◌, ◌-◌, ◌*◌, ◌^◌, ℕ, Bool, true, false, nat_le, Option, None, Some, refl, sym, ap, ◌∙◌, arith, true≢false}
+use Rattle.std.proofs.Common.{◌≡◌, inl, inr, ◌≤◌, ◌<◌, ◌+◌, ◌-◌, ◌*◌, ℕ, Bool, true, false, nat_le, Option, None, Some, refl, sym, ap, ◌∙◌, arith, true≢false}
 use Rattle.std.proofs.Math.Nat.{mul-le-mul_right}
 use Rattle.std.proofs.lemmas.Bool.Decides.{nat_tests}
 use Rattle.t85_core.specs.declared.pieces.PieceDecoder.{PieceDecoder}
@@ -13,12 +13,6 @@ use Rattle.t85_core.specs.Phases.{phase_looks}
 use Rattle.t85_core.specs.Steps.Pieces.{IsInCode}
 use Rattle.t85_core.specs.Stages as stage
 use Rattle.t85_core.specs.Steps.PieceStands.{entities_behind, is_last, last_behind}
-
--- a code is no end
-pub code_not_done : (s : Stage) → is_code s ≡ true → is_done s ≡ false
-code_not_done (stage_type.Head head) e = refl
-code_not_done (stage_type.Code code) e = refl
-code_not_done stage_type.Done e = absurd (true≢false (sym e))
 
 -- rows are left behind the last stripe data entity, if another stripe follows it
 pub rows_left : (k : Kind) (height l e e' left left' : ℕ) → is_last k (nat_le left l) ≡ false → 1 ≤ left → left ≡ height - e * l → e' ≤ entities_behind k e → left' ≡ height - e' * l → 1 ≤ left'

@@ -11,7 +11,8 @@ use Rattle.t85_core.specs.Header.{Fields}
 use Rattle.t85_core.specs.Grammar.{marker_bytes}
 use Rattle.t85_core.specs.Refusal.{Spot, rest_fault}
 use Rattle.t85_core.specs.Steps.Segments.{RestFault}
-use Rattle.t85_core.specs.Steps.PieceCode.{ahead_bytes, CodeText, CodeBreaks}
+use Rattle.t85_core.specs.Steps.Entity.{ahead_bytes}
+use Rattle.t85_core.specs.Steps.PieceCode.{CodeText, CodeBreaks}
 use Rattle.t85_core.proofs.Bytes.Known.{stable_rest}
 use Rattle.t85_core.proofs.Bytes.Stuffing.{stuff, stuff_cases, stuffed_append}
 use Rattle.t85_core.proofs.Grammar.Cut.{NoCode, one_code, no_code_in, no_marker_fault, marker_no_code}

@@ -10,6 +10,7 @@ use Rattle.t85_core.specs.Header.{Fields}
 use Rattle.t85_core.specs.Refusal.{Spot, rest_fault, escape_fault, length_fault, move_fault, comment_fault}
 use Rattle.t85_core.specs.Failures.{Ends, counted_as}
 use Rattle.t85_core.specs.Steps.Segments.{PieceFault}
+use Rattle.t85_core.specs.Steps.Entity.{CodeEnds}
 use Rattle.t85_core.specs.Steps.PieceCode.{SkipBreaks}
 use Rattle.t85_core.proofs.Decodings.PieceEnds.{before_all}
 
@@ -24,12 +25,12 @@ code_few h spot (b ∷ escape ∷ bytes) e = absurd (let bot : ⊥ = grind (arit
 some_fields : Fields
 some_fields = record { xd = 0; yd = 0; l0 = 0; mx = 0; options = 0 }
 
-skip_short : (p p' : List ℕ) → SkipBreaks p p' Truncated → length p' ≤ 1
-skip_short p p' k = subst (λ z. length z ≤ 1) (sym (k.rest_is ∙ ap (λ z. k.rest ++ z) (k.at_end refl) ∙ append-nil k.rest)) (code_few some_fields before_all k.rest (k.broken some_fields before_all 0))
+pub ends_few : (p : List ℕ) (f : Fault) → CodeEnds p f → f ≡ Truncated → length p ≤ 1
+ends_few p f k cut = subst (λ z. length z ≤ 1) (sym (k.bytes_are ∙ ap (λ z. k.rest ++ z) (k.at_end cut) ∙ append-nil k.rest)) (code_few some_fields before_all k.rest (subst (λ g. rest_fault some_fields before_all 0 true k.rest ≡ Some g) cut (k.broken some_fields before_all 0)))
 
 pub skip_few : (p p' : List ℕ) (r : Result Bool Fault) → IfErr r (SkipBreaks p p') → IsErrOf r Truncated → length p' ≤ 1
 skip_few p p' (Ok x) k e = absurd (let bot : ⊥ = cc in bot)
-skip_few p p' (Err f) k e = skip_short p p' (subst (SkipBreaks p p') (let same : f ≡ Truncated = cc in same) k)
+skip_few p p' (Err f) k e = ends_few p' f k.ends (let same : f ≡ Truncated = cc in same)
 
 -- ---- before a code
 

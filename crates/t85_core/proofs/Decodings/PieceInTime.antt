@@ -1,5 +1,5 @@
 -- An end marker that is read after the rows that the bytes before it fix.
-use Rattle.std.proofs.Common.{◌≡◌, ◌++◌, ◌∙◌, inl, inr, ℕ, Bool, List, [], Option, None, Some, refl, sym, ap, subst, append_assoc, append-nil}
+use Rattle.std.proofs.Common.{◌≡◌, ◌++◌, ◌∙◌, inl, inr, ℕ, Bool, List, [], Option, None, Some, refl, sym, ap, subst, append_assoc, append-nil, arith}
 use Rattle.std.specs.Prelude.{flat_map}
 use Rattle.qm_core.specs.Code.{stuffed}
 use Rattle.qm_core.specs.declared.decoder.Decoder.{Decoder}
@@ -14,15 +14,16 @@ use Rattle.t85_core.specs.Lent.{Carried}
 use Rattle.t85_core.specs.Pieces.{HandsOut, HoldsFixedRows}
 use Rattle.t85_core.specs.Steps.CoderLaws.{CoderLaws}
 use Rattle.t85_core.specs.Steps.Cut.{BegunRun, open_stripe}
-use Rattle.t85_core.specs.Steps.PieceCode.{CodeOpen, CodeText, MarkerFound}
+use Rattle.raster_core.specs.declared.place.RowPlace.{RowPlace}
+use Rattle.t85_core.specs.Steps.PieceCode.{RowAtMarker, RowState, handed, CodeOpen, CodeText, MarkerFound, MarkerRead}
 use Rattle.t85_core.specs.Steps.InTime.{MarkerAfterRows}
-use Rattle.t85_core.specs.Steps.Pieces.{CutOff, HeadStands, CodeStands, MarkerRead, rows_in, head_place, code_place}
+use Rattle.t85_core.specs.Steps.Pieces.{CutOff, HeadStands, CodeStands, InRowStands, rows_in, head_place, code_place}
 use Rattle.t85_core.specs.Steps.Segments.{code_bytes}
 use Rattle.t85_core.specs.Steps.SizedImage.{SizedImage, sized}
 use Rattle.t85_core.proofs.Decodings.PieceGiven.{cut_hands_first}
 use Rattle.t85_core.proofs.Decodings.PieceHead.{head_cut}
 use Rattle.t85_core.proofs.Decodings.PieceMarker.{ahead_none, found_some}
-use Rattle.t85_core.proofs.Decodings.PieceWalk.{code_off, with_more}
+use Rattle.t85_core.proofs.Decodings.PieceWalk.{code_off, row_off, with_more}
 use Rattle.t85_core.proofs.Decodings.RowsSoFar.{rows_full}
 
 -- one row more
@@ -96,6 +97,20 @@ in_time_found {h} {height} {entities} {row = row} {first = first} {marker = mark
   begun : BegunRun (open_stripe h s.head.stripes.next s.head.passed.segments) (rows_in h height entities) m.code s.read.rows s.read.flags
   begun = subst (λ z. BegunRun (open_stripe h s.head.stripes.next s.head.passed.segments) (rows_in h height entities) z s.read.rows s.read.flags) (sym m.agrees.is)
       (rows_full h s.head.stripes.next s.head.passed.segments s.read.answers s.read.rows s.read.flags s.read.last s.read.so_far q (rows_in h height entities) m.agrees.rest d (s.read.many ∙ all) s.read.stands was_open.going m.agrees.bytes)
+
+-- in a row that waits at the end marker
+pub in_time_row : {h : Fields} {height entities : ℕ} {given : Bool} {at : Option move.Move} {row : ℕ} {first : Option code_type.Code} {marker : Option Bool} {carried : Carried} {d : Decoder} {place : RowPlace} {text out : List ℕ}
+    (s : InRowStands (sized h height) (head_place entities given at carried) (code_place row first marker d) place text out) → CoderLaws → IsInUse h height → {left : RowState} {p : List ℕ} →
+    (m : RowAtMarker (open_stripe h s.head.stripes.next s.head.passed.segments) s.shape row left (handed s.began out s.code) p) → MarkerAfterRows (sized h height) (text ++ m.waits.given) out
+in_time_row {h} {height} {entities} {text = text} {out = out} s q use_ m = record {
+  front = text ++ m.front;
+  reset = m.reset;
+  text_is = ap (λ z. text ++ z) m.given_is ∙ sym (append_assoc text m.front (marker_bytes m.reset));
+  first = out;
+  more = [];
+  out_is = sym (append-nil out);
+  cut = row_off s q use_ m.front Truncated (m.cut (rows_in h height entities) (let few = s.few in omega (arith, few)));
+}
 
 -- ---- the rows that were returned
 

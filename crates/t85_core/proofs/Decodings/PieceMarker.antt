@@ -13,10 +13,10 @@ use Rattle.t85_core.specs.declared.segments.Code.TheVariants as code
 use Rattle.t85_core.specs.Grammar.{marker_bytes}
 use Rattle.t85_core.specs.Failures.{Ends, reads_after}
 use Rattle.t85_core.specs.Steps.Segments.{IsByteOrMarker, RestFault}
-use Rattle.t85_core.specs.Steps.PieceCode.{ahead_bytes, CodeOpen, EntityEnded, CodeText, SkipsSome, SkipBreaks, MarkerFound, MarkerMissing, CodeKept, FindsMarker, MissesMarker, KeepsCode}
+use Rattle.t85_core.specs.Steps.Entity.{CodeEnds, ahead_bytes}
+use Rattle.t85_core.specs.Steps.PieceCode.{CodeOpen, EntityEnded, CodeText, SkipsSome, SkipBreaks, MarkerFound, MarkerMissing, CodeKept, FindsMarker, MarkerIs, MarkerRead, MissesMarker, KeepsCode}
 use Rattle.t85_core.proofs.Bytes.Known.{counted-other}
 use Rattle.t85_core.proofs.Bytes.Lists.{All-append}
-use Rattle.t85_core.specs.Steps.Pieces.{MarkerIs, MarkerRead}
 use Rattle.t85_core.proofs.Bytes.Stuffing.{stuffed_append, stuffed_cons}
 use Rattle.t85_core.proofs.Grammar.Cut.{marker_no_code}
 
@@ -129,12 +129,12 @@ module _ (first : Option Code) (a : Ahead first) (answers : List Pulled) (extra 
     breaks = record {
       some = all_some s.code;
       small = All-append (λ b. b < 256) A (all_extra s.code) o.bytes (all_small s.code s.small);
-      rest = s.rest;
-      unread = s.unread;
-      text_is = ap (λ z. text ++ z) (s.taken ∙ ap (λ z. stuffed s.code ++ z) s.rest_is) ∙ all_text s.code (s.rest ++ s.unread) ∙ sym (append_assoc (stuffed (A ++ all_extra s.code)) s.rest s.unread);
-      broken = s.broken;
-      counted = s.counted;
-      at_end = s.at_end;
+      rest = s.ends.rest;
+      unread = s.ends.unread;
+      text_is = ap (λ z. text ++ z) (s.taken ∙ ap (λ z. stuffed s.code ++ z) s.ends.bytes_are) ∙ all_text s.code (s.ends.rest ++ s.ends.unread) ∙ sym (append_assoc (stuffed (A ++ all_extra s.code)) s.ends.rest s.ends.unread);
+      broken = s.ends.broken;
+      counted = s.ends.counted;
+      at_end = s.ends.at_end;
     };
   }
 
@@ -170,15 +170,12 @@ module _ (first : Option Code) (marker : Option Bool) (none : marker ≡ None) (
   keeps_on first' gone (Err f) s e = λ answers extra text o.
       subst (λ m. CodeKept first' m answers text p p') (sym none) (kept_on first a answers extra text (open_ answers extra text o) first' gone p p' f s)
 
--- the code breaks there
-pub skip_breaks : (p mid p' : List ℕ) (f : fault.Fault) (code : List ℕ) → AllByRecursion (λ b. b < 256) code → p ≡ stuffed code ++ mid → Ends Truncated (Some mid) (Some p') RestFault f → 0 ≡ reads_after f 0 → SkipBreaks p mid f
-skip_breaks p mid p' f code small taken ends counts = record {
-  code = code;
-  small = small;
-  taken = taken;
+-- no element of a code comes next
+pub code_ends : (p p' : List ℕ) (f : fault.Fault) → Ends Truncated (Some p) (Some p') RestFault f → 0 ≡ reads_after f 0 → CodeEnds p f
+code_ends p p' f ends counts = record {
   rest = ends.given;
   unread = p';
-  rest_is = ends.taken;
+  bytes_are = ends.taken;
   broken = subst (RestFault ends.given) (counted-other Truncated f other) ends.has_fault;
   counted = counted-other Truncated f other;
   at_end = ends.at_end;

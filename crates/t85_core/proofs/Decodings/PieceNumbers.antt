@@ -76,26 +76,12 @@ one_code a b at row begun first marker =
       behind = is_prop→PathP (λ j. (r : Bool) → marker j ≡ Some r → first j ≡ None) (λ j. hlevel props) a.behind b.behind i;
     }
 
--- whether a height may still arrive
-pub open_of : (n : PieceNumbers) (p : Phase) → ArePhaseNumbers n p → is_set n.is_open ≡ phase_is_open p
-open_of n phase.Known k = k
-open_of n phase.InCode k = k.0
-open_of n (phase.Behind head) k = k.0
-open_of n phase.Late k = k.0
-
 -- whether one may arrive
 pub looks_of : (n : PieceNumbers) (p : Phase) → ArePhaseNumbers n p → phase_looks p ≡ is_set n.is_open && not (n.waits == 2)
 looks_of n phase.Known k = sym (ap (λ b. b && not (n.waits == 2)) k)
 looks_of n phase.InCode k = λ i. sym (k.0) i && not (sym (k.1) i == 2)
 looks_of n (phase.Behind head) k = λ i. sym (k.0) i && not (sym (k.1) i == 2)
 looks_of n phase.Late k = λ i. sym (k.0) i && not (sym (k.1) i == 2)
-
--- the phase of these numbers is the one that a test of them found
-pub closed_phase : (n : PieceNumbers) (p : Phase) → n.is_open ≡ 0 → ArePhaseNumbers n p → phase.Known ≡ p
-closed_phase n phase.Known zero k = refl
-closed_phase n phase.InCode zero k = absurd (flag_set n.is_open k.0 zero)
-closed_phase n (phase.Behind head) zero k = absurd (flag_set n.is_open k.0 zero)
-closed_phase n phase.Late zero k = absurd (flag_set n.is_open k.0 zero)
 
 pub behind_phase : (n : PieceNumbers) (p : Phase) (head : Head) → (n.is_open ≡ 0 → ⊥) → n.waits ≡ 1 → ((other : Head) → AreHeadNumbers n.behind other → head ≡ other) → ArePhaseNumbers n p → phase.Behind head ≡ p
 behind_phase n phase.Known head open_ waits one k = absurd (open_ (flag_clear n.is_open k))

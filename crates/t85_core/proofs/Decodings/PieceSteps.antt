@@ -1,6 +1,6 @@
 -- Steps of a walk, one after another.
-use Rattle.std.proofs.Common.{◌≡◌, ◌≢◌, ◌<◌, ◌≤◌, ◌+◌, ◌-◌, ◌*◌, ℕ, suc, ◌⊎◌, inl, inr, Bool, true, false, cond, List, [], ◌∷◌, ◌++◌, length, min, Option, Some, None, Result, Ok, Err, refl, sym, ap, ◌∙◌, subst, append_assoc, append-nil, arith}
-use Rattle.std.specs.Prelude.{OnOk, IfErr, IfSome}
+use Rattle.std.proofs.Common.{◌≡◌, ◌≢◌, ◌<◌, ◌≤◌, ◌+◌, ◌-◌, ◌*◌, ℕ, suc, ◌⊎◌, inl, inr, Bool, true, false, List, [], ◌∷◌, ◌++◌, length, min, Option, Some, None, Result, Ok, Err, refl, sym, ap, ◌∙◌, subst, append_assoc, append-nil, arith}
+use Rattle.std.specs.Prelude.{IfErr, IfSome}
 use Rattle.std.specs.Int.{div_ceil}
 use Rattle.std.specs.Result.{IsErrAnd}
 use Rattle.std.proofs.lemmas.Bool.{cases_lt}
@@ -17,11 +17,10 @@ use Rattle.t85_core.specs.Header.{Fields}
 use Rattle.t85_core.specs.Steps.State.{RowStart, image_start, first_row_start, next_stripe_start}
 use Rattle.t85_core.specs.Steps.DecodeRows.{IsCarried}
 use Rattle.t85_core.specs.declared.segments.Code.{Code}
-use Rattle.t85_core.specs.declared.segments.Code.TheVariants as code
 use Rattle.t85_core.specs.declared.segments.atmove.Move.{Move}
 use Rattle.t85_core.specs.Steps.Segments.{IsByteOrMarker}
 use Rattle.t85_core.specs.declared.pieces.walk.Walk.{Walk}
-use Rattle.t85_core.specs.Steps.Pieces.{CountsOn, KeepsStripes, CutOff, HeadStands, WalkStands, StageStands, StepsOn, StepsOff, StepsToEnd, Step, RowStep, RowLeaves, KeepsPlace, Turn, IsOver, CodeStands, IsInCode, rows_in, head_place, code_place}
+use Rattle.t85_core.specs.Steps.Pieces.{CountsOn, KeepsStripes, CutOff, HeadStands, WalkStands, StageStands, StepsOn, StepsOff, StepsToEnd, Step, Turn, IsOver, CodeStands, IsInCode, rows_in, head_place, code_place}
 use Rattle.t85_core.specs.Steps.StripeEnds.{StripeEnds}
 use Rattle.t85_core.specs.Steps.SizedImage.{SizedImage, sized}
 use Rattle.t85_core.proofs.Walks.Passed.{passed_none}
@@ -163,38 +162,6 @@ step_exit h height w w' p p' (Err y) e a off on = record { ok = tt; err = subst 
 pub other_exit : {A : Type 0} (r : Result A Fault) (e : Fault) → IsErrAnd r (λ y. y ≡ e) → e ≢ Changed → IfErr r (λ f. f ≢ Changed)
 other_exit (Ok x) e a other = tt
 other_exit (Err y) e a other = λ is. other (sym a ∙ is)
-
--- a row was entered before
-pub leaves_then : (w w1 w2 : WalkView) (p p' : List ℕ) (r : Result (Unit {0}) Fault) → KeepsPlace w w1 → (w1.row ≡ w.row) × (w1.first ≡ w.first) × (w1.marker ≡ w.marker) → RowLeaves w1 w2 p p' r → RowLeaves w w2 p p' r
-leaves_then w w1 w2 p p' r keeps same next = record {
-  place = record { entities = next.place.entities ∙ keeps.entities; left = next.place.left ∙ keeps.left; given = next.place.given ∙ keeps.given; at = next.place.at ∙ keeps.at };
-  row = row_of r next.row;
-  same_row = same_of r next.same_row;
-  whole = λ m. next.whole (m.0, marker_of m.0 m.1);
-  drained = next.drained;
-  other = next.other;
-} where
-  row_of : (r : Result (Unit {0}) Fault) → OnOk r ((w2.row ≡ w1.row + 1) × (w2.stage ≡ stage.Code)) → OnOk r ((w2.row ≡ w.row + 1) × (w2.stage ≡ stage.Code))
-  row_of (Ok x) k = (k.0 ∙ ap (λ n. n + 1) same.0, k.1)
-  row_of (Err y) k = tt
-
-  same_of : (r : Result (Unit {0}) Fault) → IfErr r (λ _. (w2.row ≡ w1.row) × (w2.stage ≡ stage.Row) × (w2.first ≡ None) × (w2.marker ≡ w1.marker)) → IfErr r (λ _. (w2.row ≡ w.row) × (w2.stage ≡ stage.Row) × (w2.first ≡ None) × (w2.marker ≡ w.marker))
-  same_of (Ok x) k = tt
-  same_of (Err y) k = (k.0 ∙ same.0, k.1, k.2, k.3 ∙ same.2)
-
-  marker_of : (reset : Bool) → (w.marker ≡ Some reset) ⊎ (w.first ≡ Some (code.Marker reset)) → (w1.marker ≡ Some reset) ⊎ (w1.first ≡ Some (code.Marker reset))
-  marker_of reset (inl e) = inl (same.2 ∙ e)
-  marker_of reset (inr e) = inr (same.1 ∙ e)
-
--- an offset stays low
-pub offset_low : (reset : Bool) (old new : ℕ) → old ≤ 127 → new ≡ cond reset 0 old → new ≤ 127
-offset_low true old new low e = omega (arith, e)
-offset_low false old new low e = omega (arith, e, low)
-
--- a step, and then a row
-pub row_then : (h : Fields) (height : ℕ) (w w1 w2 : WalkView) (p p1 p2 : List ℕ) → StepsOn (sized h height) w w1 p p1 [] → (r : Result (Unit {0}) Fault) → RowStep (sized h height) w1 w2 p1 p2 r → RowStep (sized h height) w w2 p p2 r
-row_then h height w w1 w2 p p1 p2 on (Ok x) s = record { ok = on_then h height w w1 p p1 on w2 p2 w2.carried.held.current s.ok; err = tt; more = λ e. absurd (let bot : ⊥ = cc in bot) }
-row_then h height w w1 w2 p p1 p2 on (Err f) s = record { ok = tt; err = off_then h height w w1 p p1 on f s.err; more = λ e. (on_then h height w w1 p p1 on w2 p2 [] (s.more e).0, (s.more e).1) }
 
 -- a row, as a turn
 pub turn_row : (h : Fields) (height : ℕ) (w w' : WalkView) (p p' : List ℕ) → StepsOn (sized h height) w w' p p' w'.carried.held.current → Turn (sized h height) w w' p p' (Ok true)

@@ -1,16 +1,13 @@
 -- The position of a decoder before and after a step.
-use Rattle.std.proofs.Common.{cond, ◌≡◌, ◌≢◌, ◌<◌, ◌≤◌, ◌+◌, ◌-◌, ◌*◌, ◌⊎◌, inl, inr, ℕ, Bool, true, false, List, [], ◌∷◌, ◌++◌, length, take, drop, slice_index, nat_le, Option, None, Some, Result, Ok, Err, refl, sym, ap, ◌∙◌, subst, append_assoc, append-nil, length-append, arith, true≢false}
-use Rattle.std.specs.Prelude.{IsOk, OnOk, IfSome, is_some, ◌&&◌}
+use Rattle.std.proofs.Common.{cond, ◌≡◌, ◌≢◌, ◌<◌, ◌≤◌, ◌+◌, ◌-◌, ◌*◌, inl, inr, ℕ, Bool, true, false, List, [], ◌∷◌, ◌++◌, length, take, drop, nat_le, Option, None, Some, Result, Ok, Err, refl, sym, ap, ◌∙◌, subst, append_assoc, append-nil, length-append, arith, true≢false}
+use Rattle.std.specs.Prelude.{IsOk, OnOk, is_some, ◌&&◌}
 use Rattle.std.proofs.lemmas.Bool.Decides.{nat_tests}
-use Rattle.std.proofs.Math.Seq.{drop-append_seam, take-append_seam}
-use Rattle.std.proofs.lemmas.Bool.{cases_lt}
+use Rattle.std.proofs.Math.Seq.{take-append_seam}
 use Rattle.std.proofs.lemmas.List.{take-append-drop}
 use Rattle.byteorder.specs.Endian.{big_bytes}
 use Rattle.t85_core.proofs.Decodings.PieceHeights.{head_behind}
-use Rattle.t85_core.specs.Grammar.{ESC, COMMENT, marker_bytes}
-use Rattle.t85_core.specs.declared.segments.Code.TheVariants as code
-use Rattle.t85_core.proofs.Decodings.PieceSteps.{walk_at, walk_with, at_stage, put_stage, walk_few}
-use Rattle.t85_core.proofs.Decodings.PieceWalk.{code_ahead, row_ahead}
+use Rattle.t85_core.specs.Grammar.{ESC, COMMENT}
+use Rattle.t85_core.proofs.Decodings.PieceSteps.{walk_with, at_stage}
 use Rattle.t85_core.specs.declared.segments.Place.{Place}
 use Rattle.t85_core.specs.declared.segments.Code as code_type
 use Rattle.qm_core.specs.Place.{start}
@@ -44,11 +41,12 @@ use Rattle.t85_core.specs.Pieces.{AwaitsHeight, HasDecoded, HasHeight, HandsOut,
 use Rattle.t85_core.specs.Consumed.{ConsumesImage}
 use Rattle.t85_core.specs.Steps.Behind.{BehindStands, BreaksBehind, StopsBehind, behind_at}
 use Rattle.t85_core.specs.Steps.InTime.{MarkerAfterRows}
-use Rattle.t85_core.specs.Steps.Pieces.{HeadStands, CommentStands, IsFirstWalk, SomeStands, WalkStands, CutOff, StepsOn, StepsOff, RowStep, RowLeaves, StageStands, KeepsPlace, HasMarker, IsInCode, head_place}
+use Rattle.t85_core.specs.Steps.Pieces.{HeadStands, CommentStands, IsFirstWalk, SomeStands, WalkStands, CutOff, StepsOn, StepsOff, KeepsPlace, HasMarker, IsInCode, head_place}
+use Rattle.t85_core.specs.Steps.RowTurns.{RowStep, RowLeaves}
 use Rattle.t85_core.specs.Steps.StripeEnds.{StripeEnds}
 use Rattle.t85_core.specs.Steps.SizedImage.{SizedImage, sized}
 use Rattle.t85_core.specs.Steps.PieceStands.{DecoderStands, HeightKnown, StandsAs, CodeWalks, WalkWaits, IsAtMarker, entities_behind, is_last, place_behind, last_behind}
-use Rattle.t85_core.specs.Steps.PieceSteps.{SomeStand, DecoderOn, DecoderOnAfterRows, EndsConsumed, EndsWhole, EndsBroken, NoHeightBelow, StaysOpen, StepLeaves, KeepsDecoder, StripeLeft, StripeClosed, HeadEntered, steps_left}
+use Rattle.t85_core.specs.Steps.PieceSteps.{SomeStand, DecoderOn, EndsConsumed, EndsWhole, EndsBroken, NoHeightBelow, StaysOpen, StepLeaves, KeepsDecoder, StripeLeft, StripeClosed, HeadEntered, steps_left}
 use Rattle.t85_core.proofs.Decodings.ImagePut.{in_use}
 use Rattle.t85_core.proofs.Decodings.PieceBehind.{behind_first, front_is, part_of}
 use Rattle.t85_core.proofs.Decodings.PieceGiven.{cut_hands, cut_hands_first, piece_other, height_known, read_consumes, read_holds}
@@ -59,9 +57,6 @@ use Rattle.t85_core.proofs.Decodings.PieceHead.{head_code, head_cut, comment_off
 -- a relation at the height in use holds at the header's, if that is the same
 pub at_first : (Holds : SizedImage → Type 0) {h : Fields} {height : ℕ} → height ≡ h.yd → Holds (sized h height) → Holds (sized h h.yd)
 at_first Holds {h} same k = subst (λ n. Holds (sized h n)) same k
-
-pub at_last : (Holds : SizedImage → Type 0) {h : Fields} {height : ℕ} → height ≡ h.yd → Holds (sized h h.yd) → Holds (sized h height)
-at_last Holds {h} same k = subst (λ n. Holds (sized h n)) (sym same) k
 
 -- a height that may still be followed by another
 pub known_open : {h : Fields} {height : ℕ} {is_open : Bool} {text : List ℕ} → is_open ≡ true → HeightKnown h height is_open text → HeightKnown h height true text
@@ -112,9 +107,6 @@ waits_first h w b text out s at ungiven in_time none empty = record {
 }
 
 -- ---- how many steps are left
-
-pub fewer_bytes : (old new : Bool) (p p' : List ℕ) → length p' < length p → steps_left new p' < steps_left old p
-fewer_bytes old new p p' less = grind (arith, nat_tests)
 
 pub begins_to_wait : (old new : Bool) (p p' : List ℕ) → old ≡ false → new ≡ true → length p' ≤ length p → steps_left new p' < steps_left old p
 begins_to_wait old new p p' going waits le =
@@ -249,7 +241,7 @@ keep_known d d' text keeps k =
     (subst (λ b. HeightKnown (fields_of d.header) d.height b text) (sym keeps.is_open) k))
 
 -- a row that waited
-pub row_given : (d d' : PieceView) → d.is_open ≡ true → d.waits ≡ true → IsInCode d.walk.stage → KeepsDecoder d d' → (p' : List ℕ) (r : Result (Unit {0}) Fault) → RowStep (sized (fields_of d.header) d.header.yd) d.walk d'.walk [] p' r → RowLeaves d.walk d'.walk [] p' r →
+pub row_given : (d d' : PieceView) → d.is_open ≡ true → d.waits ≡ true → IsInCode d.walk.stage → KeepsDecoder d d' → (p' : List ℕ) (r : Result (Unit {0}) Fault) → RowStep (sized (fields_of d.header) d.header.yd) d.walk d'.walk [] p' r → RowLeaves d.walk d'.walk r →
     DecoderOn d d' [] [] (row_held d')
 row_given d d' late waits code keeps p' r step leaves text out s = (
   [],
@@ -283,8 +275,8 @@ row_given d d' late waits code keeps p' r step leaves text out s = (
   }
 
 -- its place
-pub row_after : (d : PieceView) (w : WalkView) → d.is_open ≡ true → d.waits ≡ true → SomeStand d → IsInCode d.walk.stage → (p' : List ℕ) (r : Result (Unit {0}) Fault) → RowLeaves d.walk w [] p' r → w.row ≡ d.walk.row + 1
-row_after d w late waits some code p' r leaves = (on_ok r _ (leaves.whole (marker_of d.walk (waits_of d some.0 some.1 late waits some.2).at code)).0 leaves.row).0
+pub row_after : (d : PieceView) (w : WalkView) → d.is_open ≡ true → d.waits ≡ true → SomeStand d → IsInCode d.walk.stage → (r : Result (Unit {0}) Fault) → RowLeaves d.walk w r → w.row ≡ d.walk.row + 1
+row_after d w late waits some code r leaves = (on_ok r _ (leaves.whole (marker_of d.walk (waits_of d some.0 some.1 late waits some.2).at code)).0 leaves.row).0
 
 -- a stripe ended
 pub stripe_ended : {d d' : PieceView} → d.is_open ≡ true → d.waits ≡ true → SomeStand d → KeepsDecoder d d' → StripeEnds (sized (fields_of d.header) d.header.yd) d.walk d'.walk → StripeLeft d d'
@@ -391,15 +383,6 @@ open_looks phase.InCode e = refl
 open_looks (phase.Behind head) e = refl
 open_looks phase.Late e = refl
 
--- a stage in a code
-pub code_is : (s : Stage) → IsInCode (stage_kind s) → is_code s ≡ true
-code_is (stage_type.Head head) code = by head.comment code where
-  by : (comment : Option ℕ) → IsInCode (head_kind comment) → false ≡ true
-  by None k = elim k [ inl e ↦ (let bot : ⊥ = cc in absurd bot) | inr e ↦ (let bot : ⊥ = cc in absurd bot) ]
-  by (Some left) k = elim k [ inl e ↦ (let bot : ⊥ = cc in absurd bot) | inr e ↦ (let bot : ⊥ = cc in absurd bot) ]
-code_is (stage_type.Code c) code = refl
-code_is stage_type.Done code = elim code [ inl e ↦ (let bot : ⊥ = cc in absurd bot) | inr e ↦ (let bot : ⊥ = cc in absurd bot) ]
-
 pub entities_more : (s : Kind) (n : ℕ) → n ≤ entities_behind s n
 entities_more stage.Head n = omega arith
 entities_more stage.Comment n = omega arith
@@ -408,48 +391,6 @@ entities_more stage.Row n = omega arith
 entities_more stage.Done n = omega arith
 
 -- ---- in the code
-
--- a part of a piece was taken
-pub code_on : (d d' : PieceView) (p front behind part' p' row : List ℕ) → d.is_open ≡ true → d.waits ≡ false → KeepsDecoder d d' → p ≡ front ++ behind → (SomeStand d → (g : List ℕ) → front ≡ g ++ part' → p' ≡ part' ++ behind) →
-    StepsOn (sized (fields_of d.header) d.header.yd) d.walk d'.walk front part' row → (SomeStand d → IsInCode d'.walk.stage × (d'.walk.given ≡ d.walk.given)) → (SomeStand d → HasMarker d'.walk → ⊥) → DecoderOn d d' p p' row
-code_on d d' p front behind part' p' row late going keeps p_is rest on code unmarked text out s =
-    let w = code_of d text out late going s in
-    let c = code (text, out, s) in
-    let k = on text out w.walk in (
-      k.0,
-      p_is ∙ ap (λ z. z ++ behind) k.1 ∙ append_assoc k.0 part' behind ∙ ap (λ z. k.0 ++ z) (sym (rest (text, out, s) k.0 k.1)),
-      put_code d' (text ++ k.0) (out ++ row) (keeps.is_open ∙ late) (keeps.waits ∙ going) (keep_known d d' (text ++ k.0) keeps (known_more (fields_of d.header) d.height d.is_open text k.0 s.height))
-          (subst (λ z. CodeWalks (fields_of z) d'.walk (text ++ k.0) (out ++ row)) (sym keeps.header) (record { walk = k.2; in_code = c.0; ungiven = c.1 ∙ w.ungiven; in_time = λ m. absurd (unmarked (text, out, s) m) })),
-    )
-
--- and then an end marker, where the bytes before it fix no further row
-pub on_to_marker : (d e d' : PieceView) (p front behind p' : List ℕ) → d.is_open ≡ true → d.waits ≡ false → e.header ≡ d.header → p ≡ front ++ behind → DecoderOn d e p behind [] → StepsOff (sized (fields_of d.header) d.header.yd) d.walk front Truncated → DecoderOnAfterRows e d' behind p' → DecoderOn d d' p p' []
-on_to_marker d e d' p front behind p' late going header p_is on off next text out s =
-    let a = on text out s in
-    let same : front ≡ a.0 = sym (taken_is p behind front p_is) ∙ taken_is p behind a.0 a.1 in
-    let cut : CutOff (sized (fields_of e.header) e.header.yd) (text ++ a.0) (out ++ []) Truncated = subst (λ k. CutOff (sized (fields_of k) k.yd) (text ++ a.0) (out ++ []) Truncated) (sym header)
-    (subst (λ z. CutOff (sized (fields_of d.header) d.header.yd) (text ++ a.0) z Truncated) (sym (append-nil out)) (subst (λ z. CutOff (sized (fields_of d.header) d.header.yd) (text ++ z) out Truncated) same (off text out (code_of d text out late going s).walk))) in
-    let b = next (text ++ a.0) (out ++ []) a.2 cut in (
-      a.0 ++ b.0,
-      a.1 ∙ ap (λ z. a.0 ++ z) b.1 ∙ sym (append_assoc a.0 b.0 p'),
-      subst (λ z. DecoderStands d' z (out ++ [])) (append_assoc text a.0 b.0) (subst (λ z. DecoderStands d' ((text ++ a.0) ++ b.0) (z ++ [])) (append-nil out) b.2),
-    )
-
--- a fault in a part of the piece
-pub part_broken : (d : PieceView) (p front behind : List ℕ) (fault : Fault) → d.is_open ≡ true → d.waits ≡ false → p ≡ front ++ behind → StepsOff (sized (fields_of d.header) d.header.yd) d.walk front fault → (SomeStand d → fault ≢ Changed) → fault ≢ Truncated → (is_all : Bool) →
-    EndsBroken is_all d p d.height fault
-part_broken d p front behind fault late going p_is off other not_end is_all text out rest s follows =
-    subst (λ z. HandsOut (fields_of d.header) z d.height fault out) (sym (append_assoc (text ++ front) behind rest) ∙ ap (λ z. z ++ rest) (append_assoc text front behind ∙ ap (λ z. text ++ z) (sym p_is)))
-    (code_broken d front fault late going off other false (λ t. absurd (not_end t)) text out (behind ++ rest) s (λ e. absurd (true≢false (sym e))))
-
--- an end marker is read ahead
-pub walk_ahead : (h : Fields) (height : ℕ) (w : WalkView) (text out : List ℕ) (reset : Bool) → IsInCode w.stage → w.first ≡ None → w.marker ≡ None → WalkStands (sized h height) w text out →
-    WalkStands (sized h height) (record w { first = Some (code.Marker reset); marker = None }) (text ++ marker_bytes reset) out
-walk_ahead h height w text out reset in_code none unmarked s = subst (λ m. WalkStands (sized h height) (record w { first = Some (code.Marker reset); marker = m }) (text ++ marker_bytes reset) out) unmarked
-    (walk_at s tt (subst (λ z. IfSome z (λ _. Some (code.Marker reset) ≡ None)) (sym unmarked) tt) (by in_code)) where
-      by : IsInCode w.stage → StageStands w.stage (sized h height) (record w { first = Some (code.Marker reset) }) (text ++ marker_bytes reset) out
-      by (inl e) = put_stage h height (record w { first = Some (code.Marker reset) }) (text ++ marker_bytes reset) out stage.Code e (code_ahead reset none unmarked (at_stage e s))
-      by (inr e) = put_stage h height (record w { first = Some (code.Marker reset) }) (text ++ marker_bytes reset) out stage.Row e (row_ahead reset none unmarked (at_stage e s))
 
 -- ---- the stripe before
 
@@ -478,42 +419,8 @@ closed_ended d d' late waits some code more e = record {
   stands = λ text out w. e.stands w.done out w.walk;
 }
 
-pub marker_split : (reset : Bool) (p rest behind : List ℕ) → p ≡ marker_bytes reset ++ rest → behind ≡ drop 2 p → p ≡ marker_bytes reset ++ behind
-marker_split reset p rest behind is back = is ∙ ap (λ z. marker_bytes reset ++ z) (sym (back ∙ ap (drop 2) is))
-
--- what is left of a piece
-pub part_left : (p front behind g part' p' : List ℕ) (n : ℕ) → p ≡ front ++ behind → front ≡ g ++ part' → n ≡ length front - length part' → p' ≡ drop n p → p' ≡ part' ++ behind
-part_left p front behind g part' p' n p_is front_is n_is back =
-    let long = length-append g part' in
-    let all : length front ≡ length (g ++ part') = ap length front_is in
-    let same : n ≡ length g = omega (arith, long, all, n_is) in
-    back ∙ ap (λ m. drop m p) same ∙ ap (drop (length g)) (p_is ∙ ap (λ z. z ++ behind) front_is ∙ append_assoc g part' behind) ∙ drop-append_seam g (part' ++ behind)
-
 pub split_is : (p front behind : List ℕ) (n : ℕ) → front ≡ take n p → behind ≡ drop n p → p ≡ front ++ behind
 split_is p front behind n f b = sym (take-append-drop n p) ∙ ap (λ z. z ++ drop n p) (sym f) ∙ ap (λ z. front ++ z) (sym b)
-
--- what follows a part is shorter than all, where the part has a byte or what follows loses one
-pub shorter_rest : (p front behind p' : List ℕ) → p ≡ front ++ behind → length p' ≤ length behind → (length front ≡ 0 → length p' < length behind) → length p' < length p
-shorter_rest p front behind p' p_is le less =
-    let long = length-append front behind in
-    let all : length p ≡ length (front ++ behind) = ap length p_is in
-    by (cases_lt 0 (length front)) long all
-  where
-    by : (0 < length front) ⊎ (length front ≤ 0) → length (front ++ behind) ≡ length front + length behind → length p ≡ length (front ++ behind) → length p' < length p
-    by (inl some) long all = omega (arith, some, long, all, le)
-    by (inr none) long all = let l = less (omega (arith, none)) in omega (arith, l, long, all)
-
--- an end marker at the front
-pub marker_front : (xs : List ℕ) (n b : ℕ) → n ≡ 0 → slice_index xs n ≡ 255 → slice_index xs (n + 1) ≡ b → n + 1 < length xs → xs ≡ 255 ∷ b ∷ drop 2 xs
-marker_front (x ∷ y ∷ xs) n b zero first second some =
-    let e : x ≡ 255 = ap (slice_index (x ∷ y ∷ xs)) (sym zero) ∙ first in
-    let one : n + 1 ≡ 1 = omega (arith, zero) in
-    let f : y ≡ b = ap (slice_index (x ∷ y ∷ xs)) (sym one) ∙ second in
-    ap (λ z. z ∷ y ∷ xs) e ∙ ap (λ z. 255 ∷ z ∷ xs) f
-marker_front xs n b zero first second some = absurd (omega (arith, some))
-
-same_left : {m n : ℕ} → Some m ≡ Some n → m ≡ n
-same_left e = cc
 
 -- ---- the head of the next stripe
 
@@ -726,13 +633,6 @@ call_on d e d' p p' row taken count header height is_open waits walk behind goin
     let k = on text out s.stands in
     record { going = going; stands = subst (λ z. DecoderStands d' (text ++ z) (out ++ row)) (sym (taken_is p p' k.0 k.1) ∙ ap (λ n. take n p) (sym count)) (stands_same e d' (text ++ k.0) (out ++ row) header height is_open waits walk behind k.2) }
 
--- while a height may come, there are fewer stripes behind than the header has rows
-pub entities_few : (d : PieceView) (text out : List ℕ) → d.is_open ≡ true → IsInCode d.walk.stage → DecoderStands d text out → d.walk.entities < d.header.yd
-entities_few d text out late in_code s = go d.waits refl where
-  go : (b : Bool) → d.waits ≡ b → d.walk.entities < d.header.yd
-  go false going = walk_few (fields_of d.header) d.header.yd d.walk text out d.header.some_rows in_code (code_of d text out late going s).walk
-  go true waits = let w = waits_of d text out late waits s in walk_few (fields_of d.header) d.header.yd d.walk w.done out d.header.some_rows in_code w.walk
-
 -- ---- for a decoder at some position
 
 -- its walk does
@@ -767,17 +667,6 @@ module _ (is_all : Bool) (d d' : PieceView) (p p' : List ℕ) (header : d'.heade
 
   pub broken_where : (f : Fault) → (SomeStand d → StepLeaves is_all d d' p p' (Some (outcome.Broken f))) → StepLeaves is_all d d' p p' (Some (outcome.Broken f))
   broken_where f = leaves_where (Some (outcome.Broken f)) (λ e. absurd (let bot : ⊥ = cc in bot)) (λ n e. absurd (let bot : ⊥ = cc in bot))
-
-  -- no decoder at some position reaches this
-  pub leaves_nowhere : (f : Fault) → (SomeStand d → ⊥) → StepLeaves is_all d d' p p' (Some (outcome.Broken f))
-  leaves_nowhere f never = broken_where f (λ some. absurd (never some))
-
--- there are fewer stripes behind than a height has rows
-pub waits_few : (d : PieceView) → d.is_open ≡ true → d.waits ≡ true → SomeStand d → d.walk.entities < d.header.yd
-waits_few d late waits some = by (waits_of d some.0 some.1 late waits some.2).at where
-  by : IsAtMarker d.walk → d.walk.entities < d.header.yd
-  by (inl head) = let none = head.2 in omega (arith, none, d.header.some_height)
-  by (inr k) = entities_few d some.0 some.1 late k.0 some.2
 
 -- a stripe with more rows behind it is not the last
 pub not_last : (d : PieceView) → d.is_open ≡ true → d.waits ≡ true → SomeStand d → (IsInCode d.walk.stage → d.header.l0 < d.walk.left) → last_behind (fields_of d.header) d.walk.stage d.walk.left ≡ false

@@ -327,28 +327,3 @@ module _ {h : Fields} {height entities : ℕ} {given : Bool} {at : Option move.M
         }
 
 -- ---- an end marker is read ahead
-
-text_marked : (first : Option code_type.Code) (marker : Option Bool) (answers : List Pulled) (extra text : List ℕ) (reset : Bool) → first ≡ None → marker ≡ None → CodeText first marker answers extra text →
-    CodeText (Some (code.Marker reset)) marker answers extra (text ++ marker_bytes reset)
-text_marked first marker answers extra text reset none unmarked o = subst (λ z. CodeText (Some (code.Marker reset)) z answers extra (text ++ marker_bytes reset)) (sym unmarked) now where
-  was : CodeOpen None answers extra text
-  was = subst (λ z. CodeOpen z answers extra text) none (subst (λ z. CodeText first z answers extra text) unmarked o)
-
-  now : CodeOpen (Some (code.Marker reset)) answers extra (text ++ marker_bytes reset)
-  now = record {
-    going = was.going;
-    bytes = was.bytes;
-    small = was.small;
-    ahead = tt;
-    begun = λ e. absurd (let bot : ⊥ = cc in bot);
-    text_is = ap (λ z. z ++ marker_bytes reset) (was.text_is ∙ append-nil (stuffed (bytes_of answers ++ extra)));
-  }
-
-pub code_ahead : {h : Fields} {height entities : ℕ} {given : Bool} {at : Option move.Move} {row : ℕ} {first : Option code_type.Code} {marker : Option Bool} {carried : Carried} {d : Decoder} {text out : List ℕ} (reset : Bool) → first ≡ None → marker ≡ None →
-    CodeStands (sized h height) (head_place entities given at carried) (code_place row first marker d) text out → CodeStands (sized h height) (head_place entities given at carried) (code_place row (Some (code.Marker reset)) marker d) (text ++ marker_bytes reset) out
-code_ahead {first = first} {marker = marker} reset none unmarked s =
-    code_with s s.read s.few s.extra s.rows_first (s.code ++ marker_bytes reset) (text_marked first marker s.read.answers s.extra s.code reset none unmarked s.code_is) (sym (with_more s (marker_bytes reset)))
-
-pub row_ahead : {h : Fields} {height entities : ℕ} {given : Bool} {at : Option move.Move} {row : ℕ} {first : Option code_type.Code} {marker : Option Bool} {carried : Carried} {d : Decoder} {in_row : RowPlace} {text out : List ℕ} (reset : Bool) → first ≡ None → marker ≡ None →
-    InRowStands (sized h height) (head_place entities given at carried) (code_place row first marker d) in_row text out → InRowStands (sized h height) (head_place entities given at carried) (code_place row (Some (code.Marker reset)) marker d) in_row (text ++ marker_bytes reset) out
-row_ahead {first = first} {marker = marker} reset none unmarked s = in_row_with s (marker_bytes reset) s.begun (text_marked first marker (s.begun.read.answers ++ s.begun.since) [] s.code reset none unmarked s.code_is)

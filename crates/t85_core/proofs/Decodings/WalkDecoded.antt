@@ -24,7 +24,8 @@ use Rattle.t85_core.specs.Steps.State.{StripeStart, first_row_start, stripe_codi
 use Rattle.t85_core.specs.Steps.Cut.{RunEnough}
 use Rattle.t85_core.specs.Steps.DecodeRows.{pair_of, IsShapeOf, RepeatsRows, rows_done}
 use Rattle.t85_core.specs.Steps.DecodeStripes.{StripeUnwritten, ImageUnwritten, AreFirst, stripe_place}
-use Rattle.t85_core.specs.Steps.PieceCode.{Anything, CodeText, ahead_bytes}
+use Rattle.t85_core.specs.Steps.Entity.{ahead_bytes}
+use Rattle.t85_core.specs.Steps.PieceCode.{Anything, CodeText}
 use Rattle.t85_core.specs.Steps.Pieces.{CodeStands, rows_in, head_place, code_place}
 use Rattle.t85_core.specs.Steps.SizedImage.{sized}
 use Rattle.t85_core.specs.Steps.Passage.{passage}

@@ -201,7 +201,7 @@ module _ (h : Fields) (height : ℕ) (w w1 w2 : WalkView) (old mid new : SourceV
 pub rows_same : (h : Fields) (height : ℕ) (w w' : WalkView) (s : SourceView) (n : ℕ) → 0 < n → ((text out : List ℕ) → WalkStands (sized h height) w text out → WalkStands (sized h height) w' text (out ++ copies n w'.carried.held.current)) → (0 < n → w'.stage ≡ stage.Code) →
     RowsTurn (sized h height) w w' s s (Ok n)
 rows_same h height w w' s n some on code = record {
-  some = λ _. (reads_none h height w w' s.known (copies n w'.carried.held.current) on, code some);
+  some = λ _. (reads_none h height w w' s.known (copies n w'.carried.held.current) on, λ _. code some);
   none = λ none. absurd (omega (arith, some, none));
   err = tt;
   reads = λ _. record { drained = λ e. absurd (let bot : ⊥ = cc in bot); counts = refl; same_source = refl };
@@ -212,11 +212,11 @@ pub reads_no_rows : (h : Fields) (height : ℕ) (w w' : WalkView) (known : Optio
 reads_no_rows h height w w' known n none on = reads_none h height w w' known [] (λ text out s. subst (λ z. WalkStands (sized h height) w' text (out ++ copies z w'.carried.held.current)) none (on text out s))
 
 module _ (h : Fields) (height : ℕ) (w w1 w2 : WalkView) (old new : SourceView) (on : ReadsWalk (sized h height) w w1 old.known old.known []) where
-  pub rows_one : (b : Bool) (n : ℕ) → n ≡ cond b 1 0 → ReadTurn (sized h height) w1 w2 old new (Ok b) → (◌≡◌ {A = Result Bool Fault} (Ok b) (Ok true) → w2.stage ≡ stage.Code) → RowsTurn (sized h height) w w2 old new (Ok n)
+  pub rows_one : (b : Bool) (n : ℕ) → n ≡ cond b 1 0 → ReadTurn (sized h height) w1 w2 old new (Ok b) → (SomeStands (sized h height) w1 → ◌≡◌ {A = Result Bool Fault} (Ok b) (Ok true) → w2.stage ≡ stage.Code) → RowsTurn (sized h height) w w2 old new (Ok n)
   rows_one b n is t code = went b n is t code where
-    went : (b : Bool) (n : ℕ) → n ≡ cond b 1 0 → ReadTurn (sized h height) w1 w2 old new (Ok b) → (◌≡◌ {A = Result Bool Fault} (Ok b) (Ok true) → w2.stage ≡ stage.Code) → RowsTurn (sized h height) w w2 old new (Ok n)
+    went : (b : Bool) (n : ℕ) → n ≡ cond b 1 0 → ReadTurn (sized h height) w1 w2 old new (Ok b) → (SomeStands (sized h height) w1 → ◌≡◌ {A = Result Bool Fault} (Ok b) (Ok true) → w2.stage ≡ stage.Code) → RowsTurn (sized h height) w w2 old new (Ok n)
     went true n is t code = record {
-      some = λ _. (reads_then h height w w1 old.known old.known on w2 new.known (copies n w2.carried.held.current) (subst (λ z. ReadsWalk (sized h height) w1 w2 old.known new.known z) (sym (append-nil w2.carried.held.current) ∙ ap (λ z. copies z w2.carried.held.current) (sym is)) (t.row refl)), code refl);
+      some = λ _. (reads_then h height w w1 old.known old.known on w2 new.known (copies n w2.carried.held.current) (subst (λ z. ReadsWalk (sized h height) w1 w2 old.known new.known z) (sym (append-nil w2.carried.held.current) ∙ ap (λ z. copies z w2.carried.held.current) (sym is)) (t.row refl)), λ some. code (some_then h height w w1 old.known old.known on some) refl);
       none = λ none. absurd (omega (arith, is, none));
       err = tt;
       reads = λ some. let r = t.reads (some_then h height w w1 old.known old.known on some) in record { drained = λ e. absurd (let bot : ⊥ = cc in bot); counts = r.counts; same_source = r.same_source };
@@ -275,12 +275,12 @@ module _ (h : Fields) (height : ℕ) (w w' : WalkView) (known known' known'' tex
       }
 
   -- rows more
-  module _ (n : ℕ) (some : 0 < n) (use_ : IsInUse h height) (q : CoderLaws) (on : ReadsWalk (sized h height) w w' known' known'' (copies n w'.carried.held.current) × (w'.stage ≡ stage.Code)) where
+  module _ (n : ℕ) (some : 0 < n) (use_ : IsInUse h height) (q : CoderLaws) (on : ReadsWalk (sized h height) w w' known' known'' (copies n w'.carried.held.current) × (SomeStands (sized h height) w → w'.stage ≡ stage.Code)) where
     abbrev next : (given : List ℕ) × Consumes known' known'' given × WalkStands (sized h height) w' (so.bytes ++ given) (so.out ++ copies n w'.carried.held.current)
     next = on.0 so.bytes so.out so.stands
 
     abbrev here : CodeStands (sized h height) (head_place w'.entities w'.given w'.at w'.carried) (code_place w'.row w'.first w'.marker w'.decoder) (so.bytes ++ next.0) (so.out ++ copies n w'.carried.held.current)
-    here = at_stage on.1 next.2
+    here = at_stage (on.1 (so.bytes, so.out, so.stands)) next.2
 
     long : length (so.out ++ copies n w'.carried.held.current) ≡ (row + n) * row_bytes h.xd
     long =

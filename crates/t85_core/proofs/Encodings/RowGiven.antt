@@ -1,8 +1,8 @@
 -- A row that is given in bytes.
-use Rattle.std.proofs.Common.{◌≡◌, ◌≤◌, ◌+◌, ◌-◌, ◌*◌, ◌<◌, ◌%◌, ◌^◌, ◌/◌, ℕ, zero, suc, List, length, map, refl, sym, ap, ◌∙◌, subst, arith, slice_index, slice_set, get_or-set_same, length-set}
+use Rattle.std.proofs.Common.{◌≡◌, ◌≤◌, ◌+◌, ◌-◌, ◌*◌, ◌<◌, ◌%◌, ◌^◌, ◌/◌, ℕ, zero, suc, List, length, map, refl, sym, ap, ◌∙◌, subst, arith, slice_index, get_or-set_same, length-set}
 use Rattle.std.specs.Prelude.{◌==◌}
 use Rattle.std.proofs.Math.Nat.{mul-mod_right}
-use Rattle.std.proofs.lemmas.Nat.{pow_pos, one_shl}
+use Rattle.std.proofs.lemmas.Nat.{pow_pos}
 use Rattle.pbm_core.specs.Pbm.{bytes_of_row, padding_of, pixel, masked_row, IsMasked, MaskKeepsPixels}
 use Rattle.pbm_core.specs.Image.{pixels_of, MaskedIsPacked}
 use Rattle.pbm_core.specs.Image as pbm
@@ -24,16 +24,6 @@ masked_is width bytes some whole =
     let last : ℕ = bytes_of_row width - 1 in
     let within : last < length bytes = omega (arith, bytes_some width some) in
     ap (λ b. b % 2 ^ padding_of width) (get_or-set_same bytes last _ 0 within) ∙ multiple (slice_index bytes last) (2 ^ padding_of width) (pow_pos (padding_of width))
-
--- the row where the place and the power are what a program computes
-pub masked_same : {n : ℕ} (width : ℕ) (bytes : List ℕ) → n ≡ bytes_of_row width →
-    slice_set bytes (n - 1) (slice_index bytes (n - 1) - slice_index bytes (n - 1) % ((1 * 2 ^ (n * 8 - width)) % 256)) ≡ masked_row width bytes
-masked_same {n} width bytes counted =
-    let bits : n * 8 - width ≡ padding_of width = omega arith in
-    let small : padding_of width < 8 = grind arith in
-    let power : (1 * 2 ^ (n * 8 - width)) % 256 ≡ 2 ^ padding_of width = rw bits (one_shl (padding_of width) 8 small) in
-    let at : (m : ℕ) → ℕ → List ℕ = λ (m : ℕ) (p : ℕ). slice_set bytes (m - 1) (slice_index bytes (m - 1) - slice_index bytes (m - 1) % p) in
-    ap (λ (p : ℕ). at n p) power ∙ ap (λ (m : ℕ). at m (2 ^ padding_of width)) counted
 
 -- two functions that agree on numbers
 same_map : {X : Type 0} (f h : ℕ → X) (k n : ℕ) → ((x : ℕ) → x < k + n → f x ≡ h x) → map f (pbm.numbers_from k n) ≡ map h (pbm.numbers_from k n)

@@ -1,5 +1,5 @@
 -- The position of a decoder in the code of a stripe, whose pieces arrive one by one.
-use Rattle.std.specs.Prelude.{ℕ, ◌+◌, ◌≡◌, ◌≤◌, ◌<◌, Bool, List, [], ◌∷◌, ◌++◌, length, Option, Some, None, IfSome, flat_map}
+use Rattle.std.specs.Prelude.{ℕ, ◌+◌, ◌≡◌, ◌≤◌, ◌<◌, ◌⊎◌, Bool, true, List, [], ◌++◌, length, Option, Some, None, IfSome, flat_map}
 use Rattle.std.specs.List.{AllByRecursion}
 use Rattle.qm_core.specs.Code.{stuffed}
 use Rattle.qm_core.specs.Source.{bytes_of, heard_of, Agrees}
@@ -16,12 +16,14 @@ use Rattle.raster_core.specs.declared.shape.Kept.{Kept}
 use Rattle.t85_core.specs.declared.lent.Lent.{Lent}
 use Rattle.t85_core.specs.declared.pieces.piece.PieceCode.{PieceCode}
 use Rattle.t85_core.specs.declared.segments.Code.{Code}
+use Rattle.t85_core.specs.declared.segments.Code.TheVariants as code
 use Rattle.t85_core.specs.Lent.{Carried, carried_by}
 use Rattle.t85_core.specs.Header.{Fields}
 use Rattle.t85_core.specs.Grammar.{Segment, marker_bytes}
 use Rattle.t85_core.specs.Coding.{move_of}
 use Rattle.t85_core.specs.Failures.{counted_as}
-use Rattle.t85_core.specs.Steps.Segments.{IsByteOrMarker, RestFault, code_bytes}
+use Rattle.t85_core.specs.Steps.Entity.{CodeEnds, ahead_bytes}
+use Rattle.t85_core.specs.Steps.Segments.{IsByteOrMarker, RestFault}
 use Rattle.t85_core.specs.Steps.State.{StripeStart, offset_at}
 use Rattle.t85_core.specs.Steps.Cut.{OpenStripe, open_stripe, BegunRun}
 use Rattle.t85_core.specs.Steps.DecodeRows.{Leads, RowsDone, rows_done, RowsRead}
@@ -33,11 +35,6 @@ Anything s answer t = Unit {0}
 -- the first rows of a stripe: decoded from these answers, and handed out
 abbrev pub RowsKnown : OpenStripe → Shape → RowsDone → List ℕ → List ℕ → Type 0
 RowsKnown stripe shape done began out = RowsRead (Leads Anything tt tt) stripe shape done (Some began) (Some out)
-
--- what was read ahead of a code
-abbrev pub ahead_bytes : Option Code → List ℕ
-ahead_bytes None = []
-ahead_bytes (Some c) = code_bytes c
 
 -- The text of a code so far: its bytes that were answered, those that were skipped after them, and what was read ahead.
 pub record CodeOpen (first : Option Code) (answers : List Pulled) (extra text : List ℕ) : Type 0 where
@@ -84,6 +81,13 @@ pub record RowState : Type 0 where
 
 abbrev pub row_state_at : Carried → Decoder → RowPlace → Option Code → Option Bool → List ℕ → RowState
 row_state_at carried decoder place first marker piece = record { carried = carried; decoder = decoder; place = place; first = first; marker = marker; piece = piece }
+
+-- the end marker of the code was read: one that resets, or one that does not
+abbrev pub MarkerIs : Bool → Option Bool → Option Code → Type 0
+MarkerIs reset marker first = (marker ≡ Some reset) ⊎ (first ≡ Some (code.Marker reset))
+
+abbrev pub MarkerRead : Option Bool → Option Code → Type 0
+MarkerRead marker first = (reset : Bool) × MarkerIs reset marker first
 
 -- the parts of one that borrows these two, and reads this code
 abbrev pub row_state : {F : ℕ} → Lent → Kept → Decoder → RowPlace → PieceCode F → RowState
@@ -136,12 +140,21 @@ pub record RowBroken (stripe : OpenStripe) (count : ℕ) (parts : Handed) (piece
   pub begun : BegunRun stripe count bytes rows flags
   pub out_is : parts.out ≡ parts.began ++ flat_map packed_row rows
 
--- A row waits for what follows the piece, of which these bytes were taken. It leaves this state.
+-- A row waits for what follows these bytes. It leaves this state.
 pub record RowWaits (stripe : OpenStripe) (shape : Shape) (row : ℕ) (left : RowState) (parts : Handed) (piece : List ℕ) : Type 0 where
   pub given : List ℕ
   pub taken : piece ≡ given ++ left.piece
   pub begun : RowBegun stripe shape (open_row row left.carried left.decoder left.place) parts.began parts.out
   pub code_is : CodeText left.first left.marker (begun.read.answers ++ begun.since) [] (parts.text ++ given)
+
+-- A row waits at the end marker of its code, which was read ahead: the rows before it are all that the bytes before the marker fix.
+pub record RowAtMarker (stripe : OpenStripe) (shape : Shape) (row : ℕ) (left : RowState) (parts : Handed) (piece : List ℕ) : Type 0 where
+  pub waits : RowWaits stripe shape row left parts piece
+  pub reset : Bool
+  pub ahead : left.first ≡ Some (code.Marker reset)
+  pub front : List ℕ
+  pub given_is : waits.given ≡ front ++ marker_bytes reset
+  pub cut : (count : ℕ) → row ≤ count → RowBroken stripe count parts front Truncated
 
 -- what is left of a row that has begun in whatever stripe
 abbrev pub FromRow : Shape → RowState → (OpenStripe → ℕ → Handed → Type 0) → Type 0
@@ -150,26 +163,17 @@ FromRow shape s Leaves =
     (b : RowBegun (open_stripe h c segments) shape (open_row row s.carried s.decoder s.place) began out) → CodeText s.first s.marker (b.read.answers ++ b.since) [] text →
     Leaves (open_stripe h c segments) row (handed began out text)
 
-abbrev pub EndsRow : Shape → RowState → RowState → Type 0
-EndsRow shape s t = FromRow shape s (λ stripe row parts. PieceRowTaken stripe shape row t parts s.piece)
+abbrev pub EndsRow : Bool → Shape → RowState → RowState → Type 0
+EndsRow waits shape s t = FromRow shape s (λ stripe row parts. PieceRowTaken stripe shape row t parts s.piece × (waits ≡ true → (MarkerRead s.marker s.first → ⊥) → MarkerRead t.marker t.first → ⊥))
 
 abbrev pub BreaksRow : Shape → RowState → Fault → Type 0
 BreaksRow shape s fault = FromRow shape s (λ stripe row parts. (count : ℕ) → row ≤ count → RowBroken stripe count parts s.piece fault)
 
 abbrev pub WaitsInRow : Shape → RowState → RowState → Type 0
-WaitsInRow shape s t = FromRow shape s (λ stripe row parts. RowWaits stripe shape row t parts s.piece)
+WaitsInRow shape s t = FromRow shape s (λ stripe row parts. RowWaits stripe shape row t parts s.piece × (t.first ≡ None) × (t.marker ≡ None))
 
--- bytes whose last is no FF
-abbrev pub EndsInNoEscape : List ℕ → Type 0
-EndsInNoEscape bytes = (front : List ℕ) → bytes ≡ front ++ 255 ∷ [] → ⊥
-
--- of bytes the FF of an escape is left, if they end in one
-abbrev pub LeavesEscape : List ℕ → List ℕ → Type 0
-LeavesEscape bytes rest = (length rest ≤ 1) × (EndsInNoEscape bytes → rest ≡ [])
-
--- bytes in which no code reaches an end marker
-abbrev pub HasNoMarker : List ℕ → Type 0
-HasNoMarker bytes = (code rest : List ℕ) (reset : Bool) → bytes ≡ stuffed code ++ (marker_bytes reset ++ rest) → ⊥
+abbrev pub StopsInRow : Bool → Shape → RowState → RowState → Type 0
+StopsInRow waits shape s t = FromRow shape s (λ stripe row parts. (waits ≡ true) × ((MarkerRead s.marker s.first → ⊥) → RowAtMarker stripe shape row t parts s.piece))
 
 -- ---- after the last row of a stripe
 
@@ -184,12 +188,7 @@ pub record SkipBreaks (piece piece' : List ℕ) (fault : Fault) : Type 0 where
   pub code : List ℕ
   pub small : AllByRecursion (λ b. b < 256) code
   pub taken : piece ≡ stuffed code ++ piece'
-  pub rest : List ℕ
-  pub unread : List ℕ
-  pub rest_is : piece' ≡ rest ++ unread
-  pub broken : RestFault rest fault
-  pub counted : counted_as Truncated fault ≡ fault
-  pub at_end : fault ≡ Truncated → unread ≡ []
+  pub ends : CodeEnds piece' fault
 
 -- The end marker of a code, of which the rows were answered so.
 pub record MarkerFound (answers : List Pulled) (text piece piece' : List ℕ) (reset : Bool) : Type 0 where

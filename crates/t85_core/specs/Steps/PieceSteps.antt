@@ -20,7 +20,7 @@ use Rattle.t85_core.specs.Height.{IsHeight}
 use Rattle.t85_core.specs.Steps.DecodeStripes.{StripesRead}
 use Rattle.t85_core.specs.Steps.HeightWalk.{LookEnds}
 use Rattle.t85_core.specs.Steps.Behind.{BehindStands, behind_at}
-use Rattle.t85_core.specs.Steps.Pieces.{WalkStands, CutOff, IsInCode, HasMarker}
+use Rattle.t85_core.specs.Steps.Pieces.{WalkStands, IsInCode, HasMarker}
 use Rattle.t85_core.specs.Steps.SizedImage.{sized}
 use Rattle.t85_core.specs.Pieces.{AwaitsHeight, HandsOut, HoldsImage, MayFollow, row_held, rows_given, stream_of, stripes_ended}
 use Rattle.t85_core.specs.Consumed.{ConsumesImage}
@@ -41,11 +41,6 @@ SomeStand d = (text : List ℕ) × (out : List ℕ) × DecoderStands d text out
 -- bytes of a piece were taken, and these rows given
 abbrev pub DecoderOn : PieceView → PieceView → List ℕ → List ℕ → List ℕ → Type 0
 DecoderOn d d' piece piece' row = (text out : List ℕ) → DecoderStands d text out → (given : List ℕ) × (piece ≡ given ++ piece') × DecoderStands d' (text ++ given) (out ++ row)
-
--- the same where the bytes so far fix exactly the returned rows
-abbrev pub DecoderOnAfterRows : PieceView → PieceView → List ℕ → List ℕ → Type 0
-DecoderOnAfterRows d d' piece piece' =
-    (text out : List ℕ) → DecoderStands d text out → CutOff (sized (fields_of d.header) d.header.yd) text out Truncated → (given : List ℕ) × (piece ≡ given ++ piece') × DecoderStands d' (text ++ given) (out ++ [])
 
 -- what is the end of a stream with the piece, whatever may follow it
 abbrev pub EndsWhole : Bool → PieceView → List ℕ → ℕ → Type 0

@@ -1,5 +1,5 @@
 -- The position of a decoder that is fed in pieces.
-use Rattle.std.specs.Prelude.{⊤, ℕ, ◌+◌, ◌-◌, ◌*◌, ◌^◌, ◌≡◌, ◌≢◌, ◌≤◌, ◌<◌, Bool, true, false, List, [], ◌∷◌, ◌++◌, length, min, Option, Some, None, IfSome, is_some, if◌then◌else◌, Result, Ok, ◌⊎◌, IsOk, OnOk, IfErr, IsErrOf}
+use Rattle.std.specs.Prelude.{⊤, ℕ, ◌+◌, ◌-◌, ◌*◌, ◌^◌, ◌≡◌, ◌≤◌, ◌<◌, Bool, true, false, List, [], ◌∷◌, ◌++◌, length, min, Option, Some, None, IfSome, is_some, if◌then◌else◌, Result, Ok, ◌⊎◌, OnOk, IfErr, IsErrOf}
 use Rattle.byteorder.specs.Endian.{big_bytes}
 use Rattle.qm_core.specs.declared.decoder.Decoder.{Decoder}
 use Rattle.qm_core.specs.Place.{Estimate}
@@ -7,9 +7,8 @@ use Rattle.raster_core.specs.Packed.{Held}
 use Rattle.raster_core.specs.declared.shape.Shape.{Shape}
 use Rattle.raster_core.specs.declared.place.RowPlace.{RowPlace}
 use Rattle.t85_core.specs.declared.fault.Fault.{Fault}
-use Rattle.t85_core.specs.declared.fault.Fault.TheVariants.{Truncated, Changed}
+use Rattle.t85_core.specs.declared.fault.Fault.TheVariants.{Truncated}
 use Rattle.t85_core.specs.declared.segments.Code.{Code}
-use Rattle.t85_core.specs.declared.segments.Code.TheVariants as code
 use Rattle.t85_core.specs.declared.segments.atmove.Move as move
 use Rattle.t85_core.specs.declared.pieces.walk.Walk.{Walk}
 use Rattle.t85_core.specs.declared.pieces.code.InCode.{InCode}
@@ -23,7 +22,7 @@ use Rattle.t85_core.specs.Grammar.{stripe_count, ESC, COMMENT}
 use Rattle.t85_core.specs.Failures.{counted_as}
 use Rattle.t85_core.specs.Steps.Segments.{HasPassed, IsByteOrMarker, segments_so_far}
 use Rattle.t85_core.specs.Steps.DecodeStripes.{StripesRead, ImageRead, ImageCut}
-use Rattle.t85_core.specs.Steps.PieceCode.{RowsKnown, RowBegun, CodeText, EndsInNoEscape, open_row}
+use Rattle.t85_core.specs.Steps.PieceCode.{RowsKnown, RowBegun, CodeText, MarkerRead, open_row}
 use Rattle.t85_core.specs.Steps.Cut.{open_stripe}
 use Rattle.t85_core.specs.Steps.DecodeRows.{rows_done}
 use Rattle.t85_core.specs.Steps.Passage.{passage}
@@ -165,12 +164,6 @@ pub record Step {A : Type 0} (image : SizedImage) (w w' : WalkView) (piece piece
 abbrev pub Alone : (WalkView → WalkView → Type 0) → Walk → Walk → Type 0
 Alone Leaves w w' = (rows : Held) (learned : List Estimate) → Leaves (walk_view w rows learned) (walk_view w' rows learned)
 
--- The effect of a step that returns a row.
-pub record RowStep (image : SizedImage) (w w' : WalkView) (piece piece' : List ℕ) (answer : Result (Unit {0}) Fault) : Type 0 where
-  pub ok : OnOk answer (StepsOn image w w' piece piece' w'.carried.held.current)
-  pub err : IfErr answer (λ f. StepsOff image w piece f)
-  pub more : IsErrOf answer Truncated → StepsToEnd image w w' piece piece'
-
 -- a walk before the first byte
 pub record IsFirstWalk (w : WalkView) : Type 0 where
   pub stage : w.stage ≡ stage.Head
@@ -182,13 +175,6 @@ pub record IsFirstWalk (w : WalkView) : Type 0 where
 abbrev pub AfterRows : ℕ → (WalkView → WalkView → Type 0) → InCode → InCode → Type 0
 AfterRows l0 Leaves c c' =
     (s : StripeAt) (kept : Kept) (d : Decoder) (rows : Held) (learned : List Estimate) → min s.left l0 ≤ c.row → Leaves (code_view s c kept d rows learned) (code_view s c' kept d rows learned)
-
--- the end marker of the code was read: one that resets, or one that does not
-abbrev pub MarkerIs : Bool → Option Bool → Option Code → Type 0
-MarkerIs reset marker first = (marker ≡ Some reset) ⊎ (first ≡ Some (code.Marker reset))
-
-abbrev pub MarkerRead : Option Bool → Option Code → Type 0
-MarkerRead marker first = (reset : Bool) × MarkerIs reset marker first
 
 abbrev pub HasMarker : WalkView → Type 0
 HasMarker w = MarkerRead w.marker w.first
@@ -224,20 +210,6 @@ RowIsLeft l0 w = IsInCode w.stage × (w.row < min w.left l0)
 -- all rows of the stripe are decoded
 abbrev pub HasAllRows : ℕ → Walk → Type 0
 HasAllRows l0 w = IsInCode (stage_kind w.stage) × (min w.left l0 ≤ stage_row w.stage)
-
--- The effect of a step to a row, besides the row.
-pub record RowLeaves (w w' : WalkView) (piece piece' : List ℕ) (answer : Result (Unit {0}) Fault) : Type 0 where
-  pub place : KeepsPlace w w'
-  pub row : OnOk answer ((w'.row ≡ w.row + 1) × (w'.stage ≡ stage.Code))
-  pub same_row : IfErr answer (λ _. (w'.row ≡ w.row) × (w'.stage ≡ stage.Row) × (w'.first ≡ None) × (w'.marker ≡ w.marker))
-  -- a row of a code whose end marker was read is whole
-  pub whole : HasMarker w → IsOk answer × HasMarker w'
-  pub drained : IfErr answer (λ _. EndsInNoEscape piece → piece' ≡ [])
-  pub other : IfErr answer (λ f. f ≢ Changed)
-
--- The walk is again one at some position.
-abbrev pub LeavesRow : SizedImage → WalkView → WalkView → List ℕ → List ℕ → Result (Unit {0}) Fault → Type 0
-LeavesRow image w w' piece piece' answer = SomeStands image w → RowLeaves w w' piece piece' answer
 
 -- The effect of a step that may return a row, or find that the image is whole.
 pub record Turn (image : SizedImage) (w w' : WalkView) (piece piece' : List ℕ) (answer : Result Bool Fault) : Type 0 where

@@ -83,7 +83,7 @@ pub record ReadTurn (image : SizedImage) (w w' : WalkView) (old new : SourceView
 
 -- The same, of several rows that are equal: so many were handed out, or the image is whole.
 pub record RowsTurn (image : SizedImage) (w w' : WalkView) (old new : SourceView) (answer : Result ℕ Fault) : Type 0 where
-  pub some : IfOk answer (λ n. 0 < n → ReadsWalk image w w' old.known new.known (copies n w'.carried.held.current) × (w'.stage ≡ stage.Code))
+  pub some : IfOk answer (λ n. 0 < n → ReadsWalk image w w' old.known new.known (copies n w'.carried.held.current) × (SomeStands image w → w'.stage ≡ stage.Code))
   pub none : IfOk answer (λ n. n ≡ 0 → ReadsWalk image w w' old.known new.known [] × IsOver w'.stage)
   pub err : IfErr answer (λ f. BreaksWalk image w old.known new.known f)
   pub reads : SomeStands image w → ReadsOn old new answer

@@ -4,7 +4,8 @@ use Rattle.t85_core.specs.Lent.{WalkView}
 use Rattle.t85_core.specs.Stages as stage
 use Rattle.t85_core.specs.Steps.DecodeStripes.{StripesRead}
 use Rattle.t85_core.specs.Steps.Passage.{passage}
-use Rattle.t85_core.specs.Steps.Pieces.{IsInCode, MarkerIs, WalkStands}
+use Rattle.t85_core.specs.Steps.Pieces.{IsInCode, WalkStands}
+use Rattle.t85_core.specs.Steps.PieceCode.{MarkerIs}
 use Rattle.t85_core.specs.Steps.SizedImage.{SizedImage}
 
 -- A stripe ended, and the next one follows, or none.

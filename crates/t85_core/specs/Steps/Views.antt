@@ -1,5 +1,5 @@
 -- The views of structs that contain a device.
-use Rattle.std.specs.Prelude.{ℕ, List, [], Option, Some, Result, ◌≡◌, ◌≤◌}
+use Rattle.std.specs.Prelude.{ℕ, List, Option, Result, ◌≡◌, ◌≤◌, ◌++◌}
 use Rattle.std.specs.Io.KnownBytes.{append_known}
 use Rattle.pbm_core.specs.declared.device.Output as device
 use Rattle.t85_core.specs.declared.pieces.piece.PieceCode.{PieceCode}
@@ -9,18 +9,15 @@ use Rattle.t85_core.specs.declared.fault.Fault.{Fault}
 use Rattle.t85_core.specs.Failures.{CountsWrite}
 use Rattle.t85_core.specs.Steps.Buffers.{Writer, SourceView, SinkView, TargetView, held_of, known_length}
 use Rattle.t85_core.specs.Steps.Passage.{Passage, passage}
-use Rattle.t85_core.specs.Steps.Entity.{EntityView, entity_known}
+use Rattle.t85_core.specs.Steps.Entity.{EntityView, ahead_bytes}
 
 -- a code of which a piece arrived
 abbrev pub piece_view : {F : ℕ} → PieceCode F → EntityView
 piece_view {F} s = record {
-  known = entity_known s.first (Some s.piece.rest.now);
-  beyond = Some [];
-  reads = 0;
-  source = 0;
-  input = 0;
+  left = ahead_bytes s.first ++ s.piece.rest.now;
   first = s.first;
   marker = s.marker;
+  waits = s.waits;
   fault = s.fault;
 }
 

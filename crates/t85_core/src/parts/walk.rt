@@ -14,8 +14,7 @@ use crate::parts::{
     read_part, rest_of,
 };
 use crate::pieces::piece::Piece;
-use crate::pieces::steps::marker_at;
-use crate::segments::Place;
+use crate::segments::{Place, marker_at};
 
 impl PartWalk {
     /// A walk before the first byte of a stream.

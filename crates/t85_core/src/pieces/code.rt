@@ -42,7 +42,8 @@ impl InCode {
     ghost use Rattle.t85_core.specs.Stages.{StartsCode};
     ghost use Rattle.t85_core.specs.Steps.Buffers.{copies};
     ghost use Rattle.t85_core.specs.Steps.InTime.{ReachesMarker};
-    ghost use Rattle.t85_core.specs.Steps.Pieces.{AfterRows, MarkerIs, MarkerRead, SomeStands, Step, WalkStands};
+    ghost use Rattle.t85_core.specs.Steps.PieceCode.{MarkerIs, MarkerRead};
+    ghost use Rattle.t85_core.specs.Steps.Pieces.{AfterRows, SomeStands, Step, WalkStands};
     ghost use Rattle.t85_core.specs.Steps.SizedImage.{sized_of};
 
     /// Before the first row of a stripe with this move. The first element of its code has been read.

@@ -1,7 +1,11 @@
 //! A piece of a stream as a byte source.
 
-ghost use Rattle.std.specs.Prelude.{◌≡◌, ◌<◌, ℕ, Bool, None, Some, IfSome, [], length, if◌then◌else◌};
+ghost use Rattle.std.specs.Prelude.{◌≡◌, ◌≤◌, ◌<◌, ◌++◌, ℕ, Bool, None, Some, IfErr, IfOk, [], length, if◌then◌else◌};
+ghost use Rattle.t85_core.specs.declared.fault.Fault.{Fault};
+ghost use Rattle.t85_core.specs.declared.fault.Fault.TheVariants.{Truncated};
 ghost use Rattle.t85_core.specs.declared.segments.Code.TheVariants as code;
+ghost use Rattle.t85_core.specs.Steps.Entity.{CodeEnds};
+ghost use Rattle.t85_core.specs.Steps.Segments.{IsByteOrMarker, code_bytes};
 
 use crate::fault::Fault;
 use crate::input_buffer::{ByteSource, ESCAPE, plain_len};
@@ -53,6 +57,26 @@ impl ByteSource for Piece<'_> {
     }
 }
 
+/// Reads a byte of a code that has begun, or its end marker. If it has not arrived, or is neither, nothing is consumed.
+pub fn whole_code(piece: &mut Piece<'_>) -> Result<Code, Fault>
+    ensures ok { IfOk result (λ code. IsByteOrMarker code ×
+        (piece.old.rest.now ≡ code_bytes code ++ piece.new.rest.now)) }
+    ensures err { IfErr result (CodeEnds piece.old.rest.now) }
+    ensures stays { IfErr result (λ _. piece.new.rest.now ≡ piece.old.rest.now) }
+    ensures few { IfErr result (λ f. f ≡ Truncated → length piece.new.rest.now ≤ 1) }
+    ensures no_more { length piece.new.rest.now ≤ length piece.old.rest.now }
+    ensures lowers { IfOk result (λ _. length piece.new.rest.now < length piece.old.rest.now) }
+{
+    let rest = piece.rest;
+    match next_code(piece) {
+        Ok(code) => Ok(code),
+        Err(fault) => {
+            piece.rest = rest;
+            Err(fault)
+        }
+    }
+}
+
 /// The part of a stripe's code that is in a piece, with stuffing removed, followed by its end marker. `PART` has no
 /// meaning for the code: it makes the compiler compile whole rows and the rest of a row separately, each without what
 /// only the other needs.
@@ -63,11 +87,15 @@ pub struct PieceCode<'a, const PART: usize> {
     pub first: Option<Code>,
     /// Whether the end marker resets, once it has been read.
     pub marker: Option<bool>,
+    /// Whether the code stops at its end marker, and reads it ahead.
+    pub waits: bool,
     /// Why the code is broken, or that the piece has ended.
     pub fault: Option<Fault>,
     pub failures: u64,
     ghost small: { (b : ℕ) → first ≡ Some (code.Byte b) → b < 256 },
     ghost behind: { (r : Bool) → marker ≡ Some r → first ≡ None },
+    ghost broken: { (f : Fault) → fault ≡ Some f → first ≡ None },
+    ghost few: { fault ≡ Some Truncated → length piece.rest.now ≤ 1 },
 }
 
 impl<const PART: usize> PieceCode<'_, PART> {
@@ -76,13 +104,6 @@ impl<const PART: usize> PieceCode<'_, PART> {
     ghost use Rattle.t85_core.specs.Steps.Entity.{EntityGives};
     ghost use Rattle.t85_core.specs.Steps.Views.{piece_view};
 
-    /// Why the code is broken.
-    pub fn fault(&self) -> Fault
-        ensures { IfSome self.now.fault (λ f. result ≡ f) }
-    {
-        self.fault.unwrap_or(Fault::Truncated)
-    }
-
     /// Returns the next byte, whatever comes next.
     #[inline(never)]
     fn pull_any(&mut self) -> Pulled
@@ -90,17 +111,22 @@ impl<const PART: usize> PieceCode<'_, PART> {
         ensures counted { self.new.failures ≡
             (if is_fault result then one_more self.old.failures else self.old.failures) }
     {
-        if self.fault.is_some() {
+        if self.fault.is_some() || self.marker.is_some() {
             self.failures = self.failures.wrapping_add(1);
             return Pulled::Fault;
         }
         let next = match self.first.take() {
             Some(code) => Ok(code),
-            None => next_code(&mut self.piece),
+            None => whole_code(&mut self.piece),
         };
         match next {
             Ok(Code::Byte(byte)) => Pulled::Byte(byte),
             Ok(Code::Marker(reset)) => {
+                if self.waits {
+                    self.first = Some(Code::Marker(reset));
+                    self.failures = self.failures.wrapping_add(1);
+                    return Pulled::Fault;
+                }
                 self.marker = Some(reset);
                 Pulled::End
             }

@@ -52,7 +52,9 @@ impl Walk {
     ghost use Rattle.t85_core.specs.declared.pieces.walk.Stage.TheVariants as stage_type;
     ghost use Rattle.t85_core.specs.Lent.{KeepsLent, walk_view, walk_lent as over};
     ghost use Rattle.t85_core.specs.Steps.Buffers.{copies};
-    ghost use Rattle.t85_core.specs.Steps.Pieces.{WalkStands, IsFirstWalk, Alone, CountsOn, HasAllRows, IsInCode, KeepsStripes, KeepsPlace, LeavesRow, MarkerIs, MarkerRead, RowIsLeft, RowStep, SomeStands, Step, Turn};
+    ghost use Rattle.t85_core.specs.Steps.PieceCode.{MarkerIs, MarkerRead};
+    ghost use Rattle.t85_core.specs.Steps.Pieces.{WalkStands, IsFirstWalk, Alone, CountsOn, HasAllRows, IsInCode, KeepsStripes, KeepsPlace, RowIsLeft, SomeStands, Step, Turn};
+    ghost use Rattle.t85_core.specs.Steps.RowTurns.{CodeGoes, LeavesRow, RowStep};
     ghost use Rattle.t85_core.specs.Steps.InTime.{ReachesMarker};
     ghost use Rattle.t85_core.specs.Stages.{is_code, is_done, stage_first, stage_kind, stage_marker, stage_row};
     ghost use Rattle.t85_core.specs.declared.fault.Fault.TheVariants.{Changed};
@@ -90,7 +92,8 @@ impl Walk {
     ) -> Result<bool, Fault>
         ensures step { Turn (sized_of image.now) (over self.old lent.old)
             (over self.new lent.new) piece.old.rest.now piece.new.rest.now result }
-        ensures code { result ≡ Ok true → (over self.new lent.new).stage ≡ stage.Code }
+        ensures code { SomeStands (sized_of image.now) (over self.old lent.old) →
+            result ≡ Ok true → (over self.new lent.new).stage ≡ stage.Code }
         ensures counts { CountsOn (sized_of image.now) self.old self.new }
         ensures lent { KeepsLent lent.old lent.new }
     {
@@ -236,16 +239,30 @@ impl Walk {
         }
     }
 
-    /// Stores the end marker of the code that has begun, and whether it resets, as read ahead.
-    pub fn read_ahead(&mut self, reset: bool)
-        ensures ahead { IsInCode (stage_kind self.old.stage) → Alone (λ w w'. w' ≡ record w
-            { first = Some (code.Marker reset); marker = None }) self.old self.new }
+    /// While a height may still arrive: continues in the code that has begun to the end of the next row and returns
+    /// true, or reads the end marker ahead and returns false. A row that only the marker determines is not decoded.
+    pub fn row_before_marker(
+        &mut self,
+        image: &SizedImage,
+        lent: &mut Lent<'_, '_>,
+        piece: &mut Piece<'_>,
+    ) -> Result<bool, Fault>
+        requires code { is_code self.old.stage ≡ true }
+        ensures goes { (MarkerRead (stage_marker self.old.stage) (stage_first self.old.stage) → ⊥) →
+            CodeGoes (sized_of image.now) (over self.old lent.old) (over self.new lent.new)
+            piece.old.rest.now piece.new.rest.now result }
+        ensures lowers { result ≡ Ok false → length piece.new.rest.now ≤ length piece.old.rest.now }
         ensures stays { (is_code self.new.stage ≡ is_code self.old.stage) ×
             KeepsStripes self.old self.new }
+        ensures lent { KeepsLent lent.old lent.new }
     {
-        if let Stage::Code(code) = &mut self.stage {
-            code.marker = None;
-            code.first = Some(Code::Marker(reset));
+        match &mut self.stage {
+            Stage::Code(code) => {
+                let rows = self.left.min(image.header.l0);
+                let (kept, decoder) = (&mut self.kept, &mut self.decoder);
+                code.row_before_marker(image, rows, kept, decoder, lent, piece)
+            }
+            _ => unreachable!(),
         }
     }
 
@@ -260,8 +277,7 @@ impl Walk {
         ensures step { RowStep (sized_of image.now) (over self.old lent.old)
             (over self.new lent.new) piece.old.rest.now piece.new.rest.now result }
         ensures leaves { LeavesRow (sized_of image.now) (over self.old lent.old)
-            (over self.new lent.new) piece.old.rest.now piece.new.rest.now result }
-        ensures code { OnOk result (stage_kind self.new.stage ≡ stage.Code) }
+            (over self.new lent.new) result }
         ensures stays { (is_code self.new.stage ≡ is_code self.old.stage) ×
             KeepsStripes self.old self.new }
         ensures lent { KeepsLent lent.old lent.new }

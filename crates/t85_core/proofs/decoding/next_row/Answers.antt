@@ -1,7 +1,7 @@
 use Rattle.std.proofs.Common.{[], Err, refl, ◌∙◌, ap}
 use Rattle.t85_core.specs.Options.{fields_of}
 use Rattle.t85_core.specs.Lent.{walk_lent}
-use Rattle.t85_core.proofs.Decodings.WalkRead.{reads_nothing, reads_then, waits_on, turn_found, turn_off, turn_unread}
+use Rattle.t85_core.proofs.Decodings.WalkRead.{reads_nothing, reads_then, some_then, waits_on, turn_found, turn_off, turn_unread}
 use Rattle.t85_core.proofs.decoding.next_row.Goals as goal
 
 pub turns-init : goal.turns-init
@@ -23,6 +23,9 @@ returns-in-Ok-clause-turn g c =
     (g.S.HeldSource.view c.args.stream.now) (g.S.HeldSource.view c.turns.stream) (g.S.HeldSource.view c.turn_held.new.stream) c.turns.invariant.on (g.S.HeldSource.bytes c.turn_held.new.stream) c.in-Ok.is_row c.in-Ok.ensures.turn
     (c.turn_held.ensures.same.unfailed ∙ c.turns.invariant.unfailed) (c.turn_held.ensures.same.same_source ∙ c.turns.invariant.same_source)
 
+pub returns-in-Ok-clause-code : goal.returns-in-Ok-clause-code
+returns-in-Ok-clause-code g c = λ some. c.in-Ok.ensures.code (some_then (fields_of c.args.image.now.header) c.args.image.now.height (walk_lent c.args.walk.now c.args.lent.now) (walk_lent c.turns.walk c.turns.lent) (g.S.HeldSource.view c.args.stream.now).known (g.S.HeldSource.view c.turns.stream).known c.turns.invariant.on some)
+
 pub returns-in_err-refill-in-Truncated-clause-turn : goal.returns-in_err-refill-in-Truncated-clause-turn
 returns-in_err-refill-in-Truncated-clause-turn g c =
     turn_unread (fields_of c.args.image.now.header) c.args.image.now.height (walk_lent c.args.walk.now c.args.lent.now) (walk_lent c.turns.walk c.turns.lent) (walk_lent c.turn_held.new.walk c.turn_held.new.lent)
@@ -35,5 +38,5 @@ returns-in_default g c = record {
   turn = turn_off (fields_of c.args.image.now.header) c.args.image.now.height (walk_lent c.args.walk.now c.args.lent.now) (walk_lent c.turns.walk c.turns.lent) (walk_lent c.turn_held.new.walk c.turn_held.new.lent)
       (g.S.HeldSource.view c.args.stream.now) (g.S.HeldSource.view c.turns.stream) (g.S.HeldSource.view c.turn_held.new.stream) c.turns.invariant.on (g.S.HeldSource.bytes c.turn_held.new.stream) c.in-Err.fault c.in-Err.ensures.turn c.in_default.not-Truncated
       (c.turn_held.ensures.same.unfailed ∙ c.turns.invariant.unfailed) (c.turn_held.ensures.same.same_source ∙ c.turns.invariant.same_source);
-  code = λ e. absurd (let bot : ⊥ = cc in bot);
+  code = λ some e. absurd (let bot : ⊥ = cc in bot);
 }

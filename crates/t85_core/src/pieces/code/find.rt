@@ -7,8 +7,8 @@ ghost use Rattle.t85_core.specs.Steps.PieceCode.{FindsMarker, MissesMarker, Keep
 
 use crate::fault::Fault;
 use crate::input_buffer::ByteSource;
-use crate::pieces::piece::Piece;
-use crate::segments::{Code, next_code};
+use crate::pieces::piece::{Piece, whole_code};
+use crate::segments::Code;
 
 /// Skips the rest of a code, and returns whether its end marker resets. If the marker has not arrived yet, skips what
 /// has.
@@ -45,14 +45,10 @@ fn skip_some(piece: &mut Piece<'_>) -> Result<bool, Fault>
 {
     'code: loop {
         piece.skip_plain();
-        let rest = piece.rest;
-        match next_code(piece) {
+        match whole_code(piece) {
             Ok(Code::Byte(_)) => {}
             Ok(Code::Marker(reset)) => return Ok(reset),
-            Err(fault) => {
-                piece.rest = rest;
-                return Err(fault);
-            }
+            Err(fault) => return Err(fault),
         }
     }
 }

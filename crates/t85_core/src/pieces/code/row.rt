@@ -1,6 +1,6 @@
 //! Decodes a row of a stripe.
 
-ghost use Rattle.std.specs.Prelude.{◌≡◌, ◌≢◌, ◌≤◌, ◌<◌, ◌+◌, ◌^◌, ℕ, List, [], None, Some, true, false, min, IfSome, OnOk};
+ghost use Rattle.std.specs.Prelude.{◌≡◌, ◌≤◌, ◌<◌, ◌+◌, ◌^◌, ◌++◌, ℕ, List, [], None, Ok, Some, true, false, length, min, IfSome, OnOk};
 ghost use Rattle.qm_core.specs.Place.{Estimate};
 ghost use Rattle.qm_core.specs.declared.decoder.Decoder.{Decoder};
 ghost use Rattle.raster_core.specs.Row.{IsRowStart};
@@ -8,7 +8,9 @@ ghost use Rattle.raster_core.specs.Window.{held, width_of};
 ghost use Rattle.raster_core.specs.declared.place.RowPlace.{RowPlace};
 ghost use Rattle.t85_core.specs.Steps.Segments.{IsByteOrMarker};
 ghost use Rattle.t85_core.specs.Lent.{KeepsWindow, KeepsLent, StripeAt, code_over, code_lent};
-ghost use Rattle.t85_core.specs.Steps.Pieces.{WalkStands, RowFits, RowStep, LeavesRow};
+ghost use Rattle.t85_core.specs.Steps.PieceCode.{MarkerRead};
+ghost use Rattle.t85_core.specs.Steps.Pieces.{SomeStands, WalkStands, RowFits};
+ghost use Rattle.t85_core.specs.Steps.RowTurns.{BegunLeaves, BegunStep, CodeGoes, LeavesRow, RowStep};
 ghost use Rattle.t85_core.specs.Steps.SizedImage.{sized, sized_of};
 ghost use Rattle.t85_core.specs.Header.{Fields};
 
@@ -33,8 +35,7 @@ const REST_OF_ROW: usize = 1;
 impl InCode {
     ghost use Rattle.t85_core.specs.declared.pieces.code.InCode.{InCode};
 
-    /// Continues to the end of the next row. If the position or the window does not fit this image, which no call leaves, it
-    /// reports that the piece has ended.
+    /// Continues to the end of the next row.
     pub fn next_row(
         &mut self,
         image: &SizedImage,
@@ -50,9 +51,61 @@ impl InCode {
             piece.new.rest.now result }
         ensures leaves { (s : StripeAt) → self.old.row < min s.left image.now.header.l0 →
             LeavesRow (sized_of image.now) (code_lent s self.old kept.old decoder.old lent.old)
+            (code_lent s self.new kept.new decoder.new lent.new) result }
+        ensures lent { KeepsLent lent.old lent.new }
+    {
+        match self.row_or_marker(image, false, kept, decoder, lent, piece) {
+            Ok(_) => Ok(()),
+            Err(fault) => Err(fault),
+        }
+    }
+
+    /// While a height may still arrive: continues to the end of the next of the `rows` rows of the stripe and returns
+    /// true, or reads the end marker ahead and returns false. A row that only the marker determines is not decoded.
+    pub fn row_before_marker(
+        &mut self,
+        image: &SizedImage,
+        rows: u32,
+        kept: &mut Kept,
+        decoder: &mut Decoder,
+        lent: &mut Lent<'_, '_>,
+        piece: &mut Piece<'_>,
+    ) -> Result<bool, Fault>
+        ensures goes { (s : StripeAt) → rows ≡ min s.left image.now.header.l0 →
+            (MarkerRead self.old.marker self.old.first → ⊥) → CodeGoes (sized_of image.now)
+            (code_lent s self.old kept.old decoder.old lent.old) (code_lent s self.new kept.new
+            decoder.new lent.new) piece.old.rest.now piece.new.rest.now result }
+        ensures lowers { result ≡ Ok false → length piece.new.rest.now ≤ length piece.old.rest.now }
+        ensures lent { KeepsLent lent.old lent.new }
+    {
+        if self.row < rows {
+            return self.row_or_marker(image, true, kept, decoder, lent, piece);
+        }
+        self.find_end(image, piece)?;
+        Ok(false)
+    }
+
+    /// Continues to the end of the next row, and returns true; or returns false at the end marker, if it `waits` there.
+    /// If the position or the window does not fit this image, which no call leaves, it reports that the piece has ended.
+    fn row_or_marker(
+        &mut self,
+        image: &SizedImage,
+        waits: bool,
+        kept: &mut Kept,
+        decoder: &mut Decoder,
+        lent: &mut Lent<'_, '_>,
+        piece: &mut Piece<'_>,
+    ) -> Result<bool, Fault>
+        requires room { self.old.row + 1 < 2 ^ 32 }
+        ensures step { (s : StripeAt) → self.old.row < min s.left image.now.header.l0 →
+            BegunStep (sized_of image.now) (code_lent s self.old kept.old decoder.old lent.old)
             (code_lent s self.new kept.new decoder.new lent.new) piece.old.rest.now
             piece.new.rest.now result }
-        ensures whole { OnOk result (self.new.begun ≡ None) }
+        ensures leaves { (s : StripeAt) → self.old.row < min s.left image.now.header.l0 →
+            SomeStands (sized_of image.now) (code_lent s self.old kept.old decoder.old lent.old) →
+            BegunLeaves waits (code_lent s self.old kept.old decoder.old lent.old)
+            (code_lent s self.new kept.new decoder.new lent.new) result }
+        ensures lowers { result ≡ Ok false → length piece.new.rest.now ≤ length piece.old.rest.now }
         ensures lent { KeepsLent lent.old lent.new }
     {
         if !self.has_row_that_fits(&image.header, lent.window) {
@@ -60,11 +113,13 @@ impl InCode {
             return Err(Fault::Truncated);
         }
         match self.begun {
-            Some(place) => self.finish_row::<REST_OF_ROW>(image, place, kept, decoder, lent, piece),
+            Some(place) => {
+                self.finish_row::<REST_OF_ROW>(image, place, waits, kept, decoder, lent, piece)
+            }
             None => {
                 self.enter_row(kept, lent.window);
                 let place = RowPlace::start();
-                self.finish_row::<WHOLE_ROW>(image, place, kept, decoder, lent, piece)
+                self.finish_row::<WHOLE_ROW>(image, place, waits, kept, decoder, lent, piece)
             }
         }
     }
@@ -92,21 +147,23 @@ impl InCode {
         &mut self,
         image: &SizedImage,
         place: RowPlace,
+        waits: bool,
         kept: &mut Kept,
         decoder: &mut Decoder,
         lent: &mut Lent<'_, '_>,
         piece: &mut Piece<'_>,
-    ) -> Result<(), Fault>
+    ) -> Result<bool, Fault>
         requires room { self.old.row + 1 < 2 ^ 32 }
         requires fits { RowFits image.now.header.xd (record self.old { begun = Some place })
             (held lent.old.window.now) }
-        ensures step { (s : StripeAt) → RowStep (sized_of image.now) (code_lent s (record self.old
+        ensures step { (s : StripeAt) → BegunStep (sized_of image.now) (code_lent s (record self.old
             { begun = Some place }) kept.old decoder.old lent.old) (code_lent s self.new kept.new
             decoder.new lent.new) piece.old.rest.now piece.new.rest.now result }
-        ensures leaves { (s : StripeAt) → LeavesRow (sized_of image.now) (code_lent s (record
-            self.old { begun = Some place }) kept.old decoder.old lent.old) (code_lent s self.new
-            kept.new decoder.new lent.new) piece.old.rest.now piece.new.rest.now result }
-        ensures whole { OnOk result (self.new.begun ≡ None) }
+        ensures leaves { (s : StripeAt) → SomeStands (sized_of image.now) (code_lent s (record
+            self.old { begun = Some place }) kept.old decoder.old lent.old) → BegunLeaves waits
+            (code_lent s (record self.old { begun = Some place }) kept.old decoder.old lent.old)
+            (code_lent s self.new kept.new decoder.new lent.new) result }
+        ensures lowers { result ≡ Ok false → length piece.new.rest.now ≤ length piece.old.rest.now }
         ensures lent { KeepsLent lent.old lent.new }
     {
         // The proof uses these laws of the coder.
@@ -119,6 +176,7 @@ impl InCode {
             piece: Piece { rest: piece.rest },
             first: self.first,
             marker: self.marker,
+            waits,
             fault: None,
             failures: 0,
         };
@@ -127,14 +185,20 @@ impl InCode {
         *decoder = local;
         self.first = code.first;
         self.marker = code.marker;
-        piece.rest = code.piece.rest;
         match went {
-            Ok(()) => {
+            Ok(true) => {
+                piece.rest = code.piece.rest;
                 self.begun = None;
                 self.row += 1;
-                Ok(())
+                Ok(true)
+            }
+            Ok(false) => {
+                piece.rest = suffix(piece.rest, code.piece.rest.len());
+                self.begun = Some(place);
+                Ok(false)
             }
             Err(fault) => {
+                piece.rest = code.piece.rest;
                 self.begun = Some(place);
                 Err(fault)
             }
@@ -168,4 +232,13 @@ fn drop_rest(piece: &mut Piece<'_>)
     ensures { piece.new.rest.now ≡ [] }
 {
     piece.rest = &[];
+}
+
+/// The last bytes, `len` of them or all.
+fn suffix(bytes: &[u8], len: usize) -> &[u8]
+    ensures is { (given rest : List ℕ) → bytes.now ≡ given ++ rest → length rest ≡ len → result.now ≡ rest }
+    ensures few { length result.now ≤ length bytes.now }
+{
+    let (_, last) = bytes.split_at(bytes.len() - len.min(bytes.len()));
+    last
 }

@@ -1,4 +1,4 @@
-use Rattle.std.proofs.Common.{◌∙◌, false, sym, ap, subst, refl, rules, arith}
+use Rattle.std.proofs.Common.{◌∙◌, sym, ap, subst, refl, rules, arith}
 use Rattle.t85_core.specs.Phases.{phase_behind, phase_is_open, phase_waits}
 use Rattle.t85_core.specs.Options.{fields_of}
 use Rattle.t85_core.specs.Steps.Pieces.{IsInCode}

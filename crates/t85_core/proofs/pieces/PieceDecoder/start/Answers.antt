@@ -1,6 +1,4 @@
 use Rattle.std.proofs.Common.{◌≡◌, ◌∙◌, ap, refl, sym, rules}
-use Rattle.t85_core.specs.Header.{is_variable}
-use Rattle.t85_core.specs.Options.{fields_of}
 use Rattle.t85_core.specs.Phases.{phase_behind, phase_is_open, phase_waits}
 use Rattle.t85_core.proofs.Decodings.PieceStood.{first_none, first_open, first_waits, started}
 use Rattle.t85_core.proofs.pieces.PieceDecoder.start.Goals as goal

@@ -1,11 +1,10 @@
-use Rattle.std.proofs.Common.{◌≡◌, ◌∙◌, ◌≤◌, ◌<◌, ◌-◌, refl, sym, ap, subst, true, false, rules, arith}
+use Rattle.std.proofs.Common.{◌∙◌, ◌≤◌, ◌<◌, ◌-◌, refl, sym, ap, subst, true, rules, arith}
 use Rattle.t85_core.specs.Phases.{phase_behind, phase_is_open, phase_looks, phase_waits}
-use Rattle.t85_core.specs.Options.{fields_of}
 use Rattle.t85_core.specs.Steps.Pieces.{IsInCode}
-use Rattle.t85_core.specs.Steps.PieceStands.{entities_behind, last_behind}
+use Rattle.t85_core.specs.Steps.PieceStands.{entities_behind}
 use Rattle.t85_core.specs.Steps.PieceSteps.{SomeStand, HeadEntered}
 use Rattle.t85_core.specs.Stages.{stage_kind, stage_row}
-use Rattle.t85_core.specs.Lent.{decoder_lent, waiting, walk_lent}
+use Rattle.t85_core.specs.Lent.{decoder_lent, waiting}
 use Rattle.t85_core.proofs.Decodings.PieceCounts.{cut_decoder}
 use Rattle.t85_core.proofs.Decodings.PieceStood.{leaves_on, leaves_done, on_where, row_where, not_last}
 use Rattle.t85_core.proofs.Decodings.PieceLook.{late_consumed, late_whole, height_over, raised_on}

@@ -1,6 +1,5 @@
 use Rattle.std.proofs.Common.{◌≡◌, ◌≤◌, ◌+◌, ◌++◌, ◌∙◌, None, refl, sym, ap, subst, rules, arith}
 use Rattle.std.specs.Prelude.{option_map, min}
-use Rattle.raster_core.specs.Window.{held}
 use Rattle.t85_core.specs.Options.{fields_of}
 use Rattle.t85_core.specs.Lent.{carried_by, code_over}
 use Rattle.t85_core.specs.Stages.{code_kind}
@@ -11,7 +10,6 @@ use Rattle.t85_core.specs.Steps.SizedImage.{sized}
 use Rattle.t85_core.proofs.Decodings.PieceSteps.{at_stage, put_stage}
 use Rattle.t85_core.proofs.Decodings.RowsRepeated.{repeats_rows}
 use Rattle.t85_core.proofs.Decodings.WalkDecoded.{code_repeated}
-use Rattle.t85_core.proofs.Decodings.ImagePut.{few_rows}
 use Rattle.t85_core.proofs.pieces.code.InCode.repeat.Goals as goal
 
 pub returns-clause-on : goal.returns-clause-on

@@ -9,15 +9,15 @@ use Rattle.t85_core.specs.declared.pieces.walk.Stage.TheVariants as stage
 use Rattle.t85_core.specs.Steps.DecodeRows.{IsCarried}
 use Rattle.t85_core.specs.Steps.DecodeStripes.{StripesRead}
 use Rattle.t85_core.specs.Steps.Passage.{passage}
-use Rattle.t85_core.specs.Steps.PieceCode.{MarkerFound}
-use Rattle.t85_core.specs.Steps.Pieces.{CodeStands, IsInCode, MarkerIs, StageStands, WalkStands, code_place_of, head_place_of}
+use Rattle.t85_core.specs.Steps.PieceCode.{MarkerFound, MarkerIs}
+use Rattle.t85_core.specs.Steps.Pieces.{CodeStands, IsInCode, StageStands, WalkStands, code_place_of, head_place_of}
 use Rattle.t85_core.specs.Steps.StripeEnds.{StripeEnds}
 use Rattle.t85_core.specs.Steps.SizedImage.{sized}
 use Rattle.t85_core.specs.Steps.State.{RowStart, first_row_start, next_stripe_start}
-use Rattle.t85_core.proofs.Decodings.ImagePut.{in_use, few_rows}
+use Rattle.t85_core.proofs.Decodings.ImagePut.{in_use}
 use Rattle.t85_core.proofs.Decodings.PieceFits.{none_begun, rows_all}
 use Rattle.t85_core.proofs.Decodings.PieceMarker.{found_marker}
-use Rattle.t85_core.proofs.Decodings.PieceSteps.{kept_wide, at_stage, last_stripe, next_stripe, walk_few}
+use Rattle.t85_core.proofs.Decodings.PieceSteps.{kept_wide, at_stage, last_stripe, next_stripe}
 use Rattle.t85_core.proofs.Decodings.PieceStood.{no_bytes}
 use Rattle.t85_core.proofs.Decodings.PieceWalk.{whole, stripe_last, stripe_on}
 use Rattle.t85_core.proofs.pieces.walk.Walk.end_stripe.Goals.{then-self-eq0, else-self-eq0}

@@ -6,7 +6,8 @@ use Rattle.t85_core.specs.Stages.{stage_row, stage_first, stage_marker}
 use Rattle.t85_core.specs.declared.fault.Fault.TheVariants.{Changed}
 use Rattle.t85_core.specs.declared.pieces.walk.Stage.TheVariants as stage
 use Rattle.t85_core.specs.Steps.InTime.{ReachesMarker}
-use Rattle.t85_core.specs.Steps.Pieces.{HasAllRows, MarkerRead, SomeStands, Step}
+use Rattle.t85_core.specs.Steps.Pieces.{SomeStands, Step}
+use Rattle.t85_core.specs.Steps.PieceCode.{MarkerRead}
 use Rattle.t85_core.specs.Steps.SizedImage.{sized}
 use Rattle.t85_core.proofs.pieces.walk.Walk.find_end.Goals as goal
 

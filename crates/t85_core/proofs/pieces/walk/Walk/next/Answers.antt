@@ -48,7 +48,7 @@ returns-then-code-min-clause-step c =
     (on_then (fields_of c.args.image.now.header) c.args.image.now.height (walk_lent c.args.self.now c.args.lent.now) (walk_lent c.steps.self c.steps.lent) c.args.piece.now.rest.now c.steps.piece.rest.now c.steps.invariant.so_far (walk_lent c.next_row.new.self c.next_row.new.lent) c.next_row.new.piece.rest.now (held c.next_row.new.lent.window.now).current c.in_ok-next_row-in-Code.ensures.step.ok)
 
 pub returns-then-code-min-clause-code : goal.returns-then-code-min-clause-code
-returns-then-code-min-clause-code c = λ _. c.in_ok-next_row-in-Code.ensures.code
+returns-then-code-min-clause-code c = λ some _. (c.in_ok-next_row-in-Code.ensures.leaves (_, _, (c.steps.invariant.so_far some.0 some.1 some.2).2)).row.1
 
 pub returns-in_err-reset-in-Code-clause-step : goal.returns-in_err-reset-in-Code-clause-step
 returns-in_err-reset-in-Code-clause-step c =

@@ -1,10 +1,9 @@
-use Rattle.std.proofs.Common.{◌≡◌, true, List, [], Ok, Err, sym, subst}
+use Rattle.std.proofs.Common.{◌≡◌, List, [], Ok, Err, sym, subst}
 use Rattle.qm_core.specs.Place.{Estimate}
 use Rattle.raster_core.specs.Packed.{Held}
 use Rattle.t85_core.specs.Options.{fields_of}
 use Rattle.t85_core.specs.Lent.{stage_view, walk_view}
 use Rattle.t85_core.specs.declared.fault.Fault.TheVariants.{Changed}
-use Rattle.t85_core.specs.declared.pieces.walk.Stage.TheVariants as stage
 use Rattle.t85_core.specs.declared.pieces.walk.Walk.{Walk}
 use Rattle.t85_core.specs.Steps.Pieces.{Step, StepsOn}
 use Rattle.t85_core.specs.Steps.SizedImage.{sized}
