@@ -19,6 +19,8 @@ impl CodeBytes for Halting<'_> {
 
     ghost failed = { λ s. s.failed };
 
+    ghost left = { λ _. 0 };
+
     fn pull(&mut self) -> Pulled {
         self.is_due = !self.is_due;
         let answer = if self.is_due {

@@ -61,6 +61,8 @@ impl CodeBytes for Given<'_> {
 
     ghost failed = { λ s. s.failed };
 
+    ghost left = { λ _. 0 };
+
     fn pull(&mut self) -> Pulled {
         self.asked = self.asked.saturating_add(1);
         match self.bytes.split_first() {

@@ -93,6 +93,8 @@ impl CodeBytes for MemorySource<'_> {
 
     ghost failed = { λ _. 0 };
 
+    ghost left = { λ _. 0 };
+
     fn pull(&mut self) -> Pulled {
         let Some((&byte, rest)) = self.bytes.split_first() else {
             return Pulled::End;

@@ -18,10 +18,10 @@ abbrev pub has_stopped : Decoder → Bool
 has_stopped d = is_stopped d.heard
 
 -- A stopped decoder only returns an error. It is stopped after an error, and only then; to stop it, its source fails once.
-abbrev pub StopsOnce : {S T E : Type 0} → (S → ℕ) → Decoder → Decoder → S → S → Result T E → Type 0
-StopsOnce failed d d' from to result =
+abbrev pub StopsOnce : {S T E : Type 0} → (failed left : S → ℕ) → Decoder → Decoder → S → S → Result T E → Type 0
+StopsOnce failed left d d' from to result =
     (IsTrue (has_stopped d) → IsErr result × (d' ≡ d) × (to ≡ from)) × (IsTrue (has_stopped d') ↔ IsErr result)
-    × OnOk result (failed to ≡ failed from) × (has_stopped d ≡ false → OnErr result (failed to ≡ one_more (failed from)))
+    × OnOk result (failed to ≡ failed from) × (has_stopped d ≡ false → OnErr result (failed to ≡ one_more (failed from))) × (left to ≤ left from)
 
 -- Either a decoder that has not stopped decoded pixels in one step, or nothing was done.
 abbrev pub SkipsOrStays : Bool → Decoder → Decoder → Type 0

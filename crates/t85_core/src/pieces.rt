@@ -156,7 +156,7 @@ impl PieceDecoder {
         self.end = end_of(outcome);
         Progress {
             outcome,
-            taken: piece.len().saturating_sub(rest.rest.len()),
+            taken: piece.len() - rest.rest.len(),
         }
     }
 

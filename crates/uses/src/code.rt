@@ -44,6 +44,8 @@ impl CodeBytes for Stuffed<'_> {
 
     ghost failed = { λ _. 0 };
 
+    ghost left = { λ _. 0 };
+
     fn pull(&mut self) -> Pulled {
         let Some((byte, rest)) = self.rest.split_first() else {
             return Pulled::End;

@@ -25,6 +25,7 @@ impl Decoder {
     }
 
     /// The decoder that has these numbers and has not stopped, if there is one.
+    #[inline(always)]
     pub fn from_registers(registers: DecoderRegisters) -> Option<Decoder>
         ensures same { (d : Decoder) → has_stopped d ≡ false → registers ≡ decoder_registers d →
             result ≡ Some d }

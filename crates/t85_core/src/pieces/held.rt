@@ -93,11 +93,12 @@ impl HeldBytes {
             }
             outcome => {
                 let (held, _) = bytes.split_at(count);
-                let (_, left) = held.split_at(call.taken.min(count));
+                let taken = call.taken.min(count);
+                let (_, left) = held.split_at(taken);
                 self.keep(left);
                 Progress {
                     outcome,
-                    taken: call.taken.saturating_sub(count),
+                    taken: call.taken - taken,
                 }
             }
         }
@@ -155,7 +156,7 @@ impl PieceDecoder {
         if !goes_on(call.outcome, back) {
             return held.settle(joined, count, call);
         }
-        let (_, rest) = piece.split_at(call.taken.saturating_sub(count));
+        let (_, rest) = piece.split_at(call.taken - count);
         let last = self.feed_piece(lent, held, rest, is_all);
         Progress {
             outcome: last.outcome,

@@ -110,6 +110,7 @@ impl<const PART: usize> PieceCode<'_, PART> {
         ensures answer { EntityGives (piece_view self.old) result (piece_view self.new) }
         ensures counted { self.new.failures ≡
             (if is_fault result then one_more self.old.failures else self.old.failures) }
+        ensures fewer { length self.new.piece.rest.now ≤ length self.old.piece.rest.now }
     {
         if self.fault.is_some() || self.marker.is_some() {
             self.failures = self.failures.wrapping_add(1);
@@ -149,6 +150,8 @@ impl<const PART: usize> CodeBytes for PieceCode<'_, PART> {
         (piece_view t) };
 
     ghost failed = { λ s. s.failures };
+
+    ghost left = { λ s. length s.piece.rest.now };
 
     #[inline(never)]
     fn pull(&mut self) -> Pulled {

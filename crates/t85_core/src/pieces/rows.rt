@@ -1,6 +1,6 @@
 //! Decodes a row whose bytes may not all have arrived.
 
-ghost use Rattle.std.specs.Prelude.{◌≡◌, ◌<◌, None, Ok, true, false, IfErr, IsErrOf};
+ghost use Rattle.std.specs.Prelude.{◌≡◌, ◌≤◌, ◌<◌, length, None, Ok, true, false, IfErr, IsErrOf};
 ghost use Rattle.raster_core.specs.Machine.Places.{MayGoOnRow};
 ghost use Rattle.t85_core.specs.Lent.{KeepsLent};
 ghost use Rattle.raster_core.specs.Row.{IsRowStart};
@@ -41,6 +41,7 @@ pub fn go_on_in_row<const PART: usize>(
     ensures lent { KeepsLent lent.old lent.new }
     ensures within { place.new.done < shape.width }
     ensures start { result ≡ Ok true → IsRowStart place.new }
+    ensures no_more { length code.new.piece.rest.now ≤ length code.old.piece.rest.now }
     ensures fault { IfErr result (λ f. code.new.fault ≡ Some f) }
 {
     // The proof uses these laws of the coder.

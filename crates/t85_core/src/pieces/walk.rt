@@ -95,6 +95,7 @@ impl Walk {
         ensures code { SomeStands (sized_of image.now) (over self.old lent.old) →
             result ≡ Ok true → (over self.new lent.new).stage ≡ stage.Code }
         ensures counts { CountsOn (sized_of image.now) self.old self.new }
+        ensures no_more { length piece.new.rest.now ≤ length piece.old.rest.now }
         ensures lent { KeepsLent lent.old lent.new }
     {
         'steps: loop {
@@ -126,6 +127,7 @@ impl Walk {
             piece.new.rest.now result) self.old self.new }
         ensures counts { KeepsStripes self.old self.new }
         ensures lowers { OnOk result (length piece.new.rest.now < length piece.old.rest.now) }
+        ensures no_more { length piece.new.rest.now ≤ length piece.old.rest.now }
     {
         // The proof uses these laws of the coder.
         coder_laws();
@@ -251,7 +253,7 @@ impl Walk {
         ensures goes { (MarkerRead (stage_marker self.old.stage) (stage_first self.old.stage) → ⊥) →
             CodeGoes (sized_of image.now) (over self.old lent.old) (over self.new lent.new)
             piece.old.rest.now piece.new.rest.now result }
-        ensures lowers { result ≡ Ok false → length piece.new.rest.now ≤ length piece.old.rest.now }
+        ensures no_more { length piece.new.rest.now ≤ length piece.old.rest.now }
         ensures stays { (is_code self.new.stage ≡ is_code self.old.stage) ×
             KeepsStripes self.old self.new }
         ensures lent { KeepsLent lent.old lent.new }
@@ -280,6 +282,7 @@ impl Walk {
             (over self.new lent.new) result }
         ensures stays { (is_code self.new.stage ≡ is_code self.old.stage) ×
             KeepsStripes self.old self.new }
+        ensures no_more { length piece.new.rest.now ≤ length piece.old.rest.now }
         ensures lent { KeepsLent lent.old lent.new }
     {
         match &mut self.stage {

@@ -52,6 +52,7 @@ impl InCode {
         ensures leaves { (s : StripeAt) → self.old.row < min s.left image.now.header.l0 →
             LeavesRow (sized_of image.now) (code_lent s self.old kept.old decoder.old lent.old)
             (code_lent s self.new kept.new decoder.new lent.new) result }
+        ensures no_more { length piece.new.rest.now ≤ length piece.old.rest.now }
         ensures lent { KeepsLent lent.old lent.new }
     {
         match self.row_or_marker(image, false, kept, decoder, lent, piece) {
@@ -75,7 +76,7 @@ impl InCode {
             (MarkerRead self.old.marker self.old.first → ⊥) → CodeGoes (sized_of image.now)
             (code_lent s self.old kept.old decoder.old lent.old) (code_lent s self.new kept.new
             decoder.new lent.new) piece.old.rest.now piece.new.rest.now result }
-        ensures lowers { result ≡ Ok false → length piece.new.rest.now ≤ length piece.old.rest.now }
+        ensures no_more { length piece.new.rest.now ≤ length piece.old.rest.now }
         ensures lent { KeepsLent lent.old lent.new }
     {
         if self.row < rows {
@@ -105,7 +106,7 @@ impl InCode {
             SomeStands (sized_of image.now) (code_lent s self.old kept.old decoder.old lent.old) →
             BegunLeaves waits (code_lent s self.old kept.old decoder.old lent.old)
             (code_lent s self.new kept.new decoder.new lent.new) result }
-        ensures lowers { result ≡ Ok false → length piece.new.rest.now ≤ length piece.old.rest.now }
+        ensures no_more { length piece.new.rest.now ≤ length piece.old.rest.now }
         ensures lent { KeepsLent lent.old lent.new }
     {
         if !self.has_row_that_fits(&image.header, lent.window) {
@@ -163,7 +164,7 @@ impl InCode {
             self.old { begun = Some place }) kept.old decoder.old lent.old) → BegunLeaves waits
             (code_lent s (record self.old { begun = Some place }) kept.old decoder.old lent.old)
             (code_lent s self.new kept.new decoder.new lent.new) result }
-        ensures lowers { result ≡ Ok false → length piece.new.rest.now ≤ length piece.old.rest.now }
+        ensures no_more { length piece.new.rest.now ≤ length piece.old.rest.now }
         ensures lent { KeepsLent lent.old lent.new }
     {
         // The proof uses these laws of the coder.
@@ -185,20 +186,18 @@ impl InCode {
         *decoder = local;
         self.first = code.first;
         self.marker = code.marker;
+        piece.rest = code.piece.rest;
         match went {
             Ok(true) => {
-                piece.rest = code.piece.rest;
                 self.begun = None;
                 self.row += 1;
                 Ok(true)
             }
             Ok(false) => {
-                piece.rest = suffix(piece.rest, code.piece.rest.len());
                 self.begun = Some(place);
                 Ok(false)
             }
             Err(fault) => {
-                piece.rest = code.piece.rest;
                 self.begun = Some(place);
                 Err(fault)
             }
@@ -232,13 +231,4 @@ fn drop_rest(piece: &mut Piece<'_>)
     ensures { piece.new.rest.now ≡ [] }
 {
     piece.rest = &[];
-}
-
-/// The last bytes, `len` of them or all.
-fn suffix(bytes: &[u8], len: usize) -> &[u8]
-    ensures is { (given rest : List ℕ) → bytes.now ≡ given ++ rest → length rest ≡ len → result.now ≡ rest }
-    ensures few { length result.now ≤ length bytes.now }
-{
-    let (_, last) = bytes.split_at(bytes.len() - len.min(bytes.len()));
-    last
 }

@@ -22,6 +22,7 @@ bytes-preserved-then-words-gt0 g c =
     record {
       lends = was.lends;
       same = was.same;
+      fewer = was.fewer;
       going = skip.skips.0 ∙ was.going;
       stuck = λ t. absurd (not_both t (sym was.going ∙ skip.skips.1 some));
       left = omega (arith, was.left, skip.inside);
@@ -44,6 +45,7 @@ bytes-preserved g c =
     record {
       lends = (lent.0 ∙ was_lent.0, lent.1 ∙ was_lent.1, lent.2 ∙ was_lent.2);
       same = c.in-Ok.ensures.reads.0.2 ∙ c.bytes.invariant.same;
+      fewer = (let now = c.in-Ok.ensures.reads.0.4 in let was_fewer = c.bytes.invariant.fewer in omega (arith, now, was_fewer));
       going = had_not_stopped c.in-Ok.ensures.reads.0.1.0 ∙ sym was;
       stuck = λ t. absurd (not_both t was);
       left = omega arith;

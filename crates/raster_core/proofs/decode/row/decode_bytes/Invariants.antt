@@ -1,4 +1,4 @@
-use Rattle.std.proofs.Common.{◌≡◌, ◌*◌, ◌-◌, ◌<◌, ◌^◌}
+use Rattle.std.proofs.Common.{◌≡◌, ◌≤◌, ◌*◌, ◌-◌, ◌<◌, ◌^◌}
 use Rattle.std.specs.Prelude.{IsTrue}
 use Rattle.qm_core.specs.Source.{Pulls}
 use Rattle.qm_core.specs.Decoder.{has_stopped}
@@ -10,6 +10,7 @@ abbrev pub invariant-bytes : goal.invariant-bytes
 invariant-bytes g l = record {
   lends : SameReader l.fn.reader l.reader;
   same : g.S.CodeBytes.failed l.reader.source.now ≡ g.S.CodeBytes.failed l.fn.reader.source.now;
+  fewer : g.S.CodeBytes.left l.reader.source.now ≤ g.S.CodeBytes.left l.fn.reader.source.now;
   going : has_stopped l.reader.decoder.now ≡ has_stopped l.fn.reader.decoder.now;
   stuck : IsTrue (has_stopped l.fn.reader.decoder.now) → (8 * l.i ≡ l.fn.place.done) × (l.reader.decoder.now ≡ l.fn.reader.decoder.now) × (l.reader.source.now ≡ l.fn.reader.source.now);
   left : l.left ≡ l.context.shape.width - 8 * l.i;

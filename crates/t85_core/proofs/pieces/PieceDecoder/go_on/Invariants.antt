@@ -1,4 +1,4 @@
-use Rattle.std.proofs.Common.{◌≡◌, []}
+use Rattle.std.proofs.Common.{◌≡◌, ◌≤◌, [], length}
 use Rattle.t85_core.specs.Phases.{phase_waits}
 use Rattle.t85_core.specs.Steps.PieceSteps.{DecoderOn, steps_left}
 use Rattle.t85_core.specs.Lent.{KeepsLent, decoder_lent}
@@ -8,6 +8,7 @@ abbrev pub invariant-steps : goal.invariant-steps
 invariant-steps l = record {
   header : l.self.image.header ≡ l.fn.self.image.header;
   going : l.self.end ≡ l.fn.self.end;
+  no_more : length l.piece.rest.now ≤ length l.fn.piece.rest.now;
   lends : KeepsLent l.fn.lent l.lent;
   so_far : DecoderOn (decoder_lent l.fn.self l.fn.lent) (decoder_lent l.self l.lent) l.fn.piece.rest.now l.piece.rest.now [];
 }

@@ -1,4 +1,4 @@
-use Rattle.std.proofs.Common.{Some, ap, refl, subst, sym, true, rules}
+use Rattle.std.proofs.Common.{Some, ap, refl, subst, sym, true, rules, arith}
 use Rattle.t85_core.specs.Options.{fields_of}
 use Rattle.t85_core.specs.Phases.{phase_behind, phase_is_open, phase_waits}
 use Rattle.t85_core.specs.declared.pieces.Outcome.TheVariants as outcome
@@ -16,7 +16,7 @@ pub returns-in-Ok-clause-leaves : goal.returns-in-Ok-clause-leaves
 returns-in-Ok-clause-leaves c = leaves_after c.args.is_all (decoder_lent c.args.self.now c.args.lent.now) _ (decoder_lent c.take_coming.new.self c.take_coming.new.lent) c.args.piece.now.rest.now c.pass-found.new.piece.rest.now c.take_coming.new.piece.rest.now refl refl (passed_behind (decoder_lent c.args.self.now c.args.lent.now) _ c.args.head c.pass-found.new.self c.args.piece.now.rest.now c.pass-found.new.piece.rest.now _ _ (ap phase_is_open c.requires.looks) (ap phase_waits c.requires.looks) (ap phase_behind c.requires.looks) refl refl refl refl refl refl c.place_behind.ensures c.is_last-is_last.ensures (c.pass-found.ensures.on c.place_behind.result.given)) c.take_coming.result c.take_coming.ensures.leaves
 
 pub returns-in-Ok-clause-lowers : goal.returns-in-Ok-clause-lowers
-returns-in-Ok-clause-lowers c = λ is. fewer_after (phase_waits c.args.self.now.phase) true (phase_waits c.take_coming.new.self.phase) c.args.piece.now.rest.now c.pass-found.new.piece.rest.now c.take_coming.new.piece.rest.now (sym (ap phase_waits c.requires.looks)) c.pass-found.ensures.no_more (c.take_coming.ensures.lowers is)
+returns-in-Ok-clause-lowers c = ((let now = c.take_coming.ensures.lowers.0 in let was = c.pass-found.ensures.no_more in omega (arith, now, was)), λ is. fewer_after (phase_waits c.args.self.now.phase) true (phase_waits c.take_coming.new.self.phase) c.args.piece.now.rest.now c.pass-found.new.piece.rest.now c.take_coming.new.piece.rest.now (sym (ap phase_waits c.requires.looks)) c.pass-found.ensures.no_more (c.take_coming.ensures.lowers.1 is))
 
 pub returns-then-is_open_end-clause-leaves : goal.returns-then-is_open_end-clause-leaves
 returns-then-is_open_end-clause-leaves c =

@@ -62,7 +62,7 @@ returns-in-Ok-false-clause-leaves c =
     ))
 
 pub returns-in-Ok-false-clause-lowers : goal.returns-in-Ok-false-clause-lowers
-returns-in-Ok-false-clause-lowers c = λ _. begins_to_wait (phase_waits c.args.self.now.phase) true c.args.piece.now.rest.now c.row_before_marker.new.piece.rest.now (ap phase_waits c.requires.in_code) refl (c.in-Ok-false.ensures.lowers (ap Ok c.in-Ok-false.field-0-test))
+returns-in-Ok-false-clause-lowers c = (c.in-Ok-false.ensures.no_more, λ _. begins_to_wait (phase_waits c.args.self.now.phase) true c.args.piece.now.rest.now c.row_before_marker.new.piece.rest.now (ap phase_waits c.requires.in_code) refl c.in-Ok-false.ensures.no_more)
 
 pub returns-in-Err-clause-leaves : goal.returns-in-Err-clause-leaves
 returns-in-Err-clause-leaves c =

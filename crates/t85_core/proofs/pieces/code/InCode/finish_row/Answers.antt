@@ -77,8 +77,7 @@ returns-in-Ok-false-clause-step g c = λ s. record {
         let k = at_stage refl (resumed c.resume.new.self refl (λ going. c.resume.ensures.unchanged (ap has_stopped c.replace-local.ensures.value ∙ going) ∙ c.replace-local.ensures.value) w) in
         let m = subst (λ z. StopsInRow c.args.waits z (row_state_at (carried_by c.args.lent.now.window.now c.args.kept.now c.args.lent.now.learned.now) c.resume.new.self c.args.place c.args.self.now.first c.args.self.now.marker c.args.piece.now.rest.now) (row_state c.go_on_in_row-went.new.lent c.go_on_in_row-went.new.kept c.go_on_in_row-went.new.decoder c.go_on_in_row-went.new.place c.go_on_in_row-went.new.code)) (in_row_shape k c.shape-shape.result shape) (c.in-Ok-false.ensures.marker (ap Ok c.in-Ok-false.field-0-test)) (fields_of c.args.image.now.header) k.head.stripes.next k.head.passed.segments c.args.self.now.row k.began out k.code k.begun k.code_is in
         let at = m.1 unread in
-        let left = c.suffix-piece.ensures.is at.waits.given c.go_on_in_row-went.new.code.piece.rest.now at.waits.taken refl in
-        on_same (fields_of c.args.image.now.header) c.args.image.now.height _ text out c.args.piece.now.rest.now c.suffix-piece.result.now at.waits.given (at.waits.taken ∙ ap (λ z. at.waits.given ++ z) (sym left)) (record {
+        on_same (fields_of c.args.image.now.header) c.args.image.now.height _ text out c.args.piece.now.rest.now c.go_on_in_row-went.new.code.piece.rest.now at.waits.given at.waits.taken (record {
           left_is = w.left_is;
           width_is = c.go_on_in_row-went.ensures.lent.2.0 ∙ w.width_is;
           code_is = ahead_is c.go_on_in_row-went.new.code.first c.go_on_in_row-went.new.code.marker _ [] _ at.waits.code_is;
@@ -91,8 +90,7 @@ returns-in-Ok-false-clause-step g c = λ s. record {
         let k = at_stage refl (resumed c.resume.new.self refl (λ going. c.resume.ensures.unchanged (ap has_stopped c.replace-local.ensures.value ∙ going) ∙ c.replace-local.ensures.value) w) in
         let m = subst (λ z. StopsInRow c.args.waits z (row_state_at (carried_by c.args.lent.now.window.now c.args.kept.now c.args.lent.now.learned.now) c.resume.new.self c.args.place c.args.self.now.first c.args.self.now.marker c.args.piece.now.rest.now) (row_state c.go_on_in_row-went.new.lent c.go_on_in_row-went.new.kept c.go_on_in_row-went.new.decoder c.go_on_in_row-went.new.place c.go_on_in_row-went.new.code)) (in_row_shape k c.shape-shape.result shape) (c.in-Ok-false.ensures.marker (ap Ok c.in-Ok-false.field-0-test)) (fields_of c.args.image.now.header) k.head.stripes.next k.head.passed.segments c.args.self.now.row k.began out k.code k.begun k.code_is in
         let at = m.1 unread in
-        let left = c.suffix-piece.ensures.is at.waits.given c.go_on_in_row-went.new.code.piece.rest.now at.waits.taken refl in
-        (at.waits.given, at.waits.taken ∙ ap (λ z. at.waits.given ++ z) (sym left), in_time_row k c.coder_laws.ensures (in_use c.args.image.now) at)),
+        (at.waits.given, at.waits.taken, in_time_row k c.coder_laws.ensures (in_use c.args.image.now) at)),
   );
   err = tt;
   more = λ e. absurd (let bot : ⊥ = cc in bot);

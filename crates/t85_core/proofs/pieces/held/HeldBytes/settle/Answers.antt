@@ -15,14 +15,15 @@ returns-in-More c = record {
 
 pub returns-in_default : goal.returns-in_default
 returns-in_default c =
-    let held : held_bytes c.keep-in_default.new.self ≡ drop (min c.args.call.taken c.args.count) (take c.args.count c.args.bytes.now) = c.keep-in_default.ensures ∙ c.split_at-in_default-2.ensures.back ∙ ap (drop c.min.result) c.split_at-in_default.ensures.front ∙ ap (λ n. drop n (take c.args.count c.args.bytes.now)) c.min.ensures in
+    let held : held_bytes c.keep-in_default.new.self ≡ drop (min c.args.call.taken c.args.count) (take c.args.count c.args.bytes.now) = c.keep-in_default.ensures ∙ c.split_at-in_default-2.ensures.back ∙ ap (drop c.min-taken.result) c.split_at-in_default.ensures.front ∙ ap (λ n. drop n (take c.args.count c.args.bytes.now)) c.min-taken.ensures in
+    let sum : c.args.call.taken - c.min-taken.result ≡ c.args.call.taken - c.args.count = omega (arith, c.min-taken.ensures) in
     record {
       outcome_is = refl;
-      bound = omega (arith, c.saturating_sub.ensures, c.requires.bound);
-      rest = ap (λ n. held_bytes c.keep-in_default.new.self ++ drop n (drop c.args.count c.args.bytes.now)) c.saturating_sub.ensures ∙ settled_first c.args.bytes.now (held_bytes c.keep-in_default.new.self) c.args.count c.args.call.taken c.requires.within held;
+      bound = omega (arith, sum, c.requires.bound);
+      rest = ap (λ n. held_bytes c.keep-in_default.new.self ++ drop n (drop c.args.count c.args.bytes.now)) sum ∙ settled_first c.args.bytes.now (held_bytes c.keep-in_default.new.self) c.args.count c.args.call.taken c.requires.within held;
       all = λ e. absurd (c.in_default.not-More e);
-      earlier = λ _. settled_earlier c.args.bytes.now (held_bytes c.keep-in_default.new.self) c.args.count c.args.call.taken c.saturating_sub.result c.requires.within held c.saturating_sub.ensures;
+      earlier = λ _. settled_earlier c.args.bytes.now (held_bytes c.keep-in_default.new.self) c.args.count c.args.call.taken (c.args.call.taken - c.min-taken.result) c.requires.within held sum;
       none = λ z _.
           let first : min c.args.call.taken c.args.count ≡ 0 = omega (arith, z) in
-          let none : c.args.call.taken - c.args.count ≡ 0 = omega (arith, z) in (held ∙ ap (λ n. drop n (take c.args.count c.args.bytes.now)) first, c.saturating_sub.ensures ∙ none);
+          let none : c.args.call.taken - c.args.count ≡ 0 = omega (arith, z) in (held ∙ ap (λ n. drop n (take c.args.count c.args.bytes.now)) first, sum ∙ none);
     }

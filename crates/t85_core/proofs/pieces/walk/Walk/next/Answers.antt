@@ -12,6 +12,7 @@ pub steps-init : goal.steps-init
 steps-init c = record {
   lends = (refl, refl, (refl, refl));
   counts = λ e. e;
+  no_more = omega arith;
   so_far = stays (fields_of c.args.image.now.header) c.args.image.now.height (walk_lent c.args.self.now c.args.lent.now) c.args.piece.now.rest.now;
 }
 
@@ -20,6 +21,7 @@ steps-preserved-in-Continue-1 c =
     let step = c.in_ok-read_head-in-Head.ensures.step (held c.steps.lent.window.now) c.steps.lent.learned.now in
     record {
       lends = c.steps.invariant.lends;
+      no_more = (let now_left = c.read_head.ensures.no_more in let was_left = c.steps.invariant.no_more in omega (arith, now_left, was_left));
       counts = counts_then (sized (fields_of c.args.image.now.header) c.args.image.now.height) c.args.self.now c.steps.self c.read_head.new.self c.steps.invariant.counts (counts_kept (sized (fields_of c.args.image.now.header) c.args.image.now.height) c.steps.self c.read_head.new.self c.read_head.ensures.counts);
       so_far = on_then (fields_of c.args.image.now.header) c.args.image.now.height (walk_lent c.args.self.now c.args.lent.now) (walk_lent c.steps.self c.steps.lent) c.args.piece.now.rest.now c.steps.piece.rest.now c.steps.invariant.so_far (walk_lent c.read_head.new.self c.steps.lent) c.read_head.new.piece.rest.now [] step.ok;
     }
@@ -69,6 +71,7 @@ steps-preserved c =
     let was = c.steps.invariant.lends in
     record {
       lends = (now.0 ∙ was.0, now.1 ∙ was.1, (now.2.0 ∙ was.2.0, now.2.1 ∙ was.2.1));
+      no_more = (let now_left = c.find_end.ensures.no_more in let was_left = c.steps.invariant.no_more in omega (arith, now_left, was_left));
       counts = counts_then (sized (fields_of c.args.image.now.header) c.args.image.now.height) c.args.self.now c.steps.self c.end_stripe.new.self c.steps.invariant.counts (counts_then (sized (fields_of c.args.image.now.header) c.args.image.now.height) c.steps.self c.find_end.new.self c.end_stripe.new.self (counts_kept (sized (fields_of c.args.image.now.header) c.args.image.now.height) c.steps.self c.find_end.new.self c.find_end.ensures.counts) c.end_stripe.ensures.counts);
       so_far =
           on_then (fields_of c.args.image.now.header) c.args.image.now.height (walk_lent c.args.self.now c.args.lent.now) (walk_lent c.find_end.new.self c.steps.lent) c.args.piece.now.rest.now c.find_end.new.piece.rest.now

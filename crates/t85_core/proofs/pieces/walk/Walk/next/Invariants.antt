@@ -1,4 +1,4 @@
-use Rattle.std.proofs.Common.{◌+◌, ◌*◌, ℕ, [], length}
+use Rattle.std.proofs.Common.{◌+◌, ◌*◌, ◌≤◌, ℕ, [], length}
 use Rattle.t85_core.specs.Lent.{KeepsLent, walk_lent}
 use Rattle.t85_core.specs.Options.{fields_of}
 use Rattle.t85_core.specs.declared.pieces.walk.Stage.{Stage}
@@ -11,6 +11,7 @@ abbrev pub invariant-steps : goal.invariant-steps
 invariant-steps l = record {
   lends : KeepsLent l.fn.lent l.lent;
   counts : CountsOn (sized (fields_of l.image.header) l.image.height) l.fn.self l.self;
+  no_more : length l.piece.rest.now ≤ length l.fn.piece.rest.now;
   so_far : StepsOn (sized (fields_of l.image.header) l.image.height) (walk_lent l.fn.self l.fn.lent) (walk_lent l.self l.lent) l.fn.piece.rest.now l.piece.rest.now [];
 }
 
