@@ -18,10 +18,14 @@ abbrev pub has_stopped : Decoder → Bool
 has_stopped d = is_stopped d.heard
 
 -- A stopped decoder only returns an error. It is stopped after an error, and only then; to stop it, its source fails once.
-abbrev pub StopsOnce : {S T E : Type 0} → (failed left : S → ℕ) → Decoder → Decoder → S → S → Result T E → Type 0
-StopsOnce failed left d d' from to result =
+abbrev pub StopsOnce : {S T E : Type 0} → Ghosts S → Decoder → Decoder → S → S → Result T E → Type 0
+StopsOnce source d d' from to result =
     (IsTrue (has_stopped d) → IsErr result × (d' ≡ d) × (to ≡ from)) × (IsTrue (has_stopped d') ↔ IsErr result)
-    × OnOk result (failed to ≡ failed from) × (has_stopped d ≡ false → OnErr result (failed to ≡ one_more (failed from))) × (left to ≤ left from)
+    × OnOk result (source.failed to ≡ source.failed from) × (has_stopped d ≡ false → OnErr result (source.failed to ≡ one_more (source.failed from))) × (source.left to ≤ source.left from)
+
+-- An error counts a failure of the source, and the source has no more left than before.
+abbrev pub SourceGoesOn : {S T E : Type 0} → Ghosts S → S → S → Result T E → Type 0
+SourceGoesOn source from to result = OnOk result (source.failed to ≡ source.failed from) × OnErr result (source.failed to ≡ one_more (source.failed from)) × (source.left to ≤ source.left from)
 
 -- Either a decoder that has not stopped decoded pixels in one step, or nothing was done.
 abbrev pub SkipsOrStays : Bool → Decoder → Decoder → Type 0

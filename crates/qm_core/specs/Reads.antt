@@ -17,8 +17,8 @@ abbrev pub SameReader : {S : Type 0} → Reader S → Reader S → Type 0
 SameReader r r' = (r'.learned.ghost_name ≡ r.learned.ghost_name) × (r'.decoder.ghost_name ≡ r.decoder.ghost_name) × (r'.source.ghost_name ≡ r.source.ghost_name)
 
 -- The decoder stops as `StopsOnce` says, and the reader has borrowed the same three values as before.
-abbrev pub ReaderReads : {S T E : Type 0} → (failed left : S → ℕ) → Reader S → Reader S → Result T E → Type 0
-ReaderReads failed left r r' result = StopsOnce failed left r.decoder.now r'.decoder.now r.source.now r'.source.now result × SameReader r r'
+abbrev pub ReaderReads : {S T E : Type 0} → Ghosts S → Reader S → Reader S → Result T E → Type 0
+ReaderReads source r r' result = StopsOnce source r.decoder.now r'.decoder.now r.source.now r'.source.now result × SameReader r r'
 
 -- the effect of a call of `next`, in a context, from every place and all answers of the source at which it is
 abbrev pub ReadsPixel : {S : Type 0} → Ghosts S → Context → Reader S → Reader S → Result Bool Stop → Type 0

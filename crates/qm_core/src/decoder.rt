@@ -118,7 +118,7 @@ impl Decoder {
         source: &mut S,
     ) -> Result<bool, Stop>
         // A decoder that has stopped remains unchanged, and reads nothing.
-        ensures stop { StopsOnce S.failed S.left self.old self.new source.old source.new result }
+        ensures stop { StopsOnce S.CodeBytes self.old self.new source.old source.new result }
         ensures unchanged { OnErr result (learned.new ≡ learned.old) }
         ensures next { (p : Place) (answers : List Pulled) → DecoderIsAt self.old p answers →
             Next (source_of S.CodeBytes source.old answers) (state_of p learned.old) cx.number
@@ -165,7 +165,7 @@ impl Decoder {
     fn fill<S: CodeBytes>(&mut self, source: &mut S) -> Result<(), Stop>
         requires few { self.old.bits < 16 }
         ensures bits { OnOk result (16 ≤ self.new.bits) }
-        ensures stop { StopsOnce S.failed S.left self.old self.new source.old source.new result }
+        ensures stop { StopsOnce S.CodeBytes self.old self.new source.old source.new result }
         ensures fills { (p : Place) (answers : List Pulled) → DecoderIsAt self.old p answers →
             Fills (source_of S.CodeBytes source.old answers) p source.new self.new result }
     {
@@ -180,7 +180,7 @@ impl Decoder {
     fn pull<S: CodeBytes>(&mut self, source: &mut S) -> Result<(), Stop>
         requires few { self.old.bits < 16 }
         ensures bits { OnOk result (self.new.bits ≡ self.old.bits + 8) }
-        ensures stop { StopsOnce S.failed S.left self.old self.new source.old source.new result }
+        ensures stop { StopsOnce S.CodeBytes self.old self.new source.old source.new result }
         ensures fills { (p : Place) (answers : List Pulled) → DecoderIsAt self.old p answers →
             Fills (source_of S.CodeBytes source.old answers) p source.new self.new result }
     {

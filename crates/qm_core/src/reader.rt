@@ -21,7 +21,7 @@ impl<S: CodeBytes> Reader<'_, S> {
     /// Decodes the next pixel, in the context `cx`, and adapts that context; see `Decoder::next`.
     #[inline(always)]
     pub fn next(&mut self, cx: Context) -> Result<bool, Stop>
-        ensures reads { ReaderReads S.failed S.left self.old self.new result }
+        ensures reads { ReaderReads S.CodeBytes self.old self.new result }
         ensures unchanged { OnErr result (self.new.learned.now ≡ self.old.learned.now) }
         ensures next { ReadsPixel S.CodeBytes cx self.old self.new result }
     {

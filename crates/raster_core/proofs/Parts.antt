@@ -135,11 +135,3 @@ all_push P (r ∷ rows) lines h p = (h.0, all_push P rows lines h.1 p)
 pub length_push : (rows : List Lines) (lines : Lines) → length (rows ++ lines ∷ []) ≡ length rows + 1
 length_push [] lines = refl
 length_push (r ∷ rows) lines = let e = length_push rows lines in omega arith
-
--- ---- a pixel more
-
-one_pixel : (lines : Lines) (width offset x : ℕ) → x < width →
-    part_agreement lines width offset x 1 ≡ cond (same (pixel_at lines.row x) (adaptive lines offset x)) 1 0
-unfolding part_agreement
-one_pixel lines width offset x h =
-    rw is_lt (zero-add (cond (same (pixel_at lines.row x) (adaptive lines offset x)) 1 0))

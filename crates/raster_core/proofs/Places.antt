@@ -116,11 +116,6 @@ rows_cut {n} p width front row back long lf lr is_above is_second =
     rw (← long)
     (same_rows width (ap (take n) (drop_at front (row ++ back) (p * n) lf) ∙ take_at row back n lr) (is_above row lr) (is_second row lr))
 
-pub row_next : (n q : ℕ) (a b : List ℕ) → length a ≡ n → row_placed n (a ++ b) (q + 1) ≡ row_placed n b q
-row_next n q a b la =
-    let more : (q + 1) * n ≡ n + q * n = omega arith in
-    rw (more, ← drop-drop, drop_at) refl
-
 -- a row of nothing in front
 none_of : (l : List ℕ) → length l ≡ 0 → l ≡ []
 none_of [] h = refl

@@ -2,9 +2,8 @@
 
 ghost use Rattle.std.specs.Prelude.{◌≡◌, ◌+◌, ◌*◌, ◌<◌, ◌≤◌, ◌↔◌, ◌++◌, ℕ, length, List, IsTrue, OnOk, OnErr, false, true};
 ghost use Rattle.std.specs.Int.{div_ceil};
-ghost use Rattle.qm_core.specs.Counts.{one_more};
 ghost use Rattle.qm_core.specs.Place.{Place, State, state_of};
-ghost use Rattle.qm_core.specs.Decoder.{StopsOnce, DecoderIsAt, has_stopped, decoder_state, source_of};
+ghost use Rattle.qm_core.specs.Decoder.{SourceGoesOn, StopsOnce, DecoderIsAt, has_stopped, decoder_state, source_of};
 ghost use Rattle.qm_core.specs.declared.source.Pulled.{Pulled};
 ghost use Rattle.qm_core.specs.Reads.{ReaderReads};
 ghost use Rattle.raster_core.specs.Lines.{Lines};
@@ -42,7 +41,7 @@ fn decode_below<S: CodeBytes>(
     requires goes_on { MayGoOnIn shape kept.old place.old reader.old.decoder.now }
     requires current { length current.old ≡ div_ceil shape.width 8 }
     requires above { length above.now ≡ div_ceil shape.width 8 }
-    ensures reads { ReaderReads S.failed S.left reader.old reader.new result }
+    ensures reads { ReaderReads S.CodeBytes reader.old reader.new result }
     ensures place { LeavesPlace shape kept.old kept.new place.new result }
     ensures row { RowContinues S.CodeBytes shape (row_progress kept.old place.old (held_rows
         shape.width current.old above.now second.now) reader.old) (row_progress kept.new place.new
@@ -112,7 +111,7 @@ fn decode_beside<S: CodeBytes>(
     requires row { length row.old ≡ div_ceil shape.width 8 }
     requires tail { length sides.0.now + length sides.1.now ≡ 2 * div_ceil shape.width 8 }
     requires at { at < 3 }
-    ensures reads { ReaderReads S.failed S.left reader.old reader.new result }
+    ensures reads { ReaderReads S.CodeBytes reader.old reader.new result }
     ensures place { LeavesPlace shape kept.old kept.new place.new result }
     ensures above { SameAbove
         (rows_beside at shape.width sides.entry.0.now row.old sides.entry.1.now)
@@ -141,7 +140,7 @@ fn decode_at<S: CodeBytes>(
     requires goes_on { MayGoOnIn shape kept.old place.old reader.old.decoder.now }
     requires long { length rows.old ≡ 3 * div_ceil shape.width 8 }
     requires current { current < 3 }
-    ensures reads { ReaderReads S.failed S.left reader.old reader.new result }
+    ensures reads { ReaderReads S.CodeBytes reader.old reader.new result }
     ensures place { LeavesPlace shape kept.old kept.new place.new result }
     ensures above { SameAbove (rows_at current shape.width rows.old)
         (rows_at current shape.width rows.new) }
@@ -167,7 +166,7 @@ pub fn decode_row<S: CodeBytes>(
     source: &mut S,
 ) -> Result<(), Stop>
     requires row { MayCodeRow shape kept.old window.old }
-    ensures stop { StopsOnce S.failed S.left decoder.old decoder.new source.old source.new result }
+    ensures stop { StopsOnce S.CodeBytes decoder.old decoder.new source.old source.new result }
     ensures offset { OnOk result (kept.new.offset ≡ kept.old.offset) }
     ensures window { DecodesCurrent window.old window.new }
     ensures row { (p : Place) (answers : List Pulled) (lines : Lines) →
@@ -236,9 +235,7 @@ pub fn go_on_row<S: CodeBytes>(
 ) -> Result<(), Stop>
     requires row { MayGoOnRow shape kept.old place.old window.old decoder.old }
     ensures going { has_stopped decoder.new ≡ false }
-    ensures same { OnOk result (S.failed source.new ≡ S.failed source.old) }
-    ensures counted { OnErr result (S.failed source.new ≡ one_more (S.failed source.old)) }
-    ensures fewer { S.left source.new ≤ S.left source.old }
+    ensures source { SourceGoesOn S.CodeBytes source.old source.new result }
     ensures offset { kept.new.offset ≡ kept.old.offset }
     ensures kept { OnErr result (kept.new ≡ kept.old) }
     ensures window { DecodesCurrent window.old window.new }

@@ -1,9 +1,8 @@
 //! Decodes what precedes the pixels of a row: the SLNTP pseudo-pixel.
 
-ghost use Rattle.std.specs.Prelude.{◌≡◌, ◌≤◌, ◌<◌, List, IsTrue, IsErr, OnOk, OnErr, IfOk, false, true};
-ghost use Rattle.qm_core.specs.Counts.{one_more};
+ghost use Rattle.std.specs.Prelude.{◌≡◌, ◌<◌, List, IsTrue, IsErr, OnOk, OnErr, IfOk, false, true};
 ghost use Rattle.qm_core.specs.Place.{Place, state_of};
-ghost use Rattle.qm_core.specs.Decoder.{DecoderIsAt, has_stopped, source_of};
+ghost use Rattle.qm_core.specs.Decoder.{DecoderIsAt, SourceGoesOn, has_stopped, source_of};
 ghost use Rattle.qm_core.specs.declared.source.Pulled.{Pulled};
 ghost use Rattle.qm_core.specs.Reads.{ReaderReads, SameReader, reader_state};
 ghost use Rattle.qm_core.specs.Source.{Pulls};
@@ -31,10 +30,8 @@ pub(super) fn begin_row<S: CodeBytes>(
     ensures going { OnOk result (has_stopped reader.new.decoder.now ≡
         has_stopped reader.old.decoder.now) }
     ensures stops { IsErr result → IsTrue (has_stopped reader.new.decoder.now) }
-    ensures same { OnOk result (S.failed reader.new.source.now ≡ S.failed reader.old.source.now) }
-    ensures counted { has_stopped reader.old.decoder.now ≡ false →
-        OnErr result (S.failed reader.new.source.now ≡ one_more (S.failed reader.old.source.now)) }
-    ensures fewer { S.left reader.new.source.now ≤ S.left reader.old.source.now }
+    ensures source { has_stopped reader.old.decoder.now ≡ false →
+        SourceGoesOn S.CodeBytes reader.old.source.now reader.new.source.now result }
     ensures typical { IfOk result (λ flag. IsTrue (has_stopped reader.old.decoder.now) →
         flag ≡ false) }
     ensures ok { IfOk result (λ flag. FromRowPlace (Pulls S.gives S.failed) shape kept place
@@ -56,7 +53,7 @@ fn decode_flag<S: CodeBytes>(
     reader: &mut Reader<'_, S>,
 ) -> Result<bool, Stop>
     requires typical { shape.typical ≡ true }
-    ensures reads { ReaderReads S.failed S.left reader.old reader.new result }
+    ensures reads { ReaderReads S.CodeBytes reader.old reader.new result }
     ensures ok { IfOk result (λ flag. (p : Place) (answers : List Pulled) →
         DecoderIsAt reader.old.decoder.now p answers →
         FirstDecoded (source_of S.CodeBytes reader.old.source.now answers) (shape_mode shape)

@@ -23,7 +23,7 @@ pub(crate) fn decode_byte<S: CodeBytes, const TWO_LINE: bool, const MOVED: bool>
 ) -> Result<u128, Pause>
     requires template { IsTemplate TWO_LINE MOVED registers.shape registers.offset }
     requires few { (1 ≤ n) × (n ≤ 8) }
-    ensures reads { ReaderReads S.failed S.left reader.old reader.new result }
+    ensures reads { ReaderReads S.CodeBytes reader.old reader.new result }
     ensures pixels { DecodesPixels S.CodeBytes (around_of registers) n reader.old reader.new
         result }
 {
@@ -50,7 +50,7 @@ fn decode_one<S: CodeBytes>(
     before: u128,
     reader: &mut Reader<'_, S>,
 ) -> Result<u128, Pause>
-    ensures reads { ReaderReads S.failed S.left reader.old reader.new result }
+    ensures reads { ReaderReads S.CodeBytes reader.old reader.new result }
     ensures pixels { DecodesLanes S.CodeBytes (lanes_around lanes before) 1 reader.old reader.new
         result }
 {
@@ -72,7 +72,7 @@ fn decode_two<S: CodeBytes>(
     before: u128,
     reader: &mut Reader<'_, S>,
 ) -> Result<u128, Pause>
-    ensures reads { ReaderReads S.failed S.left reader.old reader.new result }
+    ensures reads { ReaderReads S.CodeBytes reader.old reader.new result }
     ensures pixels { DecodesLanes S.CodeBytes (lanes_around lanes before) 2 reader.old reader.new
         result }
 {
@@ -90,7 +90,7 @@ fn decode_four<S: CodeBytes>(
     before: u128,
     reader: &mut Reader<'_, S>,
 ) -> Result<u128, Pause>
-    ensures reads { ReaderReads S.failed S.left reader.old reader.new result }
+    ensures reads { ReaderReads S.CodeBytes reader.old reader.new result }
     ensures pixels { DecodesLanes S.CodeBytes (lanes_around lanes before) 4 reader.old reader.new
         result }
 {
@@ -110,7 +110,7 @@ fn decode_eight<S: CodeBytes>(
 ) -> Result<u128, Pause>
     requires template { registers.shape.two_line ≡ false }
     requires nominal { registers.offset ≡ 0 }
-    ensures reads { ReaderReads S.failed S.left reader.old reader.new result }
+    ensures reads { ReaderReads S.CodeBytes reader.old reader.new result }
     ensures pixels { DecodesPixels S.CodeBytes (around_of registers) 8 reader.old reader.new
         result }
 {
@@ -130,7 +130,7 @@ fn decode_plain<S: CodeBytes, const TWO_LINE: bool, const MOVED: bool>(
     reader: &mut Reader<'_, S>,
 ) -> Result<u128, Pause>
     requires template { IsTemplate TWO_LINE MOVED registers.shape registers.offset }
-    ensures reads { ReaderReads S.failed S.left reader.old reader.new result }
+    ensures reads { ReaderReads S.CodeBytes reader.old reader.new result }
     ensures pixels { DecodesPixels S.CodeBytes (around_of registers) 8 reader.old reader.new
         result }
 {
@@ -149,7 +149,7 @@ pub(crate) fn decode_step<S: CodeBytes, const TWO_LINE: bool, const MOVED: bool>
     reader: &mut Reader<'_, S>,
 ) -> Result<u128, Pause>
     requires template { IsTemplate TWO_LINE MOVED registers.shape registers.offset }
-    ensures reads { ReaderReads S.failed S.left reader.old reader.new result }
+    ensures reads { ReaderReads S.CodeBytes reader.old reader.new result }
     ensures pixels { DecodesPixels S.CodeBytes (around_of registers) 8 reader.old reader.new
         result }
 {

@@ -27,7 +27,7 @@ fn end_byte<S: CodeBytes, const TWO_LINE: bool, const MOVED: bool>(
     requires template { IsTemplate TWO_LINE MOVED context.shape context.offset }
     requires begun { 1 ≤ place.done % 8 }
     requires part { IsPartOf context.shape place current.old }
-    ensures reads { ReaderReads S.failed S.left reader.old reader.new result }
+    ensures reads { ReaderReads S.CodeBytes reader.old reader.new result }
     ensures whole { IfOk result (λ to. to.done < context.entry.shape.width → to.done % 8 ≡ 0) }
     ensures within { IfOk result (λ to. to.done ≤ context.entry.shape.width) }
     ensures inside { IfErr result (λ at. at.done < context.entry.shape.width) }
@@ -67,7 +67,7 @@ fn decode_bytes<S: CodeBytes, const TWO_LINE: bool, const MOVED: bool>(
     requires template { IsTemplate TWO_LINE MOVED context.shape context.offset }
     requires whole { place.done % 8 ≡ 0 }
     requires part { IsPartOf context.shape place current.old }
-    ensures reads { ReaderReads S.failed S.left reader.old reader.new result }
+    ensures reads { ReaderReads S.CodeBytes reader.old reader.new result }
     ensures inside { IfErr result (λ at. at.done < context.entry.shape.width) }
     ensures leaves { DecodesRow (Pulls S.gives S.failed) (row_around context.entry)
         (row_part place current.old reader.old) context.entry.shape.width
@@ -149,7 +149,7 @@ fn decode_from_byte<S: CodeBytes, const TWO_LINE: bool, const MOVED: bool>(
     requires template { IsTemplate TWO_LINE MOVED context.shape context.offset }
     requires whole { place.done % 8 ≡ 0 }
     requires part { IsPartOf context.shape place current.old }
-    ensures stop { StopsOnce S.failed S.left decoder.old decoder.new source.old source.new result }
+    ensures stop { StopsOnce S.CodeBytes decoder.old decoder.new source.old source.new result }
     ensures inside { IfErr result (λ at. at.done < context.entry.shape.width) }
     ensures leaves { DecodesRow (Pulls S.gives S.failed) (row_around context.entry)
         (row_part_of_state place current.old (decoder_state source.old decoder.old learned.old))
@@ -174,7 +174,7 @@ fn decode_rest<S: CodeBytes, const TWO_LINE: bool, const MOVED: bool>(
 ) -> Result<(), RowPlace>
     requires template { IsTemplate TWO_LINE MOVED context.shape context.offset }
     requires part { IsPartOf context.shape place current.old }
-    ensures reads { ReaderReads S.failed S.left reader.old reader.new result }
+    ensures reads { ReaderReads S.CodeBytes reader.old reader.new result }
     ensures inside { IfErr result (λ at. at.done < context.entry.shape.width) }
     ensures leaves { DecodesRow (Pulls S.gives S.failed) (row_around context.entry)
         (row_part place current.old reader.old) context.entry.shape.width
@@ -214,7 +214,7 @@ pub(crate) fn decode_pixels<S: CodeBytes>(
 ) -> Result<(), RowPlace>
     requires offset { context.offset ≤ 127 }
     requires part { IsPartOf context.shape place current.old }
-    ensures reads { ReaderReads S.failed S.left reader.old reader.new result }
+    ensures reads { ReaderReads S.CodeBytes reader.old reader.new result }
     ensures inside { IfErr result (λ at. at.done < context.entry.shape.width) }
     ensures leaves { DecodesRow (Pulls S.gives S.failed) (row_around context.entry)
         (row_part place current.old reader.old) context.entry.shape.width

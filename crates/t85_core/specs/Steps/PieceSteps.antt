@@ -156,6 +156,6 @@ place_after d = place_behind (fields_of d.image.header) (stage_kind d.walk.stage
 abbrev pub steps_left : Bool → List ℕ → ℕ
 steps_left waits piece = 2 * length piece + (if waits then 0 else 1)
 
--- no bytes are added, and where another step is to be taken, there are fewer of them
+-- no bytes are added, and fewer steps are left if another one follows
 abbrev pub Lowers : PieceDecoder → PieceDecoder → List ℕ → List ℕ → Option Outcome → Type 0
 Lowers d d' piece piece' answer = (length piece' ≤ length piece) × (answer ≡ None → steps_left (phase_waits d'.phase) piece' < steps_left (phase_waits d.phase) piece)

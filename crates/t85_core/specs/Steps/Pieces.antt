@@ -14,7 +14,7 @@ use Rattle.t85_core.specs.declared.pieces.walk.Walk.{Walk}
 use Rattle.t85_core.specs.declared.pieces.code.InCode.{InCode}
 use Rattle.raster_core.specs.declared.shape.Kept.{Kept}
 use Rattle.t85_core.specs.Lent.{Carried, StripeAt, WalkView, code_view, walk_view}
-use Rattle.t85_core.specs.Stages.{Kind, stage_kind, stage_row}
+use Rattle.t85_core.specs.Stages.{Kind}
 use Rattle.t85_core.specs.Stages as stage
 use Rattle.t85_core.specs.Steps.SizedImage.{SizedImage}
 use Rattle.t85_core.specs.Header.{Fields}
@@ -206,10 +206,6 @@ IsInCode s = (s ≡ stage.Code) ⊎ (s ≡ stage.Row)
 -- a row has begun, or is still to come
 abbrev pub RowIsLeft : ℕ → WalkView → Type 0
 RowIsLeft l0 w = IsInCode w.stage × (w.row < min w.left l0)
-
--- all rows of the stripe are decoded
-abbrev pub HasAllRows : ℕ → Walk → Type 0
-HasAllRows l0 w = IsInCode (stage_kind w.stage) × (min w.left l0 ≤ stage_row w.stage)
 
 -- The effect of a step that may return a row, or find that the image is whole.
 pub record Turn (image : SizedImage) (w w' : WalkView) (piece piece' : List ℕ) (answer : Result Bool Fault) : Type 0 where

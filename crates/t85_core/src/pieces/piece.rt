@@ -1,6 +1,6 @@
 //! A piece of a stream as a byte source.
 
-ghost use Rattle.std.specs.Prelude.{◌≡◌, ◌≤◌, ◌<◌, ◌++◌, ℕ, Bool, None, Some, IfErr, IfOk, [], length, if◌then◌else◌};
+ghost use Rattle.std.specs.Prelude.{◌≡◌, ◌≤◌, ◌<◌, ◌++◌, ℕ, Bool, None, Some, IfErr, IfOk, [], length};
 ghost use Rattle.t85_core.specs.declared.fault.Fault.{Fault};
 ghost use Rattle.t85_core.specs.declared.fault.Fault.TheVariants.{Truncated};
 ghost use Rattle.t85_core.specs.declared.segments.Code.TheVariants as code;
@@ -99,8 +99,7 @@ pub struct PieceCode<'a, const PART: usize> {
 }
 
 impl<const PART: usize> PieceCode<'_, PART> {
-    ghost use Rattle.qm_core.specs.Counts.{one_more};
-    ghost use Rattle.qm_core.specs.Source.{is_fault};
+    ghost use Rattle.qm_core.specs.Source.{failures_after};
     ghost use Rattle.t85_core.specs.Steps.Entity.{EntityGives};
     ghost use Rattle.t85_core.specs.Steps.Views.{piece_view};
 
@@ -108,8 +107,7 @@ impl<const PART: usize> PieceCode<'_, PART> {
     #[inline(never)]
     fn pull_any(&mut self) -> Pulled
         ensures answer { EntityGives (piece_view self.old) result (piece_view self.new) }
-        ensures counted { self.new.failures ≡
-            (if is_fault result then one_more self.old.failures else self.old.failures) }
+        ensures counted { self.new.failures ≡ failures_after result self.old.failures }
         ensures fewer { length self.new.piece.rest.now ≤ length self.old.piece.rest.now }
     {
         if self.fault.is_some() || self.marker.is_some() {

@@ -3,6 +3,8 @@
 ghost use Rattle.std.specs.Prelude.{◌≡◌, ◌≤◌, ◌<◌, ◌+◌, ◌^◌, false};
 ghost use Rattle.t85_core.specs.Stages.{is_done};
 
+mod counts;
+
 use crate::fault::Fault;
 use crate::header::SizedImage;
 use crate::laws::coder_laws;
@@ -43,7 +45,7 @@ pub struct Walk {
 }
 
 impl Walk {
-    ghost use Rattle.std.specs.Prelude.{◌≡◌, ◌≢◌, ◌≤◌, ◌<◌, ◌⊎◌, ◌++◌, [], ℕ, Bool, List, None, Ok, Some, length, min, nat_eq, ◌+◌, ◌-◌, ◌*◌, true, false, IfErr, IfOk, OnOk};
+    ghost use Rattle.std.specs.Prelude.{◌≡◌, ◌≤◌, ◌<◌, ◌⊎◌, ◌++◌, [], ℕ, Bool, List, None, Ok, Some, length, ◌+◌, true, OnOk};
     ghost use Rattle.qm_core.specs.Place.{Estimate};
     ghost use Rattle.raster_core.specs.Packed.{Held};
     ghost use Rattle.raster_core.specs.Window.{held, width_of};
@@ -53,11 +55,9 @@ impl Walk {
     ghost use Rattle.t85_core.specs.Lent.{KeepsLent, walk_view, walk_lent as over};
     ghost use Rattle.t85_core.specs.Steps.Buffers.{copies};
     ghost use Rattle.t85_core.specs.Steps.PieceCode.{MarkerIs, MarkerRead};
-    ghost use Rattle.t85_core.specs.Steps.Pieces.{WalkStands, IsFirstWalk, Alone, CountsOn, HasAllRows, IsInCode, KeepsStripes, KeepsPlace, RowIsLeft, SomeStands, Step, Turn};
+    ghost use Rattle.t85_core.specs.Steps.Pieces.{WalkStands, IsFirstWalk, Alone, CountsOn, IsInCode, KeepsStripes, RowIsLeft, SomeStands, Step, Turn};
     ghost use Rattle.t85_core.specs.Steps.RowTurns.{CodeGoes, LeavesRow, RowStep};
-    ghost use Rattle.t85_core.specs.Steps.InTime.{ReachesMarker};
     ghost use Rattle.t85_core.specs.Stages.{is_code, is_done, stage_first, stage_kind, stage_marker, stage_row};
-    ghost use Rattle.t85_core.specs.declared.fault.Fault.TheVariants.{Changed};
     ghost use Rattle.t85_core.specs.declared.segments.Code.TheVariants as code;
     ghost use Rattle.t85_core.specs.Steps.SizedImage.{sized_of};
     ghost use Rattle.t85_core.specs.Steps.StripeEnds.{EndsAtMarker};
@@ -99,14 +99,17 @@ impl Walk {
         ensures lent { KeepsLent lent.old lent.new }
     {
         'steps: loop {
-            match self.stage {
-                Stage::Head(head) => self.read_head(image, head, piece)?,
+            match &mut self.stage {
+                Stage::Head(head) => {
+                    let head = *head;
+                    self.read_head(image, head, piece)?;
+                }
                 Stage::Code(code) => {
                     if code.row < self.left.min(image.header.l0) {
-                        self.next_row(image, lent, piece)?;
+                        code.next_row(image, &mut self.kept, &mut self.decoder, lent, piece)?;
                         return Ok(true);
                     }
-                    let reset = self.find_end(image, piece)?;
+                    let reset = code.find_end(image, piece)?;
                     self.end_stripe(image, reset, lent);
                 }
                 Stage::Done => return Ok(false),
@@ -159,60 +162,6 @@ impl Walk {
         }
         piece.rest = coming.rest;
         Ok(())
-    }
-
-    /// Whether the code of a stripe has begun.
-    #[inline(always)]
-    pub fn is_in_code(&self) -> bool
-        ensures is { result ≡ is_code self.now.stage }
-        ensures yes { result ≡ true → IsInCode (stage_kind self.now.stage) }
-        ensures no { result ≡ false → IsInCode (stage_kind self.now.stage) → ⊥ }
-    {
-        match &self.stage {
-            Stage::Code(_) => true,
-            _ => false,
-        }
-    }
-
-    /// Whether the image is complete.
-    #[inline(always)]
-    pub fn is_done(&self) -> bool
-        ensures { result ≡ is_done self.now.stage }
-    {
-        match &self.stage {
-            Stage::Done => true,
-            _ => false,
-        }
-    }
-
-    /// Whether there may be marker segments here: behind the code of a stripe, or before the first one.
-    #[inline(always)]
-    pub fn is_behind(&self) -> bool
-        ensures going { result ≡ true → is_done self.now.stage ≡ false }
-        ensures none { result ≡ true → is_code self.now.stage ≡ false → self.now.entities ≡ 0 }
-        ensures all { is_done self.now.stage ≡ false →
-            (is_code self.now.stage ≡ false → self.now.entities ≡ 0) → result ≡ true }
-    {
-        match &self.stage {
-            Stage::Head(_) => self.entities == 0,
-            Stage::Code(_) => true,
-            Stage::Done => false,
-        }
-    }
-
-    /// Whether its counts are those of this image.
-    #[inline(always)]
-    pub fn fits(&self, image: &SizedImage) -> bool
-        ensures { result ≡ nat_eq self.now.left (image.now.height - self.now.entities *
-            image.now.header.l0) }
-    {
-        let before = u64::from(self.entities) * u64::from(image.header.l0);
-        let height = u64::from(image.height);
-        if before < height {
-            u64::from(self.left) == height - before
-        } else {
-            self.left == 0
-        }
     }
 
     /// Whether one of the first `rows` rows of the stripe whose code has begun is still to be decoded, or to be finished.
@@ -289,32 +238,6 @@ impl Walk {
             Stage::Code(code) => {
                 code.next_row(image, &mut self.kept, &mut self.decoder, lent, piece)
             }
-            _ => unreachable!(),
-        }
-    }
-
-    /// Skips the rest of the code that has begun, after its last row, up to its end marker, and returns whether that
-    /// resets. Reads the marker ahead. If it has not arrived yet, skips the bytes that have.
-    pub fn find_end(&mut self, image: &SizedImage, piece: &mut Piece<'_>) -> Result<bool, Fault>
-        requires all { HasAllRows image.now.header.l0 self.old }
-        ensures step { Alone (λ w w'. Step (sized_of image.now) w w' piece.old.rest.now
-            piece.new.rest.now result) self.old self.new }
-        ensures in_time { (MarkerRead (stage_marker self.old.stage) (stage_first self.old.stage) →
-            ⊥) → Alone (λ w w'. OnOk result (ReachesMarker (sized_of image.now) w
-            piece.old.rest.now piece.new.rest.now)) self.old self.new }
-        ensures other { Alone (λ w w'. SomeStands (sized_of image.now) w →
-            IfErr result (λ f. f ≢ Changed)) self.old self.new }
-        ensures same { HasAllRows image.now.header.l0 self.new ×
-            Alone KeepsPlace self.old self.new }
-        ensures counts { KeepsStripes self.old self.new }
-        ensures marked { IfOk result (λ reset. MarkerIs reset (stage_marker self.new.stage)
-            (stage_first self.new.stage)) }
-        ensures none { IfErr result (λ _. (stage_first self.new.stage ≡ None) ×
-            (stage_marker self.new.stage ≡ None)) }
-        ensures no_more { length piece.new.rest.now ≤ length piece.old.rest.now }
-    {
-        match &mut self.stage {
-            Stage::Code(code) => code.find_end(image, piece),
             _ => unreachable!(),
         }
     }

@@ -31,7 +31,7 @@ loop-j-preserved g c =
     record {
       lends = (lent.0 ∙ was_lent.0, lent.1 ∙ was_lent.1, lent.2 ∙ was_lent.2);
       same = stop.2 ∙ c.loop-j.invariant.same;
-      fewer = (let now = stop.4 in let was_fewer = c.loop-j.invariant.fewer in omega (arith, now, was_fewer));
+      fewer = omega (arith, stop.4, c.loop-j.invariant.fewer);
       going = had_not_stopped stop.1.0 ∙ sym was;
       stuck = λ t. absurd (not_both t was);
       second = goes_on _ _ _ c.loop-j.invariant.second;

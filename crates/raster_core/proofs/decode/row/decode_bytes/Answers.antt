@@ -45,7 +45,7 @@ bytes-preserved g c =
     record {
       lends = (lent.0 ∙ was_lent.0, lent.1 ∙ was_lent.1, lent.2 ∙ was_lent.2);
       same = c.in-Ok.ensures.reads.0.2 ∙ c.bytes.invariant.same;
-      fewer = (let now = c.in-Ok.ensures.reads.0.4 in let was_fewer = c.bytes.invariant.fewer in omega (arith, now, was_fewer));
+      fewer = omega (arith, c.in-Ok.ensures.reads.0.4, c.bytes.invariant.fewer);
       going = had_not_stopped c.in-Ok.ensures.reads.0.1.0 ∙ sym was;
       stuck = λ t. absurd (not_both t was);
       left = omega arith;
