@@ -1,7 +1,7 @@
 //! The steps of a decoder that waits for the bytes behind an end marker.
 
 ghost use Rattle.t85_core.specs.declared.fault.Fault.TheVariants.{Truncated};
-ghost use Rattle.std.specs.Prelude.{◌≡◌, ◌<◌, ◌+◌, ◌-◌, ◌++◌, Bool, None, Some, min, true, false};
+ghost use Rattle.std.specs.Prelude.{◌≡◌, ◌++◌, Bool, None, IfErr, IfOk, true, false};
 ghost use Rattle.t85_core.specs.Steps.PieceSteps.{LooksForHeight};
 ghost use Rattle.t85_core.specs.Lent.{KeepsLent, decoder_lent as over, walk_lent};
 
@@ -11,7 +11,7 @@ use crate::fault::Fault;
 use crate::laws::coder_laws;
 use crate::lent::Lent;
 use crate::pieces::code::InCode;
-use crate::pieces::head::{Coming, Head, SegmentPlace};
+use crate::pieces::head::{Head, SegmentPlace};
 use crate::pieces::phase::Phase;
 use crate::pieces::piece::Piece;
 use crate::pieces::walk::Stage;
@@ -23,9 +23,9 @@ impl PieceDecoder {
     ghost use Rattle.t85_core.specs.Phases.{phase_behind};
     ghost use Rattle.t85_core.specs.declared.pieces.phase.Phase.TheVariants as phase;
     ghost use Rattle.t85_core.specs.Options.{fields_of};
-    ghost use Rattle.t85_core.specs.Steps.Behind.{ComesBehind, StopsBehind, behind_at};
+    ghost use Rattle.t85_core.specs.Steps.Behind.{StopsBehind, behind_at};
     ghost use Rattle.t85_core.specs.Steps.Segments.{IsByteOrMarker, code_bytes};
-    ghost use Rattle.t85_core.specs.Steps.PieceSteps.{is_last_of, place_after, HeightComes, LookIsOver, Lowers, SomeStand, StepLeaves};
+    ghost use Rattle.t85_core.specs.Steps.PieceSteps.{is_last_of, place_after, HeightComes, Lowers, StepLeaves};
 
     /// Continues behind an end marker, or before the first stripe, while a height may still arrive.
     pub(super) fn step_behind(
@@ -51,69 +51,19 @@ impl PieceDecoder {
         let found = head.pass(at, piece);
         self.phase = Phase::Behind(head);
         match found {
-            Ok(coming) => self.take_coming(lent, coming, is_last, is_all, piece),
+            Ok(coming) => match coming.next {
+                Next::Height(height) => self.take_height(lent, height, coming.rest, piece),
+                Next::Code(code) => {
+                    self.go_past(lent, Ok((code, coming.rest)), is_last, is_all, piece)
+                }
+            },
             Err(fault) => {
                 if is_open_end(fault, is_all) {
                     return Some(Outcome::More);
                 }
-                Some(self.stop_behind(lent, fault, is_last, is_all, piece))
+                self.go_past(lent, Err(fault), is_last, is_all, piece)
             }
         }
-    }
-
-    /// Handles a height or a code that comes next.
-    fn take_coming<'c>(
-        &mut self,
-        lent: &mut Lent<'_, '_>,
-        coming: Coming<'c>,
-        is_last: bool,
-        is_all: bool,
-        piece: &mut Piece<'c>,
-    ) -> Option<Outcome>
-        requires looks { LooksForHeight self.old }
-        requires between { (phase_behind self.old.phase).comment ≡ None }
-        requires last { is_last ≡ is_last_of self.old }
-        requires comes { ComesBehind (fields_of self.old.image.header) (place_after self.old)
-            coming.next piece.old.rest.now coming.rest.now }
-        ensures leaves { StepLeaves is_all (over self.old lent.old) (over self.new
-            lent.new) piece.old.rest.now piece.new.rest.now result }
-        ensures lowers { Lowers self.old self.new piece.old.rest.now piece.new.rest.now result }
-        ensures lent { KeepsLent lent.old lent.new }
-    {
-        match coming.next {
-            Next::Height(height) => self.take_height(lent, height, coming.rest, piece),
-            Next::Code(code) => {
-                if is_last {
-                    return Some(self.end_look(lent, is_all, piece));
-                }
-                self.take_code(lent, code, coming.rest, piece)
-            }
-        }
-    }
-
-    /// Handles an error that comes next, or the end of the stream.
-    fn stop_behind(
-        &mut self,
-        lent: &mut Lent<'_, '_>,
-        fault: Fault,
-        is_last: bool,
-        is_all: bool,
-        piece: &Piece<'_>,
-    ) -> Outcome
-        requires looks { LooksForHeight self.old }
-        requires last { is_last ≡ is_last_of self.old }
-        requires end { fault ≡ Truncated → is_all ≡ true }
-        requires stops { StopsBehind (fields_of self.old.image.header)
-            (behind_at (place_after self.old) is_last) (phase_behind self.old.phase)
-            piece.now.rest.now fault }
-        ensures leaves { StepLeaves is_all (over self.old lent.old) (over self.new
-            lent.new) piece.now.rest.now piece.now.rest.now (Some result) }
-        ensures lent { KeepsLent lent.old lent.new }
-    {
-        if is_last {
-            return self.end_look(lent, is_all, piece);
-        }
-        self.take_fault(lent, fault, is_all, piece)
     }
 
     /// Handles a valid height that comes next: it becomes the current height, after the rows of the previous stripe
@@ -158,21 +108,26 @@ impl PieceDecoder {
         None
     }
 
-    /// Handles a code that comes next: the next stripe begins with it, after the remaining rows of the previous stripe.
-    fn take_code<'c>(
+    /// No height comes next, but a code, or an error, which may be the end of the stream. After the remaining rows of the
+    /// previous stripe, the image ends if that was the last; otherwise the code begins the next stripe, or the error is
+    /// reported.
+    fn go_past<'c>(
         &mut self,
         lent: &mut Lent<'_, '_>,
-        code: Code,
-        rest: &'c [u8],
+        next: Result<(Code, &'c [u8]), Fault>,
+        is_last: bool,
+        is_all: bool,
         piece: &mut Piece<'c>,
     ) -> Option<Outcome>
         requires looks { LooksForHeight self.old }
-        requires between { (phase_behind self.old.phase).comment ≡ None }
-        requires more { is_last_of self.old ≡ false }
-        requires code { IsByteOrMarker code }
-        requires comes { piece.old.rest.now ≡ code_bytes code ++ rest.now }
-        ensures leaves { (is_all : Bool) → StepLeaves is_all (over self.old lent.old)
-            (over self.new lent.new) piece.old.rest.now piece.new.rest.now result }
+        requires last { is_last ≡ is_last_of self.old }
+        requires code { IfOk next (λ ahead. ((phase_behind self.old.phase).comment ≡ None) ×
+            IsByteOrMarker ahead.0 × (piece.old.rest.now ≡ code_bytes ahead.0 ++ ahead.1.now)) }
+        requires fault { IfErr next (λ fault. (fault ≡ Truncated → is_all ≡ true) × StopsBehind
+            (fields_of self.old.image.header) (behind_at (place_after self.old) is_last)
+            (phase_behind self.old.phase) piece.old.rest.now fault) }
+        ensures leaves { StepLeaves is_all (over self.old lent.old) (over self.new
+            lent.new) piece.old.rest.now piece.new.rest.now result }
         ensures lowers { Lowers self.old self.new piece.old.rest.now piece.new.rest.now result }
         ensures lent { KeepsLent lent.old lent.new }
     {
@@ -181,61 +136,22 @@ impl PieceDecoder {
         if self.gives_below(lent, self.walk.left.min(self.image.header.l0)) {
             return Some(Outcome::Row);
         }
+        if is_last {
+            self.end_stripe(lent);
+            return Some(Outcome::Done(self.image.height));
+        }
         let at = self.phase.behind().at;
         self.enter_head(lent);
-        piece.rest = rest;
-        self.walk.stage = Stage::Code(InCode::start(at, code));
-        self.walk.decoder = Decoder::start();
-        self.phase = Phase::InCode;
-        None
-    }
-
-    /// Handles an error that comes next, or the end of the stream: it is reported after the remaining rows of the
-    /// previous stripe.
-    fn take_fault(
-        &mut self,
-        lent: &mut Lent<'_, '_>,
-        fault: Fault,
-        is_all: bool,
-        piece: &Piece<'_>,
-    ) -> Outcome
-        requires looks { LooksForHeight self.old }
-        requires more { is_last_of self.old ≡ false }
-        requires end { fault ≡ Truncated → is_all ≡ true }
-        requires stops { StopsBehind (fields_of self.old.image.header)
-            (behind_at (place_after self.old) false) (phase_behind self.old.phase)
-            piece.now.rest.now fault }
-        ensures leaves { StepLeaves is_all (over self.old lent.old) (over self.new
-            lent.new) piece.now.rest.now piece.now.rest.now (Some result) }
-        ensures lent { KeepsLent lent.old lent.new }
-    {
-        // The proof uses these laws of the coder.
-        coder_laws();
-        if self.gives_below(lent, self.walk.left.min(self.image.header.l0)) {
-            return Outcome::Row;
+        match next {
+            Ok((code, rest)) => {
+                piece.rest = rest;
+                self.walk.stage = Stage::Code(InCode::start(at, code));
+                self.walk.decoder = Decoder::start();
+                self.phase = Phase::InCode;
+                None
+            }
+            Err(fault) => Some(Outcome::Broken(fault)),
         }
-        self.enter_head(lent);
-        Outcome::Broken(fault)
-    }
-
-    /// No height follows the last stripe: the image ends at the header's height, after the remaining rows of that
-    /// stripe.
-    fn end_look(&mut self, lent: &mut Lent<'_, '_>, is_all: bool, piece: &Piece<'_>) -> Outcome
-        requires looks { LooksForHeight self.old }
-        requires last { is_last_of self.old ≡ true }
-        requires over { SomeStand (over self.old lent.old) → LookIsOver is_all
-            (over self.old lent.old) piece.now.rest.now }
-        ensures leaves { StepLeaves is_all (over self.old lent.old) (over self.new
-            lent.new) piece.now.rest.now piece.now.rest.now (Some result) }
-        ensures lent { KeepsLent lent.old lent.new }
-    {
-        // The proof uses these laws of the coder.
-        coder_laws();
-        if self.gives_below(lent, self.walk.left.min(self.image.header.l0)) {
-            return Outcome::Row;
-        }
-        self.end_stripe(lent);
-        Outcome::Done(self.image.height)
     }
 }
 
