@@ -14,7 +14,6 @@ use crate::pieces::piece::Piece;
 use crate::pieces::{Outcome, PieceDecoder};
 
 impl PieceDecoder {
-    ghost use Rattle.t85_core.specs.Phases.{phase_is_open};
     ghost use Rattle.t85_core.specs.Steps.PieceSteps.{DecodesCode, Lowers, StepLeaves};
 
     /// Continues up to the next row or the end, or as far as the bytes allow.
@@ -49,25 +48,14 @@ impl PieceDecoder {
         ensures lent { KeepsLent lent.old lent.new }
     {
         match self.phase {
-            Phase::Known => Some(self.take_turn(lent, piece, is_all)),
+            Phase::Known => match self.walk.next(&self.image, lent, piece) {
+                Ok(true) => Some(Outcome::Row),
+                Ok(false) => Some(Outcome::Done(self.image.height)),
+                Err(fault) => Some(outcome_of(fault, is_all)),
+            },
             Phase::InCode => self.step_in_code(lent, piece, is_all),
             Phase::Behind(head) => self.step_behind(head, lent, piece, is_all),
             Phase::Late => Some(Outcome::Done(self.image.height)),
-        }
-    }
-
-    /// Continues if the height is known.
-    fn take_turn(&mut self, lent: &mut Lent<'_, '_>, piece: &mut Piece<'_>, is_all: bool) -> Outcome
-        requires known { phase_is_open self.old.phase ≡ false }
-        ensures leaves { StepLeaves is_all (over self.old lent.old) (over self.new
-            lent.new) piece.old.rest.now piece.new.rest.now (Some result) }
-        ensures no_more { length piece.new.rest.now ≤ length piece.old.rest.now }
-        ensures lent { KeepsLent lent.old lent.new }
-    {
-        match self.walk.next(&self.image, lent, piece) {
-            Ok(true) => Outcome::Row,
-            Ok(false) => Outcome::Done(self.image.height),
-            Err(fault) => outcome_of(fault, is_all),
         }
     }
 
