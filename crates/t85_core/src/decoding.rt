@@ -19,15 +19,12 @@ ghost use Rattle.t85_core.specs.declared.fault.Fault.{Fault};
 ghost use Rattle.t85_core.specs.declared.fault.Fault.TheVariants.{Read, Truncated, Write};
 ghost use Rattle.t85_core.specs.Stages as stage;
 
-pub mod rows;
-
-use crate::decoding::rows::put_copies;
 use crate::fault::Fault;
 use crate::header::{Header, SizedImage};
 use crate::input_buffer::{HeldSource, InputBuffer, READ_AHEAD};
 use crate::laws::coder_laws;
 use crate::lent::Lent;
-use crate::output_buffer::{ByteTarget, IMAGE_HELD, OutputBuffer};
+use crate::output_buffer::{ByteTarget, IMAGE_HELD, OutputBuffer, put_copies};
 use crate::pieces::piece::Piece;
 use crate::pieces::walk::Walk;
 use pbm_core::{Input, Output, Size, WriteFault, write_header};

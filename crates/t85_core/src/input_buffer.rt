@@ -7,11 +7,9 @@ ghost use Rattle.t85_core.specs.Steps.Reading.{KeepsLast, Refills};
 ghost use Rattle.t85_core.specs.Steps.Buffers.{SourceView, GivesNextByte, GivesPlain, SkipsPlain, held_of, ArePlain};
 
 use crate::fault::Fault;
+use crate::segments::ESCAPE;
 use memchr::memchr;
 use pbm_core::{DeviceFailed, Input};
-
-/// The byte with which marker segments and end markers begin.
-pub const ESCAPE: u8 = 0xff;
 
 /// The number of bytes that are read ahead of a file.
 pub const READ_AHEAD: usize = 4096;

@@ -17,7 +17,7 @@ mod length;
 pub use self::atmove::Move;
 use crate::fault::Fault;
 use crate::header::Header;
-use crate::input_buffer::{ByteSource, ESCAPE};
+use crate::input_buffer::ByteSource;
 use crate::segments::length::read_length;
 use byteorder::{BigEndian, ByteOrder};
 
@@ -68,6 +68,9 @@ pub struct Segments {
     pub comments: u64,
     pub next: Next,
 }
+
+/// The byte with which marker segments and end markers begin.
+pub const ESCAPE: u8 = 0xff;
 
 pub const STUFF: u8 = 0;
 

@@ -6,9 +6,8 @@ ghost use Rattle.t85_core.specs.Steps.Buffers.{PutsBytes};
 ghost use Rattle.t85_core.specs.Steps.Written.{ending_of};
 
 use crate::fault::Fault;
-use crate::input_buffer::ESCAPE;
 use crate::output_buffer::ByteTarget;
-use crate::segments::{ATMOVE, COMMENT, NEWLEN, SDNORM, SDRST};
+use crate::segments::{ATMOVE, COMMENT, ESCAPE, NEWLEN, SDNORM, SDRST};
 use byteorder::{BigEndian, ByteOrder};
 
 /// Writes a COMMENT segment.

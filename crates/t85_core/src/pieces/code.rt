@@ -5,13 +5,14 @@ ghost use Rattle.t85_core.specs.declared.segments.Code.TheVariants as code;
 
 mod find;
 mod row;
+mod rows;
 
-use crate::decoding::rows::{is_settled, skip_many};
 use crate::fault::Fault;
 use crate::header::SizedImage;
 use crate::laws::coder_laws;
 use crate::lent::Lent;
 use crate::pieces::code::find::find_marker;
+use crate::pieces::code::rows::{is_settled, skip_many};
 use crate::pieces::piece::Piece;
 use crate::segments::{Code, Move};
 use qm_core::Decoder;

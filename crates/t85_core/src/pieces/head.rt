@@ -7,9 +7,8 @@ ghost use Rattle.t85_core.specs.Steps.Behind.{BehindOn, ComesBehind, StopsBehind
 
 use crate::fault::Fault;
 use crate::header::Header;
-use crate::input_buffer::ESCAPE;
 use crate::pieces::piece::Piece;
-use crate::segments::{self, COMMENT, Move, Next, Place, next_element, number};
+use crate::segments::{self, COMMENT, ESCAPE, Move, Next, Place, next_element, number};
 
 /// The marker segments of a stripe, as far as they have arrived.
 #[derive(Clone, Copy, Drop)]

@@ -8,8 +8,8 @@ ghost use Rattle.t85_core.specs.Steps.Entity.{CodeEnds};
 ghost use Rattle.t85_core.specs.Steps.Segments.{IsByteOrMarker, code_bytes};
 
 use crate::fault::Fault;
-use crate::input_buffer::{ByteSource, ESCAPE, plain_len};
-use crate::segments::{Code, next_code};
+use crate::input_buffer::{ByteSource, plain_len};
+use crate::segments::{Code, ESCAPE, next_code};
 use qm_core::{CodeBytes, Pulled};
 
 /// The bytes of a piece, all of which are available.

@@ -41,11 +41,10 @@ impl PieceDecoder {
         ensures lowers { Lowers self.old self.new piece.old.rest.now piece.new.rest.now result }
         ensures lent { KeepsLent lent.old lent.new }
     {
-        let is_last = self.is_last();
         let at = SegmentPlace {
             header: &self.image.header,
             place: self.place_behind(),
-            is_last,
+            is_last: self.is_last(),
         };
         let mut head = head;
         let found = head.pass(at, piece);
@@ -53,15 +52,13 @@ impl PieceDecoder {
         match found {
             Ok(coming) => match coming.next {
                 Next::Height(height) => self.take_height(lent, height, coming.rest, piece),
-                Next::Code(code) => {
-                    self.go_past(lent, Ok((code, coming.rest)), is_last, is_all, piece)
-                }
+                Next::Code(code) => self.go_past(lent, Ok((code, coming.rest)), is_all, piece),
             },
             Err(fault) => {
                 if is_open_end(fault, is_all) {
                     return Some(Outcome::More);
                 }
-                self.go_past(lent, Err(fault), is_last, is_all, piece)
+                self.go_past(lent, Err(fault), is_all, piece)
             }
         }
     }
@@ -115,17 +112,15 @@ impl PieceDecoder {
         &mut self,
         lent: &mut Lent<'_, '_>,
         next: Result<(Code, &'c [u8]), Fault>,
-        is_last: bool,
         is_all: bool,
         piece: &mut Piece<'c>,
     ) -> Option<Outcome>
         requires looks { LooksForHeight self.old }
-        requires last { is_last ≡ is_last_of self.old }
         requires code { IfOk next (λ ahead. ((phase_behind self.old.phase).comment ≡ None) ×
             IsByteOrMarker ahead.0 × (piece.old.rest.now ≡ code_bytes ahead.0 ++ ahead.1.now)) }
         requires fault { IfErr next (λ fault. (fault ≡ Truncated → is_all ≡ true) × StopsBehind
-            (fields_of self.old.image.header) (behind_at (place_after self.old) is_last)
-            (phase_behind self.old.phase) piece.old.rest.now fault) }
+            (fields_of self.old.image.header) (behind_at (place_after self.old)
+            (is_last_of self.old)) (phase_behind self.old.phase) piece.old.rest.now fault) }
         ensures leaves { StepLeaves is_all (over self.old lent.old) (over self.new
             lent.new) piece.old.rest.now piece.new.rest.now result }
         ensures lowers { Lowers self.old self.new piece.old.rest.now piece.new.rest.now result }
@@ -136,7 +131,7 @@ impl PieceDecoder {
         if self.gives_below(lent, self.walk.left.min(self.image.header.l0)) {
             return Some(Outcome::Row);
         }
-        if is_last {
+        if self.is_last() {
             self.end_stripe(lent);
             return Some(Outcome::Done(self.image.height));
         }

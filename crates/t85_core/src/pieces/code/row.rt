@@ -14,12 +14,12 @@ ghost use Rattle.t85_core.specs.Steps.RowTurns.{BegunLeaves, BegunStep, CodeGoes
 ghost use Rattle.t85_core.specs.Steps.SizedImage.{sized, sized_of};
 ghost use Rattle.t85_core.specs.Header.{Fields};
 
-use crate::decoding::rows::offset_in;
 use crate::fault::Fault;
 use crate::header::{Header, SizedImage};
 use crate::laws::coder_laws;
 use crate::lent::Lent;
 use crate::pieces::code::InCode;
+use crate::pieces::code::rows::offset_in;
 use crate::pieces::piece::{Piece, PieceCode};
 use crate::pieces::rows::go_on_in_row;
 use crate::segments::Code;

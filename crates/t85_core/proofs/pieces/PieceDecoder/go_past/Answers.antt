@@ -11,7 +11,7 @@ use Rattle.t85_core.specs.Stages as kind
 use Rattle.t85_core.specs.Steps.Behind.{StopsBehind, behind_at}
 use Rattle.t85_core.specs.Steps.Pieces.{IsInCode}
 use Rattle.t85_core.specs.Steps.PieceStands.{last_behind, place_behind}
-use Rattle.t85_core.specs.Steps.PieceSteps.{EndsConsumed, EndsWhole, LookIsOver, SomeStand, StripeLeft}
+use Rattle.t85_core.specs.Steps.PieceSteps.{EndsConsumed, EndsWhole, LookIsOver, SomeStand, StripeLeft, is_last_of}
 use Rattle.t85_core.proofs.Decodings.HeadParts.{started_view}
 use Rattle.t85_core.proofs.Decodings.LookOver.{look_consumed, look_whole}
 use Rattle.t85_core.proofs.Decodings.PieceBelow.{leaves_code, leaves_fault, leaves_look}
@@ -32,15 +32,15 @@ pub returns-then-gives_below-clause-leaves : goal.returns-then-gives_below-claus
 returns-then-gives_below-clause-leaves c =
     row_where c.args.is_all (decoder_lent c.args.self.now c.args.lent.now) (decoder_lent c.gives_below.new.self c.gives_below.new.lent) c.args.piece.now.rest.now c.args.piece.now.rest.now c.gives_below.ensures.keeps.header c.gives_below.ensures.keeps.going (λ some.
     let gives = c.gives_below.ensures.gives (search rules) some in
-    by_last c.args.is_last
-    (λ last. leaves_look (decoder_lent c.args.self.now c.args.lent.now) (decoder_lent c.gives_below.new.self c.gives_below.new.lent) (ap phase_is_open c.requires.looks.1) (ap phase_waits c.requires.looks.1) c.min.result gives c.args.piece.now.rest.now c.args.is_all (sym c.requires.last ∙ last)
+    by_last (is_last_of c.args.self.now)
+    (λ last. leaves_look (decoder_lent c.args.self.now c.args.lent.now) (decoder_lent c.gives_below.new.self c.gives_below.new.lent) (ap phase_is_open c.requires.looks.1) (ap phase_waits c.requires.looks.1) c.min.result gives c.args.piece.now.rest.now c.args.is_all last
     (λ back rest s follows. by_next c.args.next c.requires.code c.requires.fault
     (λ t k. look_code refl s t.0 c.args.piece.now.rest.now t.1.now rest k.0 k.2)
     (λ f k. look_fault refl s c.args.piece.now.rest.now rest f (own_height c.args.self.now.image.header).accepted.height_to (some.2.height.variable (ap phase_is_open c.requires.looks.1))
     (subst (λ l. StopsBehind (fields_of c.args.self.now.image.header) (behind_at (place_behind (fields_of c.args.self.now.image.header) (stage_kind c.args.self.now.walk.stage) c.args.self.now.walk.entities) l) (phase_behind c.args.self.now.phase) c.args.piece.now.rest.now f) last k.1) (λ t. follows (k.0 t)))) (let e = c.min.ensures in omega (arith, e)))
     (λ more. by_next c.args.next c.requires.code c.requires.fault
-    (λ t k. leaves_code (decoder_lent c.args.self.now c.args.lent.now) (decoder_lent c.gives_below.new.self c.gives_below.new.lent) (ap phase_is_open c.requires.looks.1) (ap phase_waits c.requires.looks.1) c.min.result gives t.0 c.args.piece.now.rest.now t.1.now k.0 (sym c.requires.last ∙ more) k.1 k.2 (let e = c.min.ensures in omega (arith, e)) c.args.is_all)
-    (λ f k. leaves_fault (decoder_lent c.args.self.now c.args.lent.now) (decoder_lent c.gives_below.new.self c.gives_below.new.lent) (ap phase_is_open c.requires.looks.1) (ap phase_waits c.requires.looks.1) c.min.result gives f c.args.piece.now.rest.now (sym c.requires.last ∙ more)
+    (λ t k. leaves_code (decoder_lent c.args.self.now c.args.lent.now) (decoder_lent c.gives_below.new.self c.gives_below.new.lent) (ap phase_is_open c.requires.looks.1) (ap phase_waits c.requires.looks.1) c.min.result gives t.0 c.args.piece.now.rest.now t.1.now k.0 more k.1 k.2 (let e = c.min.ensures in omega (arith, e)) c.args.is_all)
+    (λ f k. leaves_fault (decoder_lent c.args.self.now c.args.lent.now) (decoder_lent c.gives_below.new.self c.gives_below.new.lent) (ap phase_is_open c.requires.looks.1) (ap phase_waits c.requires.looks.1) c.min.result gives f c.args.piece.now.rest.now more
     (subst (λ l. StopsBehind (fields_of c.args.self.now.image.header) (behind_at (place_behind (fields_of c.args.self.now.image.header) (stage_kind c.args.self.now.walk.stage) c.args.self.now.walk.entities) l) (phase_behind c.args.self.now.phase) c.args.piece.now.rest.now f) more k.1)
     (let e = c.min.ensures in omega (arith, e)) (let e = c.min.ensures in omega (arith, e)) c.args.is_all k.0)))
 
@@ -52,12 +52,12 @@ returns-then-is_last-clause-leaves c =
     let ended = decoder_lent c.end_stripe.new.self c.end_stripe.new.lent in
     let above = c.gives_below.ensures.stays (search rules) in
     let keeps = c.end_stripe.ensures.keeps in
-    let last = sym c.requires.last ∙ c.if-is_last.true in
+    let last : is_last_of c.args.self.now ≡ true = subst (λ z. last_behind (fields_of z.header) z.walk.stage z.walk.left ≡ true) above.same (sym c.is_last.ensures ∙ c.if-is_last.true) in
     done_where c.args.is_all d ended p p (keeps.header ∙ ap (λ z. z.header) above.same) (keeps.going ∙ ap (λ z. z.end) above.same) c.end_stripe.new.self.image.height refl (λ some.
     let over : LookIsOver c.args.is_all d p = λ back rest s follows. by_next c.args.next c.requires.code c.requires.fault
     (λ t k. look_code refl s t.0 c.args.piece.now.rest.now t.1.now rest k.0 k.2)
     (λ f k. look_fault refl s c.args.piece.now.rest.now rest f (own_height c.args.self.now.image.header).accepted.height_to (some.2.height.variable (ap phase_is_open c.requires.looks.1))
-    (subst (λ l. StopsBehind (fields_of c.args.self.now.image.header) (behind_at (place_behind (fields_of c.args.self.now.image.header) (stage_kind c.args.self.now.walk.stage) c.args.self.now.walk.entities) l) (phase_behind c.args.self.now.phase) c.args.piece.now.rest.now f) c.if-is_last.true k.1) (λ t. follows (k.0 t))) in
+    (subst (λ l. StopsBehind (fields_of c.args.self.now.image.header) (behind_at (place_behind (fields_of c.args.self.now.image.header) (stage_kind c.args.self.now.walk.stage) c.args.self.now.walk.entities) l) (phase_behind c.args.self.now.phase) c.args.piece.now.rest.now f) last k.1) (λ t. follows (k.0 t))) in
     let w = waits_of d some.0 some.1 (ap phase_is_open c.requires.looks.1) (ap phase_waits c.requires.looks.1) some.2 in
     let code = in_last (fields_of c.args.self.now.image.header) (walk_lent c.args.self.now.walk c.args.lent.now) w.at last in
     let e = subst (λ z. StripeLeft z left) above.same (c.end_stripe.ensures.ends (subst (λ z. IsInCode z.walk.stage) (sym above.same) code) (subst SomeStand (sym above.same) some)) in
@@ -65,9 +65,6 @@ returns-then-is_last-clause-leaves c =
     leaves_done c.args.is_all d ended p p _ e.keeps.header e.keeps.going refl
     (subst (EndsWhole c.args.is_all d p) height (look_whole d left p c.args.is_all c.coder_laws.ensures (ap phase_is_open c.requires.looks.1) (ap phase_waits c.requires.looks.1) last over e))
     (subst (EndsConsumed c.args.is_all d ended p p) height (look_consumed d left p c.args.is_all c.coder_laws.ensures (ap phase_is_open c.requires.looks.1) (ap phase_waits c.requires.looks.1) last over e ended (ap phase_waits c.end_stripe.ensures.phase))))
-
-pub enter_head-requires-clause-more : goal.enter_head-requires-clause-more
-enter_head-requires-clause-more c = subst (λ z. last_behind (fields_of z.header) z.walk.stage z.walk.left ≡ false) (sym (c.gives_below.ensures.stays (search rules)).same) (sym c.requires.last ∙ c.if-is_last.false)
 
 pub returns-in-Ok-clause-leaves : goal.returns-in-Ok-clause-leaves
 returns-in-Ok-clause-leaves c =
@@ -96,4 +93,4 @@ returns-in-Err-clause-leaves c =
     (leaves_broken c.args.is_all (decoder_lent c.gives_below.new.self c.gives_below.new.lent) (decoder_lent c.enter_head.new.self c.enter_head.new.lent) c.args.piece.now.rest.now c.args.piece.now.rest.now c.in-Err.fault h.keeps.header h.keeps.going
     (behind_broken (decoder_lent c.gives_below.new.self c.gives_below.new.lent) (waiting (phase_behind c.gives_below.new.self.phase) (decoder_lent c.enter_head.new.self c.enter_head.new.lent)) c.coder_laws.ensures (ap (λ z. z.is_open) above.same ∙ (ap phase_is_open c.requires.looks.1)) (ap (λ z. z.waits) above.same ∙ ap phase_waits c.requires.looks.1) h c.args.piece.now.rest.now c.in-Err.fault
     (subst (λ z. StopsBehind (fields_of z.header) (behind_at (place_behind (fields_of z.header) z.walk.stage z.walk.entities) false) z.behind c.args.piece.now.rest.now c.in-Err.fault) (sym above.same)
-    (subst (λ l. StopsBehind (fields_of c.args.self.now.image.header) (behind_at (place_behind (fields_of c.args.self.now.image.header) (stage_kind c.args.self.now.walk.stage) c.args.self.now.walk.entities) l) (phase_behind c.args.self.now.phase) c.args.piece.now.rest.now c.in-Err.fault) c.if-is_last.false k.1)) c.args.is_all k.0)))
+    (subst (λ l. StopsBehind (fields_of c.args.self.now.image.header) (behind_at (place_behind (fields_of c.args.self.now.image.header) (stage_kind c.args.self.now.walk.stage) c.args.self.now.walk.entities) l) (phase_behind c.args.self.now.phase) c.args.piece.now.rest.now c.in-Err.fault) (subst (λ z. last_behind (fields_of z.header) z.walk.stage z.walk.left ≡ false) above.same (sym c.is_last.ensures ∙ c.if-is_last.false)) k.1)) c.args.is_all k.0)))

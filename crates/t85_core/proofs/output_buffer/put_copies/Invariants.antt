@@ -1,7 +1,7 @@
 use Rattle.std.proofs.Common.{◌≡◌, ◌≤◌, ◌-◌}
 use Rattle.std.specs.Io.KnownBytes.{Appends}
 use Rattle.t85_core.specs.Steps.Buffers.{copies}
-use Rattle.t85_core.proofs.decoding.rows.put_copies.Given as goal
+use Rattle.t85_core.proofs.output_buffer.put_copies.Given as goal
 
 -- so many copies were taken
 abbrev pub invariant-loop-copy : goal.invariant-loop-copy

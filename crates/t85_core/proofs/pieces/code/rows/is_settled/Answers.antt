@@ -2,7 +2,7 @@ use Rattle.std.proofs.Common.{◌≡◌, ◌+◌, ◌==◌, ℕ, if◌then◌els
 use Rattle.std.proofs.lemmas.Bool.Decides.{nat_tests}
 use Rattle.t85_core.specs.Steps.State.{offset_at}
 use Rattle.t85_core.specs.Steps.DecodeRows.{pair_of}
-use Rattle.t85_core.proofs.decoding.rows.is_settled.Goals as goal
+use Rattle.t85_core.proofs.pieces.code.rows.is_settled.Goals as goal
 
 pub returns-in-Some : goal.returns-in-Some
 returns-in-Some c =

@@ -7,7 +7,7 @@ use Rattle.t85_core.proofs.Bytes.Streams.{Appends-more, beginning_after, beginni
 use Rattle.t85_core.proofs.Decodings.RowPut.{appends_nothing}
 use Rattle.t85_core.proofs.Decodings.TypicalRows.{copies_next, copies_front}
 use Rattle.t85_core.proofs.Walks.InfoEnds.{exit_all}
-use Rattle.t85_core.proofs.decoding.rows.put_copies.Goals as goal
+use Rattle.t85_core.proofs.output_buffer.put_copies.Goals as goal
 
 pub loop-copy-init : goal.loop-copy-init
 loop-copy-init g c = record { within = omega arith; text = appends_nothing _; grows = omega arith; unfailed = refl; same_writer = refl }

@@ -1,16 +1,13 @@
 //! The rows of a stripe, apart from their code.
 
-ghost use Rattle.std.specs.Prelude.{◌≡◌, ◌≤◌, ◌<◌, ◌↔◌, ℕ, List, IsTrue, IfSome, option_map};
+ghost use Rattle.std.specs.Prelude.{◌≡◌, ◌≤◌, ◌<◌, ◌↔◌, ℕ, List, IsTrue, option_map};
 ghost use Rattle.qm_core.specs.Place.{Place, state_of};
 ghost use Rattle.qm_core.specs.Decoder.{DecoderIsAt};
 ghost use Rattle.qm_core.specs.declared.source.Pulled.{Pulled};
 ghost use Rattle.raster_core.specs.Row.{RowsSkipped, CanSkipRows};
-ghost use Rattle.t85_core.specs.Steps.Buffers.{PutsBytes, copies};
 ghost use Rattle.t85_core.specs.Steps.State.{offset_at};
 ghost use Rattle.t85_core.specs.Steps.DecodeRows.{pair_of};
 
-use crate::fault::Fault;
-use crate::output_buffer::ByteTarget;
 use crate::segments::Move;
 use qm_core::{Decoder, Learned};
 use raster_core::{Kept, Shape, skip_rows};
@@ -76,18 +73,6 @@ pub fn is_settled(at: Option<Move>, row: u32) -> bool
         Some(to) => to.row < row,
         None => true,
     }
-}
-
-/// Writes the same bytes `count` times.
-pub fn put_copies<P: ByteTarget>(bytes: &[u8], count: u32, target: &mut P) -> Result<(), Fault>
-    ensures { PutsBytes (copies count bytes.now) (P.view target.old) (P.view target.new) result }
-{
-    let mut copy = 0;
-    while copy < count {
-        target.put(bytes)?;
-        copy += 1;
-    }
-    Ok(())
 }
 
 /// The offset in a row of a stripe, given the offset in the row before.
