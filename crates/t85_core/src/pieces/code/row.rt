@@ -32,6 +32,15 @@ const WHOLE_ROW: usize = 0;
 
 const REST_OF_ROW: usize = 1;
 
+/// A row that has begun.
+#[derive(Clone, Copy)]
+struct BegunRow {
+    /// How far it is decoded.
+    place: RowPlace,
+    /// Whether it waits at the end marker of its code.
+    waits: bool,
+}
+
 impl InCode {
     ghost use Rattle.t85_core.specs.declared.pieces.code.InCode.{InCode};
 
@@ -115,12 +124,14 @@ impl InCode {
         }
         match self.begun {
             Some(place) => {
-                self.finish_row::<REST_OF_ROW>(image, place, waits, kept, decoder, lent, piece)
+                let begun = BegunRow { place, waits };
+                self.finish_row::<REST_OF_ROW>(image, begun, kept, decoder, lent, piece)
             }
             None => {
                 self.enter_row(kept, lent.window);
                 let place = RowPlace::start();
-                self.finish_row::<WHOLE_ROW>(image, place, waits, kept, decoder, lent, piece)
+                let begun = BegunRow { place, waits };
+                self.finish_row::<WHOLE_ROW>(image, begun, kept, decoder, lent, piece)
             }
         }
     }
@@ -147,37 +158,36 @@ impl InCode {
     fn finish_row<const PART: usize>(
         &mut self,
         image: &SizedImage,
-        place: RowPlace,
-        waits: bool,
+        row: BegunRow,
         kept: &mut Kept,
         decoder: &mut Decoder,
         lent: &mut Lent<'_, '_>,
         piece: &mut Piece<'_>,
     ) -> Result<bool, Fault>
         requires room { self.old.row + 1 < 2 ^ 32 }
-        requires fits { RowFits image.now.header.xd (record self.old { begun = Some place })
+        requires fits { RowFits image.now.header.xd (record self.old { begun = Some row.place })
             (held lent.old.window.now) }
         ensures step { (s : StripeAt) → BegunStep (sized_of image.now) (code_lent s (record self.old
-            { begun = Some place }) kept.old decoder.old lent.old) (code_lent s self.new kept.new
-            decoder.new lent.new) piece.old.rest.now piece.new.rest.now result }
+            { begun = Some row.place }) kept.old decoder.old lent.old) (code_lent s self.new
+            kept.new decoder.new lent.new) piece.old.rest.now piece.new.rest.now result }
         ensures leaves { (s : StripeAt) → SomeStands (sized_of image.now) (code_lent s (record
-            self.old { begun = Some place }) kept.old decoder.old lent.old) → BegunLeaves waits
-            (code_lent s (record self.old { begun = Some place }) kept.old decoder.old lent.old)
-            (code_lent s self.new kept.new decoder.new lent.new) result }
+            self.old { begun = Some row.place }) kept.old decoder.old lent.old) → BegunLeaves
+            row.waits (code_lent s (record self.old { begun = Some row.place }) kept.old decoder.old
+            lent.old) (code_lent s self.new kept.new decoder.new lent.new) result }
         ensures no_more { length piece.new.rest.now ≤ length piece.old.rest.now }
         ensures lent { KeepsLent lent.old lent.new }
     {
         // The proof uses these laws of the coder.
         coder_laws();
         // Both are local until the row ends or waits, so that the compiler keeps them in registers.
-        let mut place = place;
+        let mut place = row.place;
         let mut local = replace(decoder, Decoder::start());
         local.resume();
         let mut code: PieceCode<'_, PART> = PieceCode {
             piece: Piece { rest: piece.rest },
             first: self.first,
             marker: self.marker,
-            waits,
+            waits: row.waits,
             fault: None,
             failures: 0,
         };
