@@ -6,7 +6,7 @@ use Rattle.std.proofs.Math.Seq.{drop-append_seam}
 use Rattle.std.specs.Int.{div_ceil}
 use Rattle.qm_core.specs.Place.{Estimate}
 use Rattle.raster_core.specs.Packed.{rows_at}
-use Rattle.t85_core.specs.Phases.{phase_is_open, phase_waits}
+use Rattle.t85_core.specs.Phases.{phase_is_open, phase_stage, phase_waits}
 use Rattle.t85_core.specs.declared.header.Header.{Header}
 use Rattle.t85_core.specs.declared.pieces.Outcome.{Outcome}
 use Rattle.t85_core.specs.declared.pieces.Outcome.TheVariants as outcome
@@ -159,7 +159,7 @@ module _ {old kept : T85Decoder} {memory memory' : List ℕ} {header : Header} {
       let more = done.call.fed.more e1 k.text out k.has in
       let waits : is_waiting kept ≡ (phase_is_open e'.phase && phase_waits e'.phase) = waiting_is kept e' done.numbers in
       let ended : stripes_ended (decoder_view e' (rows_at kept.place header.xd memory') learned') ≡ stripes_ended_by kept =
-      sym (ended_same e'.walk.stage kept e'.walk.entities done.numbers.walk_is.stage_is done.numbers.walk_is.entities_are) in (
+      sym (ended_same (phase_stage e'.phase) kept e'.course.entities done.numbers.stage_is done.numbers.course_is.entities_are) in (
         (λ w. rw (k.stream_is, append_assoc old.header k.text bytes) (record {
           header = fields_of header;
           header_of = laws.stands old.header (k.text ++ bytes) (fields_of header) done.may.header_of;

@@ -13,8 +13,8 @@ use Rattle.t85_core.specs.Stages.{code_kind, head_kind, stage_kind}
 use Rattle.t85_core.specs.Phases.{phase_is_open, phase_waits}
 use Rattle.t85_core.specs.declared.pieces.phase.Phase.{Phase}
 use Rattle.t85_core.specs.declared.pieces.phase.Phase.TheVariants as phase
-use Rattle.t85_core.specs.declared.pieces.walk.Stage.{Stage}
-use Rattle.t85_core.specs.declared.pieces.walk.Stage.TheVariants as stage
+use Rattle.t85_core.specs.declared.pieces.course.Stage.{Stage}
+use Rattle.t85_core.specs.declared.pieces.course.Stage.TheVariants as stage
 use Rattle.raster_core.specs.declared.place.RowPlace.{RowPlace}
 use Rattle.t85.specs.Decoder.{Answers, BytesCall, ReadsHeader, bytes_call, is_waiting, stripes_ended_by}
 use Rattle.t85.specs.DecoderLimit.{StaysWithinLimit}
@@ -28,9 +28,10 @@ use Rattle.t85.specs.declared.decoder.Answer.TheVariants as answer
 pub waiting_is : (d : T85Decoder) (e : PieceDecoder) → ArePieceNumbers d.numbers e → is_waiting d ≡ (phase_is_open e.phase && phase_waits e.phase)
 waiting_is d e is = by e.phase is.phase_is where
   by : (p : Phase) → ArePhaseNumbers d.numbers p → is_waiting d ≡ (phase_is_open p && phase_waits p)
-  by phase.Known k = ap (λ b. b && is_set d.numbers.waits) k
-  by phase.InCode k = λ i. k.0 i && is_set (k.1 i)
-  by (phase.Behind head) k = λ i. k.0 i && is_set (k.1 i)
+  by (phase.Known s) k = ap (λ b. b && is_set d.numbers.waits) k
+  by (phase.First head) k = λ i. k.0 i && is_set (k.1 i)
+  by (phase.Code code) k = λ i. k.0 i && is_set (k.1 i)
+  by (phase.Behind behind) k = λ i. k.0 i && is_set (k.1 i)
   by phase.Late k = λ i. k.0 i && is_set (k.1 i)
 
 pub ended_same : (s : Stage) (d : T85Decoder) (entities : ℕ) → AreStageNumbers d.numbers.stage s → d.numbers.entities ≡ entities → stripes_ended_by d ≡ entities_behind (stage_kind s) entities

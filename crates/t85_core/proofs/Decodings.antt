@@ -37,8 +37,8 @@ pub mod PieceNumbers
 pub mod PieceLook
 pub mod LookOver
 pub mod PieceCertain
-pub mod PieceCounts
 pub mod PieceBelow
+pub mod PieceOver
 pub mod PieceOpen
 pub mod WalkDecoded
 pub mod WalkRead

@@ -14,10 +14,12 @@ use Rattle.t85_core.specs.declared.segments.atmove.Move.{Move}
 use Rattle.t85_core.specs.declared.pieces.End.{End}
 use Rattle.t85_core.specs.declared.pieces.PieceDecoder.{PieceDecoder}
 use Rattle.t85_core.specs.declared.pieces.head.Head.{Head}
-use Rattle.t85_core.specs.declared.pieces.walk.Stage.{Stage}
+use Rattle.t85_core.specs.declared.pieces.course.Course.{Course}
+use Rattle.t85_core.specs.declared.pieces.course.Stage.{Stage}
+use Rattle.t85_core.specs.declared.pieces.phase.Phase.{Phase}
 use Rattle.t85_core.specs.declared.pieces.walk.Walk.{Walk}
 use Rattle.t85_core.specs.declared.pieces.code.InCode.{InCode}
-use Rattle.t85_core.specs.Phases.{phase_behind, phase_is_open, phase_waits}
+use Rattle.t85_core.specs.Phases.{phase_behind, phase_is_open, phase_stage, phase_waits}
 use Rattle.t85_core.specs.Stages.{Kind, stage_kind, code_kind, stage_move, stage_comment, stage_row, place_from, stage_place, stage_first, stage_marker}
 
 -- a window of the same width over the same memory
@@ -60,15 +62,15 @@ pub record WalkView : Type 0 where
   pub first : Option Code
   pub marker : Option Bool
 
--- the view of a walk that is at this stage
-abbrev pub stage_view : Walk → Stage → Held → List Estimate → WalkView
-stage_view w stage rows learned = record {
-  carried = record { held = rows; kept = w.kept; learned = learned };
-  decoder = w.decoder;
+-- the view at this stage of a course
+abbrev pub stage_view : Course → Stage → Held → List Estimate → WalkView
+stage_view c stage rows learned = record {
+  carried = record { held = rows; kept = c.kept; learned = learned };
+  decoder = c.decoder;
   stage = stage_kind stage;
-  entities = w.entities;
-  left = w.left;
-  given = w.given;
+  entities = c.entities;
+  left = c.left;
+  given = c.given;
   at = stage_move stage;
   comment = stage_comment stage;
   row = stage_row stage;
@@ -77,14 +79,11 @@ stage_view w stage rows learned = record {
   marker = stage_marker stage;
 }
 
-abbrev pub walk_view : Walk → Held → List Estimate → WalkView
-walk_view w rows learned = stage_view w w.stage rows learned
-
-abbrev pub walk_over : Walk → Window → List Estimate → WalkView
-walk_over w window learned = walk_view w (held window) learned
+abbrev pub stage_lent : Course → Stage → Lent → WalkView
+stage_lent c stage lent = stage_view c stage (held lent.window.now) lent.learned.now
 
 abbrev pub walk_lent : Walk → Lent → WalkView
-walk_lent w lent = walk_over w lent.window.now lent.learned.now
+walk_lent w lent = stage_lent w.course w.stage lent
 
 -- where a stripe is: how many stripe data entities are before it, how many rows are not in them, and whether there was a height
 pub record StripeAt : Type 0 where
@@ -133,16 +132,23 @@ waits_behind d = d.is_open && d.waits
 abbrev pub waiting : Head → PieceView → PieceView
 waiting head d = record d { is_open = true; waits = true; behind = head }
 
-abbrev pub decoder_view : PieceDecoder → Held → List Estimate → PieceView
-decoder_view d rows learned = record {
+-- the view of a decoder in this phase
+abbrev pub phase_view : PieceDecoder → Phase → Held → List Estimate → PieceView
+phase_view d phase rows learned = record {
   header = d.image.header;
   height = d.image.height;
-  walk = walk_view d.walk rows learned;
-  is_open = phase_is_open d.phase;
-  waits = phase_waits d.phase;
-  behind = phase_behind d.phase;
+  walk = stage_view d.course (phase_stage phase) rows learned;
+  is_open = phase_is_open phase;
+  waits = phase_waits phase;
+  behind = phase_behind phase;
   end = d.end;
 }
+
+abbrev pub phase_lent : PieceDecoder → Phase → Lent → PieceView
+phase_lent d phase lent = phase_view d phase (held lent.window.now) lent.learned.now
+
+abbrev pub decoder_view : PieceDecoder → Held → List Estimate → PieceView
+decoder_view d rows learned = phase_view d d.phase rows learned
 
 abbrev pub decoder_over : PieceDecoder → Window → List Estimate → PieceView
 decoder_over d window learned = decoder_view d (held window) learned

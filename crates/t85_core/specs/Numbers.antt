@@ -6,7 +6,7 @@ use Rattle.qm_core.specs.Decoder.{decoder_registers, has_stopped}
 use Rattle.raster_core.specs.Row.{row_place_numbers}
 use Rattle.raster_core.specs.declared.place.RowPlace.{RowPlace}
 use Rattle.raster_core.specs.declared.place.RowPlaceNumbers.{RowPlaceNumbers}
-use Rattle.t85_core.specs.Phases.{phase_behind, phase_is_open}
+use Rattle.t85_core.specs.Phases.{phase_behind, phase_is_open, phase_stage}
 use Rattle.t85_core.specs.declared.pieces.PieceDecoder.{PieceDecoder}
 use Rattle.t85_core.specs.declared.pieces.code.InCode.{InCode}
 use Rattle.t85_core.specs.declared.pieces.head.Head.{Head}
@@ -16,9 +16,9 @@ use Rattle.t85_core.specs.declared.pieces.numbers.PieceNumbers.{PieceNumbers}
 use Rattle.t85_core.specs.declared.pieces.numbers.StageNumbers.{StageNumbers}
 use Rattle.t85_core.specs.declared.pieces.phase.Phase.{Phase}
 use Rattle.t85_core.specs.declared.pieces.phase.Phase.TheVariants as phase
-use Rattle.t85_core.specs.declared.pieces.walk.Stage.{Stage}
-use Rattle.t85_core.specs.declared.pieces.walk.Stage.TheVariants as stage
-use Rattle.t85_core.specs.declared.pieces.walk.Walk.{Walk}
+use Rattle.t85_core.specs.declared.pieces.course.Course.{Course}
+use Rattle.t85_core.specs.declared.pieces.course.Stage.{Stage}
+use Rattle.t85_core.specs.declared.pieces.course.Stage.TheVariants as stage
 use Rattle.t85_core.specs.declared.segments.Code.{Code}
 use Rattle.t85_core.specs.declared.segments.Code.TheVariants as code
 use Rattle.t85_core.specs.declared.segments.atmove.Move.{Move}
@@ -88,25 +88,26 @@ stage_numbers (stage.Code c) = record {
 stage_numbers stage.Done = record { at = move_numbers None; comment = 0; row = 0; place = place_numbers None; ahead = 0; marker = 0; next = 4 }
 
 abbrev pub waits_number : Phase → ℕ
-waits_number phase.Known = 0
-waits_number phase.InCode = 0
-waits_number (phase.Behind head) = 1
+waits_number (phase.Known s) = 0
+waits_number (phase.First head) = 1
+waits_number (phase.Code code) = 0
+waits_number (phase.Behind behind) = 1
 waits_number phase.Late = 2
 
 -- the numbers of a decoder, without its end
 abbrev pub piece_numbers : PieceDecoder → PieceNumbers
 piece_numbers d = record {
-  stage = stage_numbers d.walk.stage;
-  decoder = decoder_registers d.walk.decoder;
+  stage = stage_numbers (phase_stage d.phase);
+  decoder = decoder_registers d.course.decoder;
   behind = head_numbers (phase_behind d.phase);
   height = d.image.height;
-  entities = d.walk.entities;
-  left = d.walk.left;
-  offset = d.walk.kept.offset;
-  is_previous_typical = from_bool d.walk.kept.previous_typical;
+  entities = d.course.entities;
+  left = d.course.left;
+  offset = d.course.kept.offset;
+  is_previous_typical = from_bool d.course.kept.previous_typical;
   is_open = from_bool (phase_is_open d.phase);
   waits = waits_number d.phase;
-  is_given = from_bool d.walk.given;
+  is_given = from_bool d.course.given;
 }
 
 -- ---- the numbers from which a decoder resumes: one that its state does not have may be any
@@ -147,28 +148,29 @@ AreStageNumbers n stage.Done = n.next ≡ 4
 
 -- whether a height may still arrive
 abbrev pub ArePhaseNumbers : PieceNumbers → Phase → Type 0
-ArePhaseNumbers n phase.Known = is_set n.is_open ≡ false
-ArePhaseNumbers n phase.InCode = (is_set n.is_open ≡ true) × (n.waits ≡ 0)
-ArePhaseNumbers n (phase.Behind head) = (is_set n.is_open ≡ true) × (n.waits ≡ 1) × AreHeadNumbers n.behind head
+ArePhaseNumbers n (phase.Known s) = is_set n.is_open ≡ false
+ArePhaseNumbers n (phase.First head) = (is_set n.is_open ≡ true) × (n.waits ≡ 1) × AreHeadNumbers n.behind head
+ArePhaseNumbers n (phase.Code code) = (is_set n.is_open ≡ true) × (n.waits ≡ 0)
+ArePhaseNumbers n (phase.Behind behind) = (is_set n.is_open ≡ true) × (n.waits ≡ 1) × AreHeadNumbers n.behind behind.head
 ArePhaseNumbers n phase.Late = (is_set n.is_open ≡ true) × (n.waits ≡ 2)
 
--- the numbers of a parser state
-pub record AreWalkNumbers (n : PieceNumbers) (w : Walk) : Type 0 where
-  pub stage_is : AreStageNumbers n.stage w.stage
-  pub entities_are : n.entities ≡ w.entities
-  pub left_is : n.left ≡ w.left
-  pub given_is : is_set n.is_given ≡ w.given
-  pub offset_is : n.offset ≡ w.kept.offset
-  pub typical_is : is_set n.is_previous_typical ≡ w.kept.previous_typical
-  pub decoder_is : n.decoder ≡ decoder_registers w.decoder
+-- the numbers of a stripe and of the state carried there
+pub record AreCourseNumbers (n : PieceNumbers) (c : Course) : Type 0 where
+  pub entities_are : n.entities ≡ c.entities
+  pub left_is : n.left ≡ c.left
+  pub given_is : is_set n.is_given ≡ c.given
+  pub offset_is : n.offset ≡ c.kept.offset
+  pub typical_is : is_set n.is_previous_typical ≡ c.kept.previous_typical
+  pub decoder_is : n.decoder ≡ decoder_registers c.decoder
 
 -- the numbers of a decoder, without its end
 pub record ArePieceNumbers (n : PieceNumbers) (d : PieceDecoder) : Type 0 where
   pub height_is : n.height ≡ d.image.height
   pub phase_is : ArePhaseNumbers n d.phase
-  pub walk_is : AreWalkNumbers n d.walk
+  pub stage_is : AreStageNumbers n.stage (phase_stage d.phase)
+  pub course_is : AreCourseNumbers n d.course
 
--- A parser state at the same place. Its decoder is the same if the other one continues.
-pub record IsWalkAs (w w' : Walk) : Type 0 where
-  pub decoder_is : has_stopped w.decoder ≡ false → w'.decoder ≡ w.decoder
-  pub same : w' ≡ record w { decoder = w'.decoder }
+-- The same, but for a decoder that has stopped.
+pub record IsCourseAs (c c' : Course) : Type 0 where
+  pub decoder_is : has_stopped c.decoder ≡ false → c'.decoder ≡ c.decoder
+  pub same : c' ≡ record c { decoder = c'.decoder }

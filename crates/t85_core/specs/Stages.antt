@@ -1,10 +1,11 @@
 -- The next item in a stream that arrives in pieces, and what is stored of it.
-use Rattle.std.specs.Prelude.{ℕ, ◌≡◌, true, false, Bool, Option, Some, None}
+use Rattle.std.specs.Prelude.{ℕ, ◌≡◌, true, false, Bool, Option, Some, None, Result, Ok, Err}
 use Rattle.raster_core.specs.declared.place.RowPlace.{RowPlace}
 use Rattle.t85_core.specs.declared.pieces.code.InCode.{InCode}
+use Rattle.t85_core.specs.declared.fault.Fault.{Fault}
+use Rattle.t85_core.specs.declared.pieces.course.Stage.{Stage}
+use Rattle.t85_core.specs.declared.pieces.course.Stage.TheVariants as stage
 use Rattle.t85_core.specs.declared.pieces.head.Head as head
-use Rattle.t85_core.specs.declared.pieces.walk.Stage.{Stage}
-use Rattle.t85_core.specs.declared.pieces.walk.Stage.TheVariants as stage
 use Rattle.t85_core.specs.declared.segments.Code.{Code as CodeItem}
 use Rattle.t85_core.specs.declared.segments.atmove.Move.{Move}
 
@@ -28,18 +29,6 @@ abbrev pub stage_kind : Stage → Kind
 stage_kind (stage.Head head) = head_kind head.comment
 stage_kind (stage.Code code) = code_kind code.begun
 stage_kind stage.Done = Done
-
--- whether the code of a stripe has begun
-abbrev pub is_code : Stage → Bool
-is_code (stage.Head head) = false
-is_code (stage.Code code) = true
-is_code stage.Done = false
-
--- whether the image is complete
-abbrev pub is_done : Stage → Bool
-is_done (stage.Head head) = false
-is_done (stage.Code code) = false
-is_done stage.Done = true
 
 -- the move of the stripe
 abbrev pub stage_move : Stage → Option Move
@@ -96,3 +85,13 @@ pub record StartsCode (at : Option Move) (first : CodeItem) (c : InCode) : Type 
 -- marker segments of which none has arrived
 abbrev pub head_start : head.Head
 head_start = record { at = None; comment = None }
+
+-- what comes behind the end marker of a stripe, by whether another stripe follows
+abbrev pub stage_behind : Bool → Stage
+stage_behind true = stage.Head head_start
+stage_behind false = stage.Done
+
+-- what comes after marker segments were read, of which these have arrived
+abbrev pub stage_read : head.Head → Result Stage Fault → Stage
+stage_read head (Ok next) = next
+stage_read head (Err fault) = stage.Head head

@@ -5,11 +5,11 @@ ghost use Rattle.qm_core.specs.Place.{Estimate};
 ghost use Rattle.raster_core.specs.Packed.{Held};
 ghost use Rattle.raster_core.specs.Window.{width_of};
 ghost use Rattle.t85_core.specs.Outcomes.{end_in};
-ghost use Rattle.t85_core.specs.Stages.{is_code, is_done};
-ghost use Rattle.t85_core.specs.Phases.{phase_looks};
-ghost use Rattle.t85_core.specs.declared.pieces.phase.Phase.TheVariants as phase_type;
+ghost use Rattle.t85_core.specs.Phases.{phase_is_first, phase_looks};
 
+mod behind;
 pub mod code;
+pub mod course;
 pub mod head;
 pub mod held;
 pub mod numbers;
@@ -17,15 +17,14 @@ pub mod phase;
 pub mod piece;
 pub mod rows;
 pub mod steps;
-mod waits;
 pub mod walk;
 
 use crate::fault::Fault;
 use crate::header::{Header, SizedImage};
 use crate::lent::Lent;
+use crate::pieces::course::Course;
 use crate::pieces::phase::Phase;
 use crate::pieces::piece::Piece;
-use crate::pieces::walk::Walk;
 use qm_core::Learned;
 use raster_core::Window;
 
@@ -79,16 +78,13 @@ pub struct Progress {
 pub struct PieceDecoder {
     /// The current height is the header's, until another has arrived.
     image: SizedImage,
-    walk: Walk,
+    course: Course,
     phase: Phase,
     /// How the stream has ended, if it has.
     end: Option<End>,
-    ghost code: { phase ≡ phase_type.InCode → is_code walk.stage ≡ true },
     ghost first: { phase_looks phase ≡ true → image.height ≡ image.header.yd },
-    ghost late: { phase ≡ phase_type.Late → is_done walk.stage ≡ true },
-    ghost going: { phase_looks phase ≡ true → is_done walk.stage ≡ false },
-    ghost none: { phase_looks phase ≡ true → is_code walk.stage ≡ false → walk.entities ≡ 0 },
-    ghost counts: { walk.left ≡ image.height - walk.entities * image.header.l0 },
+    ghost none: { phase_is_first phase ≡ true → course.entities ≡ 0 },
+    ghost counts: { course.left ≡ image.height - course.entities * image.header.l0 },
 }
 
 impl PieceDecoder {
@@ -113,7 +109,7 @@ impl PieceDecoder {
         };
         PieceDecoder {
             image,
-            walk: Walk::start(&image, &mut lent),
+            course: Course::start(&image, &mut lent),
             phase: Phase::first(&header),
             end: None,
         }
@@ -176,7 +172,7 @@ impl PieceDecoder {
             return self.image.height;
         }
         // Each stripe that has begun contains a row of the image.
-        self.image.header.yd - self.walk.left + 1
+        self.image.header.yd - self.course.left + 1
     }
 
     /// The current height: the header's, until another has arrived.

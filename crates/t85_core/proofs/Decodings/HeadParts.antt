@@ -9,11 +9,11 @@ use Rattle.t85_core.specs.declared.fault.Fault.{Fault}
 use Rattle.t85_core.specs.declared.fault.Fault.TheVariants.{Changed}
 use Rattle.t85_core.specs.declared.pieces.code.InCode.{InCode}
 use Rattle.t85_core.specs.declared.pieces.head.Head.{Head}
-use Rattle.t85_core.specs.declared.pieces.walk.Stage.TheVariants as stage
-use Rattle.t85_core.specs.declared.pieces.walk.Walk.{Walk}
+use Rattle.t85_core.specs.declared.pieces.course.Stage.TheVariants as stage
+use Rattle.t85_core.specs.declared.pieces.course.Course.{Course}
 use Rattle.t85_core.specs.declared.segments.Code as code_type
 use Rattle.t85_core.specs.declared.segments.atmove.Move as move
-use Rattle.t85_core.specs.Lent.{stage_view, Carried, WalkView, walk_view}
+use Rattle.t85_core.specs.Lent.{stage_view, Carried, WalkView}
 use Rattle.t85_core.specs.Stages as kind
 use Rattle.t85_core.specs.Stages.{StartsCode, code_kind, head_kind, place_from}
 use Rattle.t85_core.specs.Header.{Fields}
@@ -30,10 +30,10 @@ use Rattle.t85_core.proofs.Decodings.PieceHead.{head_cut, head_length, head_othe
 use Rattle.t85_core.proofs.Decodings.PieceSteps.{on_same, walk_at, walk_with, at_stage, put_stage}
 
 -- a code of which only the first element was read
-abbrev pub code_started : Walk → Held → List Estimate → Option move.Move → code_type.Code → WalkView
-code_started w rows learned at c = record (walk_view w rows learned) { stage = kind.Code; at = at; comment = 0; row = 0; place = place_from None; first = Some c; marker = None }
+abbrev pub code_started : Course → Held → List Estimate → Option move.Move → code_type.Code → WalkView
+code_started w rows learned at c = record (stage_view w stage.Done rows learned) { stage = kind.Code; at = at; comment = 0; row = 0; place = place_from None; first = Some c; marker = None }
 
-pub started_view : (w : Walk) (rows : Held) (learned : List Estimate) {at : Option move.Move} {c : code_type.Code} {code : InCode} → StartsCode at c code → stage_view w (stage.Code code) rows learned ≡ code_started w rows learned at c
+pub started_view : (w : Course) (rows : Held) (learned : List Estimate) {at : Option move.Move} {c : code_type.Code} {code : InCode} → StartsCode at c code → stage_view w (stage.Code code) rows learned ≡ code_started w rows learned at c
 started_view w rows learned s =
     λ i. record {
       carried = record { held = rows; kept = w.kept; learned = learned };
@@ -131,13 +131,13 @@ module _ {h : Fields} {height entities : ℕ} {given : Bool} {carried : Carried}
 
 -- ---- a walk there
 
-abbrev pub head_view : Walk → Held → List Estimate → Head → WalkView
+abbrev pub head_view : Course → Held → List Estimate → Head → WalkView
 head_view w rows learned b = stage_view w (stage.Head b) rows learned
 
-abbrev carried_with : Walk → Held → List Estimate → Carried
+abbrev carried_with : Course → Held → List Estimate → Carried
 carried_with w rows learned = record { held = rows; kept = w.kept; learned = learned }
 
-module _ (h : Fields) (height : ℕ) (w : Walk) (rows : Held) (learned : List Estimate) (text out : List ℕ) (at : Option move.Move) where
+module _ (h : Fields) (height : ℕ) (w : Course) (rows : Held) (learned : List Estimate) (text out : List ℕ) (at : Option move.Move) where
   stage_here : (comment : Option ℕ) → StageStands (head_kind comment) (sized h height) (head_view w rows learned (record { at = at; comment = comment })) text out → HeadHere h height w.entities w.given (carried_with w rows learned) at comment text out
   stage_here None s = s
   stage_here (Some left) s = s
@@ -146,7 +146,7 @@ module _ (h : Fields) (height : ℕ) (w : Walk) (rows : Held) (learned : List Es
   here_stage None s = s
   here_stage (Some left) s = s
 
-module _ {h : Fields} {height : ℕ} (w : Walk) (rows : Held) (learned : List Estimate) (b : Head) where
+module _ {h : Fields} {height : ℕ} (w : Course) (rows : Held) (learned : List Estimate) (b : Head) where
   parts : {text out : List ℕ} → WalkStands (sized h height) (head_view w rows learned b) text out → HeadParts h height w.entities w.given (carried_with w rows learned) b text out
   parts {text} {out} s = parts_of b.comment (stage_here h height w rows learned text out b.at b.comment s.stands)
 

@@ -16,25 +16,26 @@ use Rattle.qm_core.specs.Place.{Estimate}
 use Rattle.raster_core.specs.Packed.{Held}
 use Rattle.raster_core.specs.declared.shape.Kept.{Kept}
 use Rattle.raster_core.specs.declared.place.RowPlace.{RowPlace}
-use Rattle.t85_core.specs.Lent.{PieceView, WalkView, walk_view, decoder_view}
+use Rattle.t85_core.specs.Lent.{PieceView, WalkView, stage_view, decoder_view}
 use Rattle.t85_core.specs.declared.pieces.PieceDecoder.{PieceDecoder}
-use Rattle.t85_core.specs.Phases.{phase_behind, phase_is_open, phase_looks, phase_waits}
+use Rattle.t85_core.specs.Phases.{phase_behind, phase_is_open, phase_looks, phase_stage, phase_waits}
 use Rattle.t85_core.specs.declared.pieces.head.Head.{Head}
 use Rattle.t85_core.specs.declared.pieces.phase.Phase.{Phase}
 use Rattle.t85_core.specs.declared.pieces.phase.Phase.TheVariants as phase
-use Rattle.t85_core.specs.declared.pieces.walk.Walk.{Walk}
+use Rattle.t85_core.specs.declared.pieces.course.Course.{Course}
 use Rattle.t85_core.specs.declared.pieces.code.InCode.{InCode}
 use Rattle.t85_core.specs.declared.pieces.numbers.MoveNumbers.{MoveNumbers}
 use Rattle.t85_core.specs.declared.pieces.numbers.PieceNumbers.{PieceNumbers}
-use Rattle.t85_core.specs.declared.pieces.walk.Stage.{Stage}
-use Rattle.t85_core.specs.Stages.{is_done, Kind, stage_comment, stage_first, stage_kind, stage_marker, stage_move, stage_place, stage_row}
+use Rattle.t85_core.specs.declared.pieces.course.Stage.{Stage}
+use Rattle.t85_core.specs.declared.pieces.course.Stage.TheVariants as stage_type
+use Rattle.t85_core.specs.Stages.{head_start, Kind, stage_kind}
 use Rattle.t85_core.specs.Stages as stage
 use Rattle.t85_core.specs.declared.segments.Code as code_type
 use Rattle.t85_core.specs.declared.segments.Code.TheVariants as code
 use Rattle.t85_core.specs.declared.segments.atmove.Move as move
 use Rattle.t85_core.specs.Header.{Fields}
 use Rattle.t85_core.specs.Options.{fields_of}
-use Rattle.t85_core.specs.Numbers.{is_set, AreHeadNumbers, AreMoveNumbers, ArePhaseNumbers, AreWalkNumbers, IsWalkAs}
+use Rattle.t85_core.specs.Numbers.{is_set, AreCourseNumbers, AreHeadNumbers, AreMoveNumbers, ArePhaseNumbers, IsCourseAs}
 use Rattle.t85_core.specs.Steps.Pieces.{CodeStands, InRowStands, StageStands, WalkStands, head_place, code_place}
 use Rattle.t85_core.specs.Steps.SizedImage.{sized}
 use Rattle.t85_core.specs.Steps.PieceStands.{DecoderStands, HeightKnown, CodeWalks, WalkWaits}
@@ -78,22 +79,52 @@ one_code a b at row begun first marker =
 
 -- whether one may arrive
 pub looks_of : (n : PieceNumbers) (p : Phase) → ArePhaseNumbers n p → phase_looks p ≡ is_set n.is_open && not (n.waits == 2)
-looks_of n phase.Known k = sym (ap (λ b. b && not (n.waits == 2)) k)
-looks_of n phase.InCode k = λ i. sym (k.0) i && not (sym (k.1) i == 2)
-looks_of n (phase.Behind head) k = λ i. sym (k.0) i && not (sym (k.1) i == 2)
+looks_of n (phase.Known s) k = sym (ap (λ b. b && not (n.waits == 2)) k)
+looks_of n (phase.First head) k = λ i. sym (k.0) i && not (sym (k.1) i == 2)
+looks_of n (phase.Code code) k = λ i. sym (k.0) i && not (sym (k.1) i == 2)
+looks_of n (phase.Behind behind) k = λ i. sym (k.0) i && not (sym (k.1) i == 2)
 looks_of n phase.Late k = λ i. sym (k.0) i && not (sym (k.1) i == 2)
 
-pub behind_phase : (n : PieceNumbers) (p : Phase) (head : Head) → (n.is_open ≡ 0 → ⊥) → n.waits ≡ 1 → ((other : Head) → AreHeadNumbers n.behind other → head ≡ other) → ArePhaseNumbers n p → phase.Behind head ≡ p
-behind_phase n phase.Known head open_ waits one k = absurd (open_ (flag_clear n.is_open k))
-behind_phase n phase.InCode head open_ waits one k = let z : 0 ≡ 1 = sym k.1 ∙ waits in let bot : ⊥ = cc in absurd bot
-behind_phase n (phase.Behind other) head open_ waits one k = ap phase.Behind (one other k.2)
-behind_phase n phase.Late head open_ waits one k = let z : 2 ≡ 1 = sym k.1 ∙ waits in let bot : ⊥ = cc in absurd bot
+-- a phase of these numbers, in this stage
+pub known_phase : (n : PieceNumbers) (p : Phase) (s : Stage) → n.is_open ≡ 0 → ArePhaseNumbers n p → s ≡ phase_stage p → phase.Known s ≡ p
+known_phase n (phase.Known t) s none k e = ap phase.Known e
+known_phase n (phase.First head) s none k e = absurd (flag_set n.is_open k.0 none)
+known_phase n (phase.Code code) s none k e = absurd (flag_set n.is_open k.0 none)
+known_phase n (phase.Behind behind) s none k e = absurd (flag_set n.is_open k.0 none)
+known_phase n phase.Late s none k e = absurd (flag_set n.is_open k.0 none)
 
-pub no_phase : (n : PieceNumbers) (p : Phase) → (n.is_open ≡ 0 → ⊥) → n.waits ≡ 1 → ((head : Head) → AreHeadNumbers n.behind head → ⊥) → ArePhaseNumbers n p → ⊥
-no_phase n phase.Known open_ waits none k = open_ (flag_clear n.is_open k)
-no_phase n phase.InCode open_ waits none k = let z : 0 ≡ 1 = sym k.1 ∙ waits in let bot : ⊥ = cc in bot
-no_phase n (phase.Behind head) open_ waits none k = none head k.2
-no_phase n phase.Late open_ waits none k = let z : 2 ≡ 1 = sym k.1 ∙ waits in let bot : ⊥ = cc in bot
+-- the marker segments of a stage
+abbrev head_in : Stage → Head
+head_in (stage_type.Head head) = head
+head_in (stage_type.Code code) = head_start
+head_in stage_type.Done = head_start
+
+pub record IsFirst (n : PieceNumbers) (p : Phase) (h : Head) : Type 0 where
+  pub head : Head
+  pub is : p ≡ phase.First head
+  pub start : h ≡ head_start
+  pub waits : n.waits ≡ 1
+  pub numbers : AreHeadNumbers n.behind head
+
+pub first_phase_of : (n : PieceNumbers) (p : Phase) (h : Head) → (n.is_open ≡ 0 → ⊥) → ArePhaseNumbers n p → stage_type.Head h ≡ phase_stage p → IsFirst n p h
+first_phase_of n (phase.Known t) h some k e = absurd (some (flag_clear n.is_open k))
+first_phase_of n (phase.First head) h some k e = record { head = head; is = refl; start = ap head_in e; waits = k.1; numbers = k.2 }
+first_phase_of n (phase.Code code) h some k e = absurd (let bot : ⊥ = cc in bot)
+first_phase_of n (phase.Behind behind) h some k e = absurd (let bot : ⊥ = cc in bot)
+first_phase_of n phase.Late h some k e = absurd (let bot : ⊥ = cc in bot)
+
+-- the code of a stage, or this one
+abbrev code_in : InCode → Stage → InCode
+code_in other (stage_type.Head head) = other
+code_in other (stage_type.Code code) = code
+code_in other stage_type.Done = other
+
+pub code_phase_of : (n : PieceNumbers) (p : Phase) (c : InCode) (r : Option Phase) → (n.is_open ≡ 0 → ⊥) → ArePhaseNumbers n p → stage_type.Code c ≡ phase_stage p → (n.waits ≡ 0 → r ≡ Some (phase.Code c)) → ((head : Head) → n.waits ≡ 1 → AreHeadNumbers n.behind head → r ≡ Some (phase.Behind (record { code = c; head = head }))) → r ≡ Some p
+code_phase_of n (phase.Known t) c r some k e zero one = absurd (some (flag_clear n.is_open k))
+code_phase_of n (phase.First head) c r some k e zero one = absurd (let bot : ⊥ = cc in bot)
+code_phase_of n (phase.Code code) c r some k e zero one = zero k.1 ∙ ap (λ d. Some (phase.Code d)) (ap (code_in c) e)
+code_phase_of n (phase.Behind behind) c r some k e zero one = one behind.head k.1 k.2 ∙ ap (λ d. Some (phase.Behind (record { code = d; head = behind.head }))) (ap (code_in c) e)
+code_phase_of n phase.Late c r some k e zero one = absurd (let bot : ⊥ = cc in bot)
 
 -- a decoder that has not stopped has the numbers of any
 pub resumed_decoder : (d : Decoder) → (e : Decoder) × (has_stopped e ≡ false) × (decoder_registers d ≡ decoder_registers e) × (has_stopped d ≡ false → e ≡ d)
@@ -111,32 +142,31 @@ resumed_decoder d = by d.heard refl where
 pub some_is : {A : Type 0} {a b : A} → Some a ≡ Some b → a ≡ b
 some_is {A} {a} e = ap (λ o. unwrap_or o a) e
 
--- a walk of these numbers
-pub walk_numbers : (w : Walk) {n : PieceNumbers} {kept : Kept} {decoder going : Decoder} {stage : Stage} → AreWalkNumbers n w → kept.offset ≡ n.offset → kept.previous_typical ≡ is_set n.is_previous_typical → decoder ≡ going → (has_stopped w.decoder ≡ false → going ≡ w.decoder) → stage ≡ w.stage → (few : n.entities + n.left < 2 ^ 32) → (some : is_done stage ≡ false → 1 ≤ n.left) →
-    IsWalkAs w (record { kept = kept; decoder = decoder; stage = stage; entities = n.entities; left = n.left; given = is_set n.is_given; few = few; some = some })
-walk_numbers w {n} {kept} {decoder} k offset typical is same stage_is few some = record {
+-- a course of these numbers
+pub course_numbers : (c : Course) {n : PieceNumbers} {kept : Kept} {decoder going : Decoder} → AreCourseNumbers n c → kept.offset ≡ n.offset → kept.previous_typical ≡ is_set n.is_previous_typical → decoder ≡ going → (has_stopped c.decoder ≡ false → going ≡ c.decoder) → (few : n.entities + n.left < 2 ^ 32) → (some : 1 ≤ n.left) →
+    IsCourseAs c (record { kept = kept; decoder = decoder; entities = n.entities; left = n.left; given = is_set n.is_given; few = few; some = some })
+course_numbers c {n} {kept} {decoder} k offset typical is same few some = record {
   decoder_is = λ going. is ∙ same going;
   same =
       λ i. record {
-        kept = one_kept kept w.kept (offset ∙ k.offset_is) (typical ∙ k.typical_is) i;
+        kept = one_kept kept c.kept (offset ∙ k.offset_is) (typical ∙ k.typical_is) i;
         decoder = decoder;
-        stage = stage_is i;
         entities = k.entities_are i;
         left = k.left_is i;
         given = k.given_is i;
-        few = is_prop→PathP (λ j. k.entities_are j + k.left_is j < 2 ^ 32) (λ j. hlevel props) few w.few i;
-        some = is_prop→PathP (λ j. is_done (stage_is j) ≡ false → 1 ≤ k.left_is j) (λ j. hlevel props) some w.some i;
+        few = is_prop→PathP (λ j. k.entities_are j + k.left_is j < 2 ^ 32) (λ j. hlevel props) few c.few i;
+        some = is_prop→PathP (λ j. 1 ≤ k.left_is j) (λ j. le_prop) some c.some i;
       };
 }
 
 -- ---- the same, but for a decoder that has stopped
 
-module _ {w w' : Walk} (k : IsWalkAs w w') (rows : Held) (learned : List Estimate) where
+module _ {w w' : Course} (k : IsCourseAs w w') (stage_at : Stage) (rows : Held) (learned : List Estimate) where
   abbrev before : WalkView
-  before = walk_view w rows learned
+  before = stage_view w stage_at rows learned
 
   abbrev there : WalkView
-  there = walk_view (record w { decoder = w'.decoder }) rows learned
+  there = stage_view (record w { decoder = w'.decoder }) stage_at rows learned
 
   code_as : {h : Fields} {height entities : ℕ} {given : Bool} {at : Option move.Move} {row : ℕ} {first : Option code_type.Code} {marker : Option Bool} {text out : List ℕ} →
       CodeStands (sized h height) (head_place entities given at before.carried) (code_place row first marker w.decoder) text out → CodeStands (sized h height) (head_place entities given at before.carried) (code_place row first marker w'.decoder) text out
@@ -154,19 +184,19 @@ module _ {w w' : Walk} (k : IsWalkAs w w') (rows : Held) (learned : List Estimat
   stage_as h height text out k s = s
 
   walk_there : {h : Fields} {height : ℕ} {text out : List ℕ} → WalkStands (sized h height) before text out → WalkStands (sized h height) there text out
-  walk_there {h} {height} {text} {out} s = walk_at s s.code_is s.behind (stage_as h height text out (stage_kind w.stage) s.stands)
+  walk_there {h} {height} {text} {out} s = walk_at s s.code_is s.behind (stage_as h height text out (stage_kind stage_at) s.stands)
 
-  walk_as : {h : Fields} {height : ℕ} {text out : List ℕ} → WalkStands (sized h height) before text out → WalkStands (sized h height) (walk_view w' rows learned) text out
-  walk_as {h} {height} {text} {out} s = subst (λ z. WalkStands (sized h height) (walk_view z rows learned) text out) (sym k.same) (walk_there s)
+  walk_as : {h : Fields} {height : ℕ} {text out : List ℕ} → WalkStands (sized h height) before text out → WalkStands (sized h height) (stage_view w' stage_at rows learned) text out
+  walk_as {h} {height} {text} {out} s = subst (λ z. WalkStands (sized h height) (stage_view z stage_at rows learned) text out) (sym k.same) (walk_there s)
 
-  code_walk_as : {h : Fields} {text out : List ℕ} → CodeWalks h before text out → CodeWalks h (walk_view w' rows learned) text out
+  code_walk_as : {h : Fields} {text out : List ℕ} → CodeWalks h before text out → CodeWalks h (stage_view w' stage_at rows learned) text out
   code_walk_as {h} {text} {out} s =
-      subst (λ z. CodeWalks h (walk_view z rows learned) text out) (sym k.same) (let t : CodeWalks h there text out = record { walk = walk_there s.walk; in_code = s.in_code; ungiven = s.ungiven; in_time = s.in_time } in t)
+      subst (λ z. CodeWalks h (stage_view z stage_at rows learned) text out) (sym k.same) (let t : CodeWalks h there text out = record { walk = walk_there s.walk; in_code = s.in_code; ungiven = s.ungiven; in_time = s.in_time } in t)
 
 -- the decoder stands where the other one does
-pub stands_as : (d : PieceDecoder) (d' : PieceView) (w' : Walk) (rows : Held) (learned : List Estimate) (text out : List ℕ) → d'.walk ≡ walk_view w' rows learned → fields_of d'.header ≡ fields_of d.image.header → d'.height ≡ d.image.height → d'.is_open ≡ (phase_is_open d.phase) → d'.waits ≡ (phase_waits d.phase) → d'.behind ≡ (phase_behind d.phase) → IsWalkAs d.walk w' →
+pub stands_as : (d : PieceDecoder) (d' : PieceView) (c' : Course) (rows : Held) (learned : List Estimate) (text out : List ℕ) → d'.walk ≡ stage_view c' (phase_stage d.phase) rows learned → fields_of d'.header ≡ fields_of d.image.header → d'.height ≡ d.image.height → d'.is_open ≡ (phase_is_open d.phase) → d'.waits ≡ (phase_waits d.phase) → d'.behind ≡ (phase_behind d.phase) → IsCourseAs d.course c' →
     DecoderStands (decoder_view d rows learned) text out → DecoderStands d' text out
-stands_as d d' w' rows learned text out walk header height is_open waits behind k s = by (phase_is_open d.phase) (phase_waits d.phase) refl refl where
+stands_as d d' c' rows learned text out walk header height is_open waits behind k s = by (phase_is_open d.phase) (phase_waits d.phase) refl refl where
   known : HeightKnown (fields_of d'.header) d'.height d'.is_open text
   known = subst (λ h. HeightKnown h d'.height d'.is_open text) (sym header) (subst (λ n. HeightKnown (fields_of d.image.header) n d'.is_open text) (sym height) (subst (λ b. HeightKnown (fields_of d.image.header) d.image.height b text) (sym is_open) s.height))
 
@@ -174,16 +204,16 @@ stands_as d d' w' rows learned text out walk header height is_open waits behind 
   by false b e f = put_walks d' text out (is_open ∙ e) known
       (subst (λ h. WalkStands (sized h d'.height) d'.walk text out) (sym header)
       (subst (λ n. WalkStands (sized (fields_of d.image.header) n) d'.walk text out) (sym height)
-      (subst (λ z. WalkStands (sized (fields_of d.image.header) d.image.height) z text out) (sym walk) (walk_as k rows learned (walks_of (decoder_view d rows learned) text out e s)))))
+      (subst (λ z. WalkStands (sized (fields_of d.image.header) d.image.height) z text out) (sym walk) (walk_as k (phase_stage d.phase) rows learned (walks_of (decoder_view d rows learned) text out e s)))))
   by true false e f = put_code d' text out (is_open ∙ e) (waits ∙ f) known
-      (subst (λ h. CodeWalks h d'.walk text out) (sym header) (subst (λ z. CodeWalks (fields_of d.image.header) z text out) (sym walk) (code_walk_as k rows learned (code_of (decoder_view d rows learned) text out e f s))))
+      (subst (λ h. CodeWalks h d'.walk text out) (sym header) (subst (λ z. CodeWalks (fields_of d.image.header) z text out) (sym walk) (code_walk_as k (phase_stage d.phase) rows learned (code_of (decoder_view d rows learned) text out e f s))))
   by true true e f =
       let w = waits_of (decoder_view d rows learned) text out e f s in
-      let t : WalkWaits (fields_of d.image.header) (walk_view (record d.walk { decoder = w'.decoder }) rows learned) (phase_behind d.phase) text out = record {
+      let t : WalkWaits (fields_of d.image.header) (stage_view (record d.course { decoder = c'.decoder }) (phase_stage d.phase) rows learned) (phase_behind d.phase) text out = record {
         done = w.done;
         back = w.back;
         text_is = w.text_is;
-        walk = walk_there k rows learned w.walk;
+        walk = walk_there k (phase_stage d.phase) rows learned w.walk;
         at = w.at;
         ungiven = w.ungiven;
         in_time = w.in_time;
@@ -193,4 +223,4 @@ stands_as d d' w' rows learned text out walk header height is_open waits behind 
       (subst (λ h. WalkWaits h d'.walk d'.behind text out) (sym header)
       (subst (λ b. WalkWaits (fields_of d.image.header) d'.walk b text out) (sym behind)
       (subst (λ z. WalkWaits (fields_of d.image.header) z (phase_behind d.phase) text out) (sym walk)
-      (subst (λ z. WalkWaits (fields_of d.image.header) (walk_view z rows learned) (phase_behind d.phase) text out) (sym k.same) t))))
+      (subst (λ z. WalkWaits (fields_of d.image.header) (stage_view z (phase_stage d.phase) rows learned) (phase_behind d.phase) text out) (sym k.same) t))))

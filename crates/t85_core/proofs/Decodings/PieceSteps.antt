@@ -19,8 +19,8 @@ use Rattle.t85_core.specs.Steps.DecodeRows.{IsCarried}
 use Rattle.t85_core.specs.declared.segments.Code.{Code}
 use Rattle.t85_core.specs.declared.segments.atmove.Move.{Move}
 use Rattle.t85_core.specs.Steps.Segments.{IsByteOrMarker}
-use Rattle.t85_core.specs.declared.pieces.walk.Walk.{Walk}
-use Rattle.t85_core.specs.Steps.Pieces.{CountsOn, KeepsStripes, CutOff, HeadStands, WalkStands, StageStands, StepsOn, StepsOff, StepsToEnd, Step, Turn, IsOver, CodeStands, IsInCode, rows_in, head_place, code_place}
+use Rattle.t85_core.specs.declared.pieces.course.Course.{Course}
+use Rattle.t85_core.specs.Steps.Pieces.{CountsOn, EndsCount, KeepsStripes, CutOff, HeadStands, WalkStands, StageStands, StepsOn, StepsOff, StepsToEnd, Step, Turn, IsOver, CodeStands, IsInCode, rows_in, head_place, code_place}
 use Rattle.t85_core.specs.Steps.StripeEnds.{StripeEnds}
 use Rattle.t85_core.specs.Steps.SizedImage.{SizedImage, sized}
 use Rattle.t85_core.proofs.Walks.Passed.{passed_none}
@@ -28,11 +28,19 @@ use Rattle.t85_core.proofs.Decodings.ImagePut.{stripes_start}
 use Rattle.t85_core.proofs.Bytes.Lengths.{more_stripes}
 
 -- the counts of stripe data entities and of rows left
-pub counts_kept : (image : SizedImage) (w w' : Walk) → KeepsStripes w w' → CountsOn image w w'
+pub counts_kept : (image : SizedImage) (w w' : Course) → KeepsStripes w w' → CountsOn image w w'
 counts_kept image w w' k e = k.1 ∙ e ∙ ap (λ n. image.height - n * image.fields.l0) (sym k.0)
 
-pub counts_then : (image : SizedImage) (w w' w'' : Walk) → CountsOn image w w' → CountsOn image w' w'' → CountsOn image w w''
+pub counts_then : (image : SizedImage) (w w' w'' : Course) → CountsOn image w w' → CountsOn image w' w'' → CountsOn image w w''
 counts_then image w w' w'' one two e = two (one e)
+
+pub ended_counts : (image : SizedImage) {c c' : Course} (follows : Bool) → EndsCount image.fields.l0 follows c c' → CountsOn image c c'
+ended_counts image {c} {c'} true k e =
+    let more = k.more refl in
+    let times : (c.entities + 1) * image.fields.l0 ≡ c.entities * image.fields.l0 + image.fields.l0 = omega arith in
+    let left : c'.left ≡ image.height - (c.entities + 1) * image.fields.l0 = (let less = more.1 in omega (arith, times, less, e)) in
+    left ∙ ap (λ n. image.height - n * image.fields.l0) (sym more.2)
+ended_counts image {c} {c'} false k e = counts_kept image c c' (k.last refl).1 e
 
 -- bytes were taken, and nothing was handed out
 pub on_same : (h : Fields) (height : ℕ) (w' : WalkView) (text out p p' given : List ℕ) → p ≡ given ++ p' → WalkStands (sized h height) w' (text ++ given) out →

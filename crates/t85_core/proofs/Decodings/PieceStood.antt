@@ -23,9 +23,8 @@ use Rattle.t85_core.specs.Lent.{decoder_view, PieceView, WalkView, waits_behind}
 use Rattle.t85_core.specs.declared.pieces.Outcome.{Outcome}
 use Rattle.t85_core.specs.declared.pieces.Outcome.TheVariants as outcome
 use Rattle.t85_core.specs.declared.pieces.head.Head.{Head}
-use Rattle.t85_core.specs.Stages.{head_start, Kind, comment_left, head_kind, is_code, is_done, place_from, stage_kind}
-use Rattle.t85_core.specs.declared.pieces.walk.Stage.{Stage}
-use Rattle.t85_core.specs.declared.pieces.walk.Stage.TheVariants as stage_type
+use Rattle.t85_core.specs.Stages.{head_start, Kind, comment_left, head_kind, place_from, stage_kind}
+use Rattle.t85_core.specs.declared.pieces.course.Stage.TheVariants as stage_type
 use Rattle.t85_core.specs.Stages as stage
 use Rattle.t85_core.specs.Header.{Fields, is_variable}
 use Rattle.t85_core.specs.Options.{fields_of}
@@ -34,7 +33,7 @@ use Rattle.t85_core.specs.declared.pieces.phase.Phase.{Phase}
 use Rattle.t85_core.specs.declared.pieces.phase.Phase.TheVariants as phase
 use Rattle.raster_core.specs.Packed.{Held}
 use Rattle.qm_core.specs.Place.{Estimate}
-use Rattle.t85_core.specs.Phases.{first_phase, phase_behind, phase_is_open, phase_looks, phase_waits}
+use Rattle.t85_core.specs.Phases.{first_phase, phase_behind, phase_is_open, phase_looks, phase_stage, phase_waits}
 use Rattle.t85_core.specs.Height.{GivesHeight, IsHeight}
 use Rattle.t85_core.specs.Laws.{IsInUse}
 use Rattle.t85_core.specs.Pieces.{AwaitsHeight, HasDecoded, HasHeight, HandsOut, HoldsImage, row_held, stripes_ended}
@@ -199,7 +198,7 @@ in_code_last s b (inr k) = ap (λ z. is_last z b) k
 abbrev pub place_at : ℕ → ℕ → Place
 place_at height entities = record { height = height; entities = entities; given = false }
 
-not_head : (s : Kind) → s ≡ stage.Head → IsInCode s → ⊥
+pub not_head : (s : Kind) → s ≡ stage.Head → IsInCode s → ⊥
 not_head s e (inl k) = let z : stage.Head ≡ stage.Code = sym e ∙ k in cc
 not_head s e (inr k) = let z : stage.Head ≡ stage.Row = sym e ∙ k in cc
 
@@ -280,7 +279,7 @@ row_after d w late waits some code r leaves = (on_ok r _ (leaves.whole (marker_o
 
 -- a stripe ended
 pub stripe_ended : {d d' : PieceView} → d.is_open ≡ true → d.waits ≡ true → SomeStand d → KeepsDecoder d d' → StripeEnds (sized (fields_of d.header) d.header.yd) d.walk d'.walk → StripeLeft d d'
-stripe_ended late waits some keeps ends = record { keeps = keeps; entities = ends.entities; given = ends.next.1; at = ends.next.2; stage = ends.left; stands = ends.on; read = ends.read }
+stripe_ended late waits some keeps ends = record { keeps = keeps; entities = ends.entities; given = ends.given; at = ends.at; stage = ends.left; stands = ends.on; read = ends.read }
 
 -- ---- steps one after another
 
@@ -354,11 +353,6 @@ pub leaves_done : (is_all : Bool) (d d' : PieceView) (p p' : List ℕ) (n : ℕ)
 leaves_done is_all d d' p p' n header going height whole consumed = leaves_as is_all d d' p p' (Some (outcome.Done n)) header going (height, whole, consumed)
 
 -- a walk that is over waits for nothing
-pub done_kind : (s : Stage) → is_done s ≡ true → stage_kind s ≡ stage.Done
-done_kind (stage_type.Head head) e = absurd (true≢false (sym e))
-done_kind (stage_type.Code code) e = absurd (true≢false (sym e))
-done_kind stage_type.Done e = refl
-
 pub done_nowhere : (d : PieceView) → d.is_open ≡ true → d.waits ≡ true → d.walk.stage ≡ stage.Done → SomeStand d → ⊥
 done_nowhere d late waits done some = elim (waits_of d some.0 some.1 late waits some.2).at [
   | inl head ↦ (let e : stage.Head ≡ stage.Done = sym head.0 ∙ done in let bot : ⊥ = cc in bot)
@@ -372,23 +366,18 @@ done_nowhere d late waits done some = elim (waits_of d some.0 some.1 late waits 
 pub closed_of : (d : PieceDecoder) (rows : Held) (learned : List Estimate) (text out : List ℕ) → phase_looks d.phase ≡ false → DecoderStands (decoder_view d rows learned) text out → phase_is_open d.phase ≡ false
 closed_of d rows learned text out quiet s = by d.phase refl where
   by : (p : Phase) → d.phase ≡ p → phase_is_open d.phase ≡ false
-  by phase.Known e = ap phase_is_open e
-  by phase.InCode e = absurd (true≢false (sym (ap phase_looks e) ∙ quiet))
-  by (phase.Behind head) e = absurd (true≢false (sym (ap phase_looks e) ∙ quiet))
-  by phase.Late e = absurd (done_nowhere (decoder_view d rows learned) (ap phase_is_open e) (ap phase_waits e) (done_kind d.walk.stage (d.late e)) (text, out, s))
+  by (phase.Known s) e = ap phase_is_open e
+  by (phase.First head) e = absurd (true≢false (sym (ap phase_looks e) ∙ quiet))
+  by (phase.Code code) e = absurd (true≢false (sym (ap phase_looks e) ∙ quiet))
+  by (phase.Behind behind) e = absurd (true≢false (sym (ap phase_looks e) ∙ quiet))
+  by phase.Late e = absurd (done_nowhere (decoder_view d rows learned) (ap phase_is_open e) (ap phase_waits e) (ap (λ p. stage_kind (phase_stage p)) e) (text, out, s))
 
 pub open_looks : (p : Phase) → phase_looks p ≡ true → phase_is_open p ≡ true
-open_looks phase.Known e = absurd (true≢false (sym e))
-open_looks phase.InCode e = refl
-open_looks (phase.Behind head) e = refl
+open_looks (phase.Known s) e = absurd (true≢false (sym e))
+open_looks (phase.First head) e = refl
+open_looks (phase.Code code) e = refl
+open_looks (phase.Behind behind) e = refl
 open_looks phase.Late e = refl
-
-pub entities_more : (s : Kind) (n : ℕ) → n ≤ entities_behind s n
-entities_more stage.Head n = omega arith
-entities_more stage.Comment n = omega arith
-entities_more stage.Code n = omega arith
-entities_more stage.Row n = omega arith
-entities_more stage.Done n = omega arith
 
 -- ---- in the code
 
@@ -412,12 +401,14 @@ closed_none d d' late waits some outside keeps same = record {
 pub closed_ended : (d d' : PieceView) → d.is_open ≡ true → d.waits ≡ true → SomeStand d → IsInCode d.walk.stage → last_behind (fields_of d.header) d.walk.stage d.walk.left ≡ false → StripeLeft d d' → StripeClosed d d'
 closed_ended d d' late waits some code more e = record {
   keeps = e.keeps;
-  stage = e.stage (let t = sym (in_code_last d.walk.stage (nat_le d.walk.left d.header.l0) code) ∙ more in grind (arith, nat_tests));
-  entities = e.entities ∙ sym (in_code_entities d.walk.stage d.walk.entities code);
+  stage = e.stage over;
+  entities = e.entities over ∙ sym (in_code_entities d.walk.stage d.walk.entities code);
   given = e.given ∙ (waits_of d some.0 some.1 late waits some.2).ungiven;
   at = e.at;
   stands = λ text out w. e.stands w.done out w.walk;
-}
+} where
+  over : d.header.l0 < d.walk.left
+  over = let t = sym (in_code_last d.walk.stage (nat_le d.walk.left d.header.l0) code) ∙ more in grind (arith, nat_tests)
 
 pub split_is : (p front behind : List ℕ) (n : ℕ) → front ≡ take n p → behind ≡ drop n p → p ≡ front ++ behind
 split_is p front behind n f b = sym (take-append-drop n p) ∙ ap (λ z. z ++ drop n p) (sym f) ∙ ap (λ z. front ++ z) (sym b)
@@ -596,6 +587,10 @@ first_waits false = refl
 pub first_none : (b : Bool) → phase_behind (first_phase b) ≡ head_start
 first_none true = refl
 first_none false = refl
+
+pub first_stage : (b : Bool) → phase_stage (first_phase b) ≡ stage_type.Head head_start
+first_stage true = refl
+first_stage false = refl
 
 pub started : (d : PieceView) → d.is_open ≡ is_variable (fields_of d.header) → d.waits ≡ d.is_open → d.height ≡ d.header.yd → IsFirstWalk d.walk → WalkStands (sized (fields_of d.header) d.header.yd) d.walk [] [] → d.behind.at ≡ None → d.behind.comment ≡ None → DecoderStands d [] []
 started d open_is waits height first s at comment = by d.is_open refl where

@@ -1,5 +1,5 @@
 -- The effects of the steps of a decoder of a stream in pieces.
-use Rattle.std.specs.Prelude.{ℕ, ◌+◌, ◌*◌, ◌≡◌, ◌≤◌, ◌<◌, Bool, true, false, List, [], ◌++◌, length, min, Option, Some, None, if◌then◌else◌}
+use Rattle.std.specs.Prelude.{ℕ, ◌+◌, ◌*◌, ◌≡◌, ◌≤◌, ◌<◌, Bool, true, false, List, [], ◌++◌, length, Option, Some, None, if◌then◌else◌}
 use Rattle.t85_core.specs.declared.fault.Fault.{Fault}
 use Rattle.t85_core.specs.declared.fault.Fault.TheVariants.{Truncated}
 use Rattle.t85_core.specs.Lent.{PieceView, WalkView, waits_behind}
@@ -8,10 +8,8 @@ use Rattle.t85_core.specs.declared.pieces.PieceDecoder.{PieceDecoder}
 use Rattle.t85_core.specs.declared.pieces.Outcome.TheVariants as outcome
 use Rattle.t85_core.specs.Options.{fields_of}
 use Rattle.t85_core.specs.Steps.PieceStands.{DecoderStands, WalkWaits, last_behind, place_behind}
-use Rattle.t85_core.specs.Phases.{phase_waits}
-use Rattle.t85_core.specs.declared.pieces.head.Head.{Head}
-use Rattle.t85_core.specs.declared.pieces.phase.Phase.TheVariants as phase
-use Rattle.t85_core.specs.Stages.{stage_kind, head_kind}
+use Rattle.t85_core.specs.declared.pieces.phase.Behind.{Behind}
+use Rattle.t85_core.specs.Stages.{code_kind, head_kind}
 use Rattle.t85_core.specs.Stages as stage
 use Rattle.t85_core.specs.declared.segments.Place.{Place}
 use Rattle.t85_core.specs.Header.{Fields}
@@ -25,14 +23,6 @@ use Rattle.t85_core.specs.Steps.SizedImage.{sized}
 use Rattle.t85_core.specs.Pieces.{AwaitsHeight, HandsOut, HoldsImage, MayFollow, row_held, rows_given, stream_of, stripes_ended}
 use Rattle.t85_core.specs.Consumed.{ConsumesImage}
 use Rattle.t85_core.specs.Steps.Passage.{passage}
-
--- a decoder with late heights that looks for one
-abbrev pub LooksForHeight : PieceDecoder → Type 0
-LooksForHeight d = (head : Head) × (d.phase ≡ phase.Behind head)
-
--- one that does not look for it yet
-abbrev pub DecodesCode : PieceDecoder → Type 0
-DecodesCode d = d.phase ≡ phase.InCode
 
 -- it is at some position
 abbrev pub SomeStand : PieceView → Type 0
@@ -93,19 +83,10 @@ pub record GivesBelow (d d' : PieceView) (limit : ℕ) : Type 0 where
   pub below : d'.walk.row ≤ limit
   pub on : DecoderOn d d' [] [] (row_held d')
 
--- none is left above this one
-pub record StaysAbove (d d' : PieceView) (limit : ℕ) : Type 0 where
-  pub same : d' ≡ d
-  pub all : IsInCode d.walk.stage → limit ≤ d.walk.row
-
--- all rows of the stripe before are given
-abbrev pub RowsAreGiven : PieceView → Type 0
-RowsAreGiven d = IsInCode d.walk.stage → min d.walk.left d.header.l0 ≤ d.walk.row
-
 -- The stripe before was ended.
 pub record StripeLeft (d d' : PieceView) : Type 0 where
   pub keeps : KeepsDecoder d d'
-  pub entities : d'.walk.entities ≡ d.walk.entities + 1
+  pub entities : d.header.l0 < d.walk.left → d'.walk.entities ≡ d.walk.entities + 1
   pub given : d'.walk.given ≡ d.walk.given
   pub at : d'.walk.at ≡ None
   pub stage : d.header.l0 < d.walk.left → d'.walk.stage ≡ stage.Head
@@ -145,17 +126,17 @@ LookIsOver is_all d piece =
     LookEnds (fields_of d.header) (place_behind (fields_of d.header) d.walk.stage d.walk.entities).entities ((back ++ piece) ++ rest)
 
 -- whether the last stripe is over there that the header's height makes
-abbrev pub is_last_of : PieceDecoder → Bool
-is_last_of d = last_behind (fields_of d.image.header) (stage_kind d.walk.stage) d.walk.left
+abbrev pub is_last_of : PieceDecoder → Behind → Bool
+is_last_of d b = last_behind (fields_of d.image.header) (code_kind b.code.begun) d.course.left
 
 -- where what comes behind stands
-abbrev pub place_after : PieceDecoder → Place
-place_after d = place_behind (fields_of d.image.header) (stage_kind d.walk.stage) d.walk.entities
+abbrev pub place_after : PieceDecoder → Behind → Place
+place_after d b = place_behind (fields_of d.image.header) (code_kind b.code.begun) d.course.entities
 
 -- how many steps may be left: each takes bytes, or is the one that begins to wait
 abbrev pub steps_left : Bool → List ℕ → ℕ
 steps_left waits piece = 2 * length piece + (if waits then 0 else 1)
 
 -- no bytes are added, and fewer steps are left if another one follows
-abbrev pub Lowers : PieceDecoder → PieceDecoder → List ℕ → List ℕ → Option Outcome → Type 0
-Lowers d d' piece piece' answer = (length piece' ≤ length piece) × (answer ≡ None → steps_left (phase_waits d'.phase) piece' < steps_left (phase_waits d.phase) piece)
+abbrev pub Lowers : (waits waits' : Bool) → List ℕ → List ℕ → Option Outcome → Type 0
+Lowers waits waits' piece piece' answer = (length piece' ≤ length piece) × (answer ≡ None → steps_left waits' piece' < steps_left waits piece)

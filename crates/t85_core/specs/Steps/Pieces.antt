@@ -10,10 +10,10 @@ use Rattle.t85_core.specs.declared.fault.Fault.{Fault}
 use Rattle.t85_core.specs.declared.fault.Fault.TheVariants.{Truncated}
 use Rattle.t85_core.specs.declared.segments.Code.{Code}
 use Rattle.t85_core.specs.declared.segments.atmove.Move as move
-use Rattle.t85_core.specs.declared.pieces.walk.Walk.{Walk}
+use Rattle.t85_core.specs.declared.pieces.course.Course.{Course}
 use Rattle.t85_core.specs.declared.pieces.code.InCode.{InCode}
 use Rattle.raster_core.specs.declared.shape.Kept.{Kept}
-use Rattle.t85_core.specs.Lent.{Carried, StripeAt, WalkView, code_view, walk_view}
+use Rattle.t85_core.specs.Lent.{Carried, StripeAt, WalkView, code_view}
 use Rattle.t85_core.specs.Stages.{Kind}
 use Rattle.t85_core.specs.Stages as stage
 use Rattle.t85_core.specs.Steps.SizedImage.{SizedImage}
@@ -160,10 +160,6 @@ pub record Step {A : Type 0} (image : SizedImage) (w w' : WalkView) (piece piece
   pub err : IfErr answer (λ f. StepsOff image w piece f)
   pub more : IsErrOf answer Truncated → StepsToEnd image w w' piece piece'
 
--- what a step leaves that looks neither at the rows nor at the contexts, whatever they are
-abbrev pub Alone : (WalkView → WalkView → Type 0) → Walk → Walk → Type 0
-Alone Leaves w w' = (rows : Held) (learned : List Estimate) → Leaves (walk_view w rows learned) (walk_view w' rows learned)
-
 -- a walk before the first byte
 pub record IsFirstWalk (w : WalkView) : Type 0 where
   pub stage : w.stage ≡ stage.Head
@@ -191,21 +187,22 @@ pub record KeepsPlace (w w' : WalkView) : Type 0 where
   pub given : w'.given ≡ w.given
   pub at : w'.at ≡ w.at
 
--- the same stripe data entities are complete, and as many rows are left
-abbrev pub KeepsStripes : Walk → Walk → Type 0
-KeepsStripes w w' = (w'.entities ≡ w.entities) × (w'.left ≡ w.left)
+-- the same stripe is current
+abbrev pub KeepsStripes : Course → Course → Type 0
+KeepsStripes c c' = (c'.entities ≡ c.entities) × (c'.left ≡ c.left)
 
--- the rows left are still those behind the complete stripe data entities
-abbrev pub CountsOn : SizedImage → Walk → Walk → Type 0
-CountsOn image w w' = w.left ≡ image.height - w.entities * image.fields.l0 → w'.left ≡ image.height - w'.entities * image.fields.l0
+-- the rows left are still those that are not in the stripes before
+abbrev pub CountsOn : SizedImage → Course → Course → Type 0
+CountsOn image c c' = c.left ≡ image.height - c.entities * image.fields.l0 → c'.left ≡ image.height - c'.entities * image.fields.l0
+
+-- the next stripe is current, if one follows
+pub record EndsCount (l0 : ℕ) (follows : Bool) (c c' : Course) : Type 0 where
+  pub more : follows ≡ true → (l0 < c.left) × (c'.left ≡ c.left - l0) × (c'.entities ≡ c.entities + 1)
+  pub last : follows ≡ false → (c.left ≤ l0) × KeepsStripes c c'
 
 -- the code of a stripe has begun
 abbrev pub IsInCode : Kind → Type 0
 IsInCode s = (s ≡ stage.Code) ⊎ (s ≡ stage.Row)
-
--- a row has begun, or is still to come
-abbrev pub RowIsLeft : ℕ → WalkView → Type 0
-RowIsLeft l0 w = IsInCode w.stage × (w.row < min w.left l0)
 
 -- The effect of a step that may return a row, or find that the image is whole.
 pub record Turn (image : SizedImage) (w w' : WalkView) (piece piece' : List ℕ) (answer : Result Bool Fault) : Type 0 where

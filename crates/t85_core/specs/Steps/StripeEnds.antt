@@ -1,5 +1,5 @@
 -- A stripe that ends at its end marker.
-use Rattle.std.specs.Prelude.{ℕ, ◌+◌, ◌-◌, ◌≡◌, ◌≤◌, ◌<◌, Bool, List, [], min, Some, None, if◌then◌else◌}
+use Rattle.std.specs.Prelude.{ℕ, ◌+◌, ◌≡◌, ◌≤◌, ◌<◌, Bool, List, [], min, Some, None, if◌then◌else◌}
 use Rattle.t85_core.specs.Lent.{WalkView}
 use Rattle.t85_core.specs.Stages as stage
 use Rattle.t85_core.specs.Steps.DecodeStripes.{StripesRead}
@@ -14,8 +14,9 @@ pub record StripeEnds (image : SizedImage) (w w' : WalkView) : Type 0 where
   pub read : (text out : List ℕ) → WalkStands image w text out →
       StripesRead image.fields image.height (passage (Some text) (Some []) (Some []) (Some out)) (w.entities + 1) (if w.given then 1 else 0) w'.carried
   pub left : image.fields.l0 < w.left → w'.stage ≡ stage.Head
-  pub next : (w'.left ≡ w.left - image.fields.l0) × (w'.given ≡ w.given) × (w'.at ≡ None)
-  pub entities : w'.entities ≡ w.entities + 1
+  pub entities : image.fields.l0 < w.left → w'.entities ≡ w.entities + 1
+  pub given : w'.given ≡ w.given
+  pub at : w'.at ≡ None
 
 -- It does, if this is its end marker, and it has all rows.
 abbrev pub EndsAtMarker : SizedImage → Bool → WalkView → WalkView → Type 0

@@ -72,6 +72,13 @@ impl InCode {
         }
     }
 
+    /// Whether the end marker resets, given that it has been read.
+    pub fn resets(&self) -> bool
+        ensures { (reset : Bool) → MarkerIs reset self.now.marker self.now.first → reset ≡ result }
+    {
+        matches!(self.end_marker(), Some(true))
+    }
+
     /// Decodes rows that equal the one before, if the bits already read determine them, and returns how many. The
     /// stripe has `rows` rows. The window contains the last of them.
     #[inline(always)]

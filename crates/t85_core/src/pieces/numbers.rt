@@ -3,17 +3,18 @@
 ghost use Rattle.std.specs.Prelude.{◌≡◌, List, None, Some, ℕ, IfSome, IsSome, IsSomeAnd};
 ghost use Rattle.qm_core.specs.Place.{Estimate};
 ghost use Rattle.raster_core.specs.Packed.{Held};
-ghost use Rattle.t85_core.specs.Numbers.{ArePhaseNumbers, ArePieceNumbers, AreWalkNumbers, IsWalkAs, piece_numbers, waits_number};
+ghost use Rattle.t85_core.specs.Numbers.{AreCourseNumbers, ArePieceNumbers, IsCourseAs, piece_numbers};
 ghost use Rattle.t85_core.specs.Options.{fields_of};
-ghost use Rattle.t85_core.specs.declared.pieces.phase.Phase.{Phase};
+ghost use Rattle.t85_core.specs.declared.pieces.course.Course.{Course};
 
 mod head;
+mod phase;
 mod stage;
 
 use crate::header::{Header, SizedImage};
 use crate::pieces::PieceDecoder;
-use crate::pieces::phase::Phase;
-use crate::pieces::walk::{Stage, Walk};
+use crate::pieces::course::Course;
+use crate::pieces::numbers::phase::number_of_waits;
 use qm_core::{Decoder, DecoderRegisters};
 use raster_core::{Kept, RowPlaceNumbers};
 
@@ -89,17 +90,6 @@ pub struct PieceNumbers {
     pub is_given: u8,
 }
 
-/// The number of a phase while a height may arrive.
-fn number_of_waits(phase: Phase) -> u8
-    ensures { result ≡ waits_number phase }
-{
-    match phase {
-        Phase::Behind(_) => 1,
-        Phase::Late => 2,
-        _ => 0,
-    }
-}
-
 /// The greatest offset of the adaptive template pixel in T.85.
 const MOST_OFFSET: u8 = 127;
 
@@ -135,43 +125,21 @@ impl PieceNumbers {
         }
     }
 
-    /// Whether a height may still arrive.
+    /// The stripe and the state carried there.
     #[inline(always)]
-    fn phase(&self) -> Option<Phase>
-        ensures all { (phase : Phase) → ArePhaseNumbers self.now phase → result ≡ Some phase }
-        ensures is { IfSome result (ArePhaseNumbers self.now) }
+    fn course(&self) -> Option<Course>
+        ensures all { (c : Course) → AreCourseNumbers self.now c → IsSomeAnd result (IsCourseAs c) }
+        ensures is { IfSome result (AreCourseNumbers self.now) }
     {
-        if self.is_open == 0 {
-            return Some(Phase::Known);
-        }
-        match self.waits {
-            0 => Some(Phase::InCode),
-            1 => Some(Phase::Behind(self.behind.head()?)),
-            2 => Some(Phase::Late),
-            _ => None,
-        }
-    }
-
-    /// The position in the stream.
-    #[inline(always)]
-    fn walk(&self) -> Option<Walk>
-        ensures all { (w : Walk) → AreWalkNumbers self.now w → IsSomeAnd result (IsWalkAs w) }
-        ensures is { IfSome result (AreWalkNumbers self.now) }
-    {
-        if self.offset > MOST_OFFSET || self.left > u32::MAX - self.entities {
+        if self.offset > MOST_OFFSET || self.left > u32::MAX - self.entities || self.left == 0 {
             return None;
         }
-        let stage = self.stage.stage()?;
-        if self.left == 0 && !matches!(stage, Stage::Done) {
-            return None;
-        }
-        Some(Walk {
+        Some(Course {
             kept: Kept {
                 offset: self.offset,
                 previous_typical: self.is_previous_typical != 0,
             },
             decoder: Decoder::from_registers(self.decoder)?,
-            stage,
             entities: self.entities,
             left: self.left,
             given: self.is_given != 0,
@@ -200,18 +168,18 @@ impl PieceDecoder {
         ensures exact { numbers.new ≡ piece_numbers self.now }
         ensures are { ArePieceNumbers numbers.new self.now }
     {
-        let walk = &self.walk;
-        numbers.stage.store(&walk.stage);
-        numbers.decoder = walk.decoder.registers();
+        let course = &self.course;
+        numbers.stage.store(&self.phase);
+        numbers.decoder = course.decoder.registers();
         numbers.behind.store(self.phase.behind());
         numbers.height = self.image.height;
-        numbers.entities = walk.entities;
-        numbers.left = walk.left;
-        numbers.offset = walk.kept.offset;
-        numbers.is_previous_typical = u8::from(walk.kept.previous_typical);
+        numbers.entities = course.entities;
+        numbers.left = course.left;
+        numbers.offset = course.kept.offset;
+        numbers.is_previous_typical = u8::from(course.kept.previous_typical);
         numbers.is_open = u8::from(self.phase.is_open());
-        numbers.waits = number_of_waits(self.phase);
-        numbers.is_given = u8::from(walk.given);
+        numbers.waits = number_of_waits(&self.phase);
+        numbers.is_given = u8::from(course.given);
     }
 
     /// The decoder with this header that has these numbers and has not ended, if there is one. The next call must
@@ -230,24 +198,20 @@ impl PieceDecoder {
         if numbers.height < 1 || header.yd < numbers.height {
             return None;
         }
-        let walk = numbers.walk()?;
+        let course = numbers.course()?;
         let phase = numbers.phase()?;
         let image = SizedImage {
             header,
             height: numbers.height,
         };
-        let fits = match phase {
-            Phase::Known => true,
-            Phase::InCode => walk.is_in_code() && numbers.height == header.yd,
-            Phase::Behind(_) => walk.is_behind() && numbers.height == header.yd,
-            Phase::Late => walk.is_done(),
-        };
-        if !fits || !walk.fits(&image) {
+        let is_late = phase.looks() && numbers.height != header.yd;
+        let is_behind = phase.is_first() && numbers.entities > 0;
+        if is_late || is_behind || !course.fits(&image) {
             return None;
         }
         Some(PieceDecoder {
             image,
-            walk,
+            course,
             phase,
             end: None,
         })

@@ -8,13 +8,13 @@ ghost use Rattle.t85_core.specs.Lent.{KeepsLent, decoder_lent as over};
 
 use crate::fault::Fault;
 use crate::lent::Lent;
-use crate::pieces::head::Head;
-use crate::pieces::phase::Phase;
+use crate::pieces::phase::{Behind, Phase};
 use crate::pieces::piece::Piece;
 use crate::pieces::{Outcome, PieceDecoder};
 
 impl PieceDecoder {
-    ghost use Rattle.t85_core.specs.Steps.PieceSteps.{DecodesCode, Lowers, StepLeaves};
+    ghost use Rattle.t85_core.specs.Phases.{phase_waits};
+    ghost use Rattle.t85_core.specs.Steps.PieceSteps.{Lowers, StepLeaves};
 
     /// Continues up to the next row or the end, or as far as the bytes allow.
     pub(super) fn go_on(
@@ -44,51 +44,47 @@ impl PieceDecoder {
     ) -> Option<Outcome>
         ensures leaves { StepLeaves is_all (over self.old lent.old) (over self.new
             lent.new) piece.old.rest.now piece.new.rest.now result }
-        ensures lowers { Lowers self.old self.new piece.old.rest.now piece.new.rest.now result }
+        ensures lowers { Lowers (phase_waits self.old.phase) (phase_waits self.new.phase)
+            piece.old.rest.now piece.new.rest.now result }
         ensures lent { KeepsLent lent.old lent.new }
     {
-        match self.phase {
-            Phase::Known => match self.walk.next(&self.image, lent, piece) {
+        match &mut self.phase {
+            Phase::Known(stage) => match self.course.next(stage, &self.image, lent, piece) {
                 Ok(true) => Some(Outcome::Row),
                 Ok(false) => Some(Outcome::Done(self.image.height)),
                 Err(fault) => Some(outcome_of(fault, is_all)),
             },
-            Phase::InCode => self.step_in_code(lent, piece, is_all),
-            Phase::Behind(head) => self.step_behind(head, lent, piece, is_all),
-            Phase::Late => Some(Outcome::Done(self.image.height)),
-        }
-    }
-
-    /// Continues in the code of a stripe, while a height may still arrive.
-    fn step_in_code(
-        &mut self,
-        lent: &mut Lent<'_, '_>,
-        piece: &mut Piece<'_>,
-        is_all: bool,
-    ) -> Option<Outcome>
-        requires in_code { DecodesCode self.old }
-        ensures leaves { StepLeaves is_all (over self.old lent.old) (over self.new
-            lent.new) piece.old.rest.now piece.new.rest.now result }
-        ensures lowers { Lowers self.old self.new piece.old.rest.now piece.new.rest.now result }
-        ensures lent { KeepsLent lent.old lent.new }
-    {
-        if self.walk.end_marker().is_some() {
-            self.phase = Phase::Behind(Head::start());
-            return None;
-        }
-        match self.walk.row_before_marker(&self.image, lent, piece) {
-            Ok(true) => Some(Outcome::Row),
-            Ok(false) => {
-                self.phase = Phase::Behind(Head::start());
-                None
+            Phase::First(head) => {
+                let head = *head;
+                self.step_first(head, piece, is_all)
             }
-            Err(fault) => Some(outcome_of(fault, is_all)),
+            Phase::Code(code) => {
+                if code.end_marker().is_some() {
+                    self.phase = Phase::Behind(Behind::start(*code));
+                    return None;
+                }
+                let rows = self.course.left.min(self.image.header.l0);
+                let (kept, decoder) = (&mut self.course.kept, &mut self.course.decoder);
+                match code.row_before_marker(&self.image, rows, kept, decoder, lent, piece) {
+                    Ok(true) => Some(Outcome::Row),
+                    Ok(false) => {
+                        self.phase = Phase::Behind(Behind::start(*code));
+                        None
+                    }
+                    Err(fault) => Some(outcome_of(fault, is_all)),
+                }
+            }
+            Phase::Behind(behind) => {
+                let behind = *behind;
+                self.step_behind(behind, lent, piece, is_all)
+            }
+            Phase::Late => Some(Outcome::Done(self.image.height)),
         }
     }
 }
 
 /// The outcome for an error: the end of the bytes is an error only if they are the last.
-fn outcome_of(fault: Fault, is_all: bool) -> Outcome
+pub(super) fn outcome_of(fault: Fault, is_all: bool) -> Outcome
     ensures more { result ≡ outcome.More → (fault ≡ Truncated) × (is_all ≡ false) }
     ensures broken { (f : Fault) → result ≡ outcome.Broken f → (f ≡ fault) × (f ≡ Truncated → is_all
         ≡ true) }

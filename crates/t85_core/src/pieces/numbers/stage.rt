@@ -4,16 +4,18 @@ ghost use Rattle.std.specs.Prelude.{◌≡◌, ◌<◌, Bool, Option, Some, None
 ghost use Rattle.raster_core.specs.declared.place.RowPlace.{RowPlace};
 ghost use Rattle.t85_core.specs.Numbers.{AreCodeNumbers, AreMoveNumbers, AreStageNumbers, IsCodeNext, code_number, marker_number, place_numbers, stage_numbers};
 ghost use Rattle.t85_core.specs.declared.pieces.code.InCode.{InCode};
-ghost use Rattle.t85_core.specs.declared.pieces.walk.Stage.{Stage};
-ghost use Rattle.t85_core.specs.declared.pieces.walk.Stage.TheVariants as stage_type;
+ghost use Rattle.t85_core.specs.Phases.{phase_stage};
+ghost use Rattle.t85_core.specs.declared.pieces.course.Stage.{Stage};
+ghost use Rattle.t85_core.specs.declared.pieces.course.Stage.TheVariants as stage_type;
 ghost use Rattle.t85_core.specs.declared.segments.atmove.Move.{Move};
 ghost use Rattle.t85_core.specs.declared.segments.Code.{Code};
 ghost use Rattle.t85_core.specs.declared.segments.Code.TheVariants as code;
 
 use crate::pieces::code::InCode;
+use crate::pieces::course::Stage;
 use crate::pieces::head::Head;
 use crate::pieces::numbers::{MoveNumbers, StageNumbers};
-use crate::pieces::walk::Stage;
+use crate::pieces::phase::Phase;
 use crate::segments::Code;
 use raster_core::{RowPlace, RowPlaceNumbers};
 
@@ -95,9 +97,23 @@ impl StageNumbers {
         }
     }
 
-    /// Stores the next item.
+    /// Stores the next item, apart from marker segments among which a height may arrive.
     #[inline(always)]
-    pub(super) fn store(&mut self, stage: &Stage)
+    pub(super) fn store(&mut self, phase: &Phase)
+        ensures { self.new ≡ stage_numbers (phase_stage phase.now) }
+    {
+        match phase {
+            Phase::Known(stage) => self.store_stage(stage),
+            Phase::First(_) => self.store_head(Head::start()),
+            Phase::Code(code) => self.store_code(code),
+            Phase::Behind(behind) => self.store_code(&behind.code),
+            Phase::Late => *self = StageNumbers::done(),
+        }
+    }
+
+    /// Stores the next item if the height is known.
+    #[inline(always)]
+    fn store_stage(&mut self, stage: &Stage)
         ensures { self.new ≡ stage_numbers stage.now }
     {
         match stage {

@@ -21,8 +21,8 @@ returns-clause-certain c = λ going d numbers rows learned header k own text out
     let looks = sym c.looks.ensures ∙ c.if-not-looks.false in
     let same = looks_of numbers d.phase k.phase_is ∙ sym (looks_of numbers c.args.self.now.phase own.phase_is) ∙ looks in
     let yd : c.args.self.now.image.header.yd ≡ d.image.header.yd = sym (ap (λ h. h.yd) header) in
-    let left : c.args.self.now.walk.left ≡ d.walk.left = sym own.walk_is.left_is ∙ k.walk_is.left_is in
-    let some : 1 ≤ c.args.self.now.walk.left = c.args.self.now.walk.some (c.args.self.now.going looks) in
+    let left : c.args.self.now.course.left ≡ d.course.left = sym own.course_is.left_is ∙ k.course_is.left_is in
+    let some : 1 ≤ c.args.self.now.course.left = c.args.self.now.course.some in
     least_late _ text out s.stands (open_looks d.phase same) _ (omega (arith, some, yd, left, c.args.self.now.image.header.not_too_tall))
 
 pub returns-then-not-looks-clause-own : goal.returns-then-not-looks-clause-own
@@ -34,5 +34,5 @@ returns-then-not-looks-clause-own c = λ rows learned text out s. elim c.then-no
 pub returns-clause-own : goal.returns-clause-own
 returns-clause-own c = λ rows learned text out s.
     let looks = sym c.looks.ensures ∙ c.if-not-looks.false in
-    let some : 1 ≤ c.args.self.now.walk.left = c.args.self.now.walk.some (c.args.self.now.going looks) in
+    let some : 1 ≤ c.args.self.now.course.left = c.args.self.now.course.some in
     least_late _ text out s.stands (open_looks c.args.self.now.phase looks) _ (omega (arith, some, c.args.self.now.image.header.not_too_tall))

@@ -1,4 +1,4 @@
-use Rattle.std.proofs.Common.{◌++◌, ◌∙◌, [], Some, take, true≢false, ap, append-nil, arith, refl, subst, sym}
+use Rattle.std.proofs.Common.{◌++◌, ◌∙◌, [], Some, true≢false, ap, append-nil, arith, refl, subst, sym}
 use Rattle.t85_core.specs.Options.{fields_of}
 use Rattle.t85_core.specs.Outcomes.{end_in}
 use Rattle.t85_core.specs.Pieces.{HasDecoded, HandsOut, stream_of, row_held}

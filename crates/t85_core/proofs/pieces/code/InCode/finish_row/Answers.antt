@@ -1,4 +1,4 @@
-use Rattle.std.proofs.Common.{◌≡◌, ◌++◌, [], Bool, true, false, Some, Result, Ok, Err, ap, sym, subst, refl, inl, inr, ◌∙◌, arith, true≢false}
+use Rattle.std.proofs.Common.{◌≡◌, [], Bool, true, false, Some, Result, Ok, Err, ap, sym, subst, refl, inl, inr, ◌∙◌, arith, true≢false}
 use Rattle.qm_core.specs.Decoder.{has_stopped}
 use Rattle.t85_core.specs.declared.fault.Fault.{Fault}
 use Rattle.t85_core.specs.Lent.{carried_by}

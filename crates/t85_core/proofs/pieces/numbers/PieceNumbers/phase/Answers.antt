@@ -1,9 +1,13 @@
-use Rattle.std.proofs.Common.{◌≡◌, Some, None, ap, sym, ◌∙◌}
-use Rattle.t85_core.proofs.Decodings.PieceNumbers.{behind_phase, no_phase, some_is}
+use Rattle.std.proofs.Common.{Some, ap, sym, ◌∙◌}
+use Rattle.t85_core.specs.Phases.{phase_stage}
+use Rattle.t85_core.proofs.Decodings.PieceNumbers.{code_phase_of, first_phase_of, some_is}
 use Rattle.t85_core.proofs.pieces.numbers.PieceNumbers.phase.Goals as goal
 
-pub returns-in_err-head-in-1-clause-all : goal.returns-in_err-head-in-1-clause-all
-returns-in_err-head-in-1-clause-all c = λ phase k. absurd (no_phase c.args.self.now phase c.if-self-eq0.false c.in-1.is (λ head h. let some : None ≡ Some head = sym c.in_err-head-in-1.was ∙ c.head.ensures.all head h in let bot : ⊥ = cc in bot) k)
+pub returns-in-Head-clause-all : goal.returns-in-Head-clause-all
+returns-in-Head-clause-all c = λ phase k s.
+    let first = first_phase_of c.args.self.now phase c.in-Head.head c.if-self-eq0.false k (sym c.in-Head.is ∙ some_is (c.in_ok-stage.ensures.all (phase_stage phase) s)) in
+    c.first.ensures.all first.head first.waits first.start first.numbers ∙ ap Some (sym first.is)
 
-pub returns-in_ok-head-in-1-clause-all : goal.returns-in_ok-head-in-1-clause-all
-returns-in_ok-head-in-1-clause-all c = λ phase k. ap Some (behind_phase c.args.self.now phase _ c.if-self-eq0.false c.in-1.is (λ head h. some_is (c.in_ok-head-in-1.ensures.all head h)) k)
+pub returns-in-Code-clause-all : goal.returns-in-Code-clause-all
+returns-in-Code-clause-all c = λ phase k s.
+    code_phase_of c.args.self.now phase c.in-Code.code c.phase_in.result c.if-self-eq0.false k (sym c.in-Code.is ∙ some_is (c.in_ok-stage.ensures.all (phase_stage phase) s)) c.phase_in.ensures.code c.phase_in.ensures.behind
