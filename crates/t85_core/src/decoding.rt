@@ -248,7 +248,7 @@ fn turn_held<S: HeldSource>(
     let mut piece = Piece {
         rest: stream.held(),
     };
-    let answer = walk.next(image, lent, &mut piece);
+    let answer = walk.course.next(&mut walk.stage, image, lent, &mut piece);
     let left = piece.rest.len();
     stream.keep(bytes_kept(answer, left));
     answer

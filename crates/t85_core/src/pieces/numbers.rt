@@ -73,9 +73,9 @@ pub struct PieceNumbers {
     pub behind: HeadNumbers,
     /// The current height.
     pub height: u32,
-    /// The number of complete stripe data entities.
+    /// The number of stripe data entities before the current stripe.
     pub entities: u32,
-    /// The number of rows after those.
+    /// The number of rows that are not in those.
     pub left: u32,
     /// The offset of the adaptive template pixel.
     pub offset: u8,

@@ -1,11 +1,9 @@
 //! The position and state of decoding in a stream whose height is known.
 
-use crate::fault::Fault;
 use crate::header::SizedImage;
 use crate::lent::Lent;
 use crate::pieces::course::{Course, Stage};
 use crate::pieces::head::Head;
-use crate::pieces::piece::Piece;
 
 /// How far a stream has been decoded.
 #[derive(Drop)]
@@ -15,12 +13,12 @@ pub struct Walk {
 }
 
 impl Walk {
-    ghost use Rattle.std.specs.Prelude.{◌≡◌, ◌≤◌, ◌<◌, ◌++◌, [], ℕ, List, Ok, length, true};
+    ghost use Rattle.std.specs.Prelude.{◌≡◌, ◌<◌, ◌++◌, [], ℕ, List};
     ghost use Rattle.raster_core.specs.Window.{held, width_of};
     ghost use Rattle.t85_core.specs.Stages as stage;
     ghost use Rattle.t85_core.specs.Lent.{KeepsLent, walk_lent as over};
     ghost use Rattle.t85_core.specs.Steps.Buffers.{copies};
-    ghost use Rattle.t85_core.specs.Steps.Pieces.{WalkStands, SomeStands, Turn};
+    ghost use Rattle.t85_core.specs.Steps.Pieces.{WalkStands};
     ghost use Rattle.t85_core.specs.Steps.SizedImage.{sized_of};
 
     /// The state before the first byte after the header. Makes the window white, and resets the contexts.
@@ -33,23 +31,6 @@ impl Walk {
             course: Course::start(image, lent),
             stage: Stage::Head(Head::start()),
         }
-    }
-
-    /// Decodes the next row. Returns false if the image is complete.
-    pub fn next(
-        &mut self,
-        image: &SizedImage,
-        lent: &mut Lent<'_, '_>,
-        piece: &mut Piece<'_>,
-    ) -> Result<bool, Fault>
-        ensures step { Turn (sized_of image.now) (over self.old lent.old)
-            (over self.new lent.new) piece.old.rest.now piece.new.rest.now result }
-        ensures code { SomeStands (sized_of image.now) (over self.old lent.old) →
-            result ≡ Ok true → (over self.new lent.new).stage ≡ stage.Code }
-        ensures no_more { length piece.new.rest.now ≤ length piece.old.rest.now }
-        ensures lent { KeepsLent lent.old lent.new }
-    {
-        self.course.next(&mut self.stage, image, lent, piece)
     }
 
     /// Decodes rows that equal the one before, if the bits already read determine them, and returns how many. The
