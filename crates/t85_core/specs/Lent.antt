@@ -16,11 +16,12 @@ use Rattle.t85_core.specs.declared.pieces.PieceDecoder.{PieceDecoder}
 use Rattle.t85_core.specs.declared.pieces.head.Head.{Head}
 use Rattle.t85_core.specs.declared.pieces.course.Course.{Course}
 use Rattle.t85_core.specs.declared.pieces.course.Stage.{Stage}
+use Rattle.t85_core.specs.declared.pieces.course.Stage.TheVariants as stage
 use Rattle.t85_core.specs.declared.pieces.phase.Phase.{Phase}
 use Rattle.t85_core.specs.declared.pieces.walk.Walk.{Walk}
 use Rattle.t85_core.specs.declared.pieces.code.InCode.{InCode}
 use Rattle.t85_core.specs.Phases.{phase_behind, phase_is_open, phase_stage, phase_waits}
-use Rattle.t85_core.specs.Stages.{Kind, stage_kind, code_kind, stage_move, stage_comment, stage_row, place_from, stage_place, stage_first, stage_marker}
+use Rattle.t85_core.specs.Stages.{Kind, stage_kind, stage_move, stage_comment, stage_row, stage_place, stage_first, stage_marker}
 
 -- a window of the same width over the same memory
 abbrev pub KeepsWindow : Window → Window → Type 0
@@ -64,55 +65,33 @@ pub record WalkView : Type 0 where
 
 -- the view at this stage of a course
 abbrev pub stage_view : Course → Stage → Held → List Estimate → WalkView
-stage_view c stage rows learned = record {
+stage_view c s rows learned = record {
   carried = record { held = rows; kept = c.kept; learned = learned };
   decoder = c.decoder;
-  stage = stage_kind stage;
+  stage = stage_kind s;
   entities = c.entities;
   left = c.left;
   given = c.given;
-  at = stage_move stage;
-  comment = stage_comment stage;
-  row = stage_row stage;
-  place = stage_place stage;
-  first = stage_first stage;
-  marker = stage_marker stage;
+  at = stage_move s;
+  comment = stage_comment s;
+  row = stage_row s;
+  place = stage_place s;
+  first = stage_first s;
+  marker = stage_marker s;
 }
 
 abbrev pub stage_lent : Course → Stage → Lent → WalkView
-stage_lent c stage lent = stage_view c stage (held lent.window.now) lent.learned.now
+stage_lent c s lent = stage_view c s (held lent.window.now) lent.learned.now
 
 abbrev pub walk_lent : Walk → Lent → WalkView
 walk_lent w lent = stage_lent w.course w.stage lent
 
--- where a stripe is: how many stripe data entities are before it, how many rows are not in them, and whether there was a height
-pub record StripeAt : Type 0 where
-  pub entities : ℕ
-  pub left : ℕ
-  pub given : Bool
+-- in the code of a stripe
+abbrev pub code_view : Course → InCode → Held → List Estimate → WalkView
+code_view course c rows learned = stage_view course (stage.Code c) rows learned
 
--- how far a stream has been decoded, in the code of a stripe
-abbrev pub code_view : StripeAt → InCode → Kept → Decoder → Held → List Estimate → WalkView
-code_view s c kept decoder rows learned = record {
-  carried = record { held = rows; kept = kept; learned = learned };
-  decoder = decoder;
-  stage = code_kind c.begun;
-  entities = s.entities;
-  left = s.left;
-  given = s.given;
-  at = c.at;
-  comment = 0;
-  row = c.row;
-  place = place_from c.begun;
-  first = c.first;
-  marker = c.marker;
-}
-
-abbrev pub code_over : StripeAt → InCode → Kept → Decoder → Window → List Estimate → WalkView
-code_over s c kept decoder window learned = code_view s c kept decoder (held window) learned
-
-abbrev pub code_lent : StripeAt → InCode → Kept → Decoder → Lent → WalkView
-code_lent s c kept decoder lent = code_over s c kept decoder lent.window.now lent.learned.now
+abbrev pub code_lent : Course → InCode → Lent → WalkView
+code_lent course c lent = stage_lent course (stage.Code c) lent
 
 -- a decoder in pieces, with these
 pub record PieceView : Type 0 where

@@ -6,9 +6,9 @@ use Rattle.qm_core.specs.declared.decoder.Decoder.{Decoder}
 use Rattle.qm_core.specs.Place.{Estimate}
 use Rattle.raster_core.specs.Packed.{Held}
 use Rattle.raster_core.specs.declared.place.RowPlace.{RowPlace}
-use Rattle.raster_core.specs.declared.shape.Kept.{Kept}
 use Rattle.t85_core.specs.declared.pieces.code.InCode.{InCode}
-use Rattle.t85_core.specs.Lent.{StripeAt, WalkView, code_view}
+use Rattle.t85_core.specs.declared.pieces.course.Course.{Course}
+use Rattle.t85_core.specs.Lent.{WalkView, code_view}
 use Rattle.t85_core.specs.Stages.{place_from, code_kind}
 use Rattle.t85_core.specs.Stages as stage
 use Rattle.t85_core.specs.Header.{Fields}
@@ -18,8 +18,8 @@ use Rattle.t85_core.proofs.Decodings.PieceSteps.{at_stage}
 use Rattle.t85_core.proofs.Decodings.PieceWalk.{in_row_going}
 
 -- a row can be decoded from where a code is
-pub fits_of : {h : Fields} {height : ℕ} {s : StripeAt} {c : InCode} {kept : Kept} {d : Decoder} {rows : Held} {learned : List Estimate} {text out : List ℕ} → WalkStands (sized h height) (code_view s c kept d rows learned) text out → RowFits h.xd c rows
-fits_of {h} {c = c} s = record { width_is = s.width_is; within = place_within c.begun s.within } where
+pub fits_of : {h : Fields} {height : ℕ} (course : Course) {c : InCode} {rows : Held} {learned : List Estimate} {text out : List ℕ} → WalkStands (sized h height) (code_view course c rows learned) text out → RowFits h.xd c rows
+fits_of {h} course {c = c} s = record { width_is = s.width_is; within = place_within c.begun s.within } where
   place_within : (begun : Option RowPlace) → (place_from begun).done < h.xd → IfSome begun (λ place. place.done < h.xd)
   place_within None lt = tt
   place_within (Some place) lt = lt
@@ -49,8 +49,8 @@ none_begun {h} {height} {w} {text} {out} is s all =
     omega (arith, few, over)
 
 -- a code all rows of which are decoded is between two rows
-pub between_rows : {h : Fields} {height : ℕ} {s : StripeAt} (c : InCode) {kept : Kept} {d : Decoder} {rows : Held} {learned : List Estimate} {text out : List ℕ} → WalkStands (sized h height) (code_view s c kept d rows learned) text out → min s.left h.l0 ≤ c.row → c.begun ≡ None
-between_rows {h} {height} {s} c {kept} {d} {rows} {learned} {text} {out} k all = by c.begun refl where
+pub between_rows : {h : Fields} {height : ℕ} (course : Course) (c : InCode) {rows : Held} {learned : List Estimate} {text out : List ℕ} → WalkStands (sized h height) (code_view course c rows learned) text out → min course.left h.l0 ≤ c.row → c.begun ≡ None
+between_rows {h} {height} course c {rows} {learned} {text} {out} k all = by c.begun refl where
   by : (begun : Option RowPlace) → c.begun ≡ begun → c.begun ≡ None
   by None e = e
-  by (Some place) e = absurd (none_begun {w = code_view s c kept d rows learned} (let z : code_kind c.begun ≡ stage.Row = subst (λ b. code_kind b ≡ stage.Row) (sym e) refl in z) k all)
+  by (Some place) e = absurd (none_begun {w = code_view course c rows learned} (let z : code_kind c.begun ≡ stage.Row = subst (λ b. code_kind b ≡ stage.Row) (sym e) refl in z) k all)

@@ -12,8 +12,7 @@ use Rattle.t85_core.specs.declared.segments.Code.{Code}
 use Rattle.t85_core.specs.declared.segments.atmove.Move as move
 use Rattle.t85_core.specs.declared.pieces.course.Course.{Course}
 use Rattle.t85_core.specs.declared.pieces.code.InCode.{InCode}
-use Rattle.raster_core.specs.declared.shape.Kept.{Kept}
-use Rattle.t85_core.specs.Lent.{Carried, StripeAt, WalkView, code_view}
+use Rattle.t85_core.specs.Lent.{Carried, WalkView, code_view}
 use Rattle.t85_core.specs.Stages.{Kind}
 use Rattle.t85_core.specs.Stages as stage
 use Rattle.t85_core.specs.Steps.SizedImage.{SizedImage}
@@ -167,10 +166,10 @@ pub record IsFirstWalk (w : WalkView) : Type 0 where
   pub entities : w.entities ≡ 0
   pub given : w.given ≡ false
 
--- what a step leaves of a code, all rows of which are decoded, whatever the rest of the decoder is
+-- what a step leaves of a code, all rows of which are decoded, whatever the course is
 abbrev pub AfterRows : ℕ → (WalkView → WalkView → Type 0) → InCode → InCode → Type 0
 AfterRows l0 Leaves c c' =
-    (s : StripeAt) (kept : Kept) (d : Decoder) (rows : Held) (learned : List Estimate) → min s.left l0 ≤ c.row → Leaves (code_view s c kept d rows learned) (code_view s c' kept d rows learned)
+    (course : Course) (rows : Held) (learned : List Estimate) → min course.left l0 ≤ c.row → Leaves (code_view course c rows learned) (code_view course c' rows learned)
 
 abbrev pub HasMarker : WalkView → Type 0
 HasMarker w = MarkerRead w.marker w.first

@@ -254,11 +254,10 @@ impl PieceDecoder {
         ensures lent { KeepsLent lent.old lent.new }
     {
         let mut behind = behind;
-        let (kept, decoder) = (&mut self.course.kept, &mut self.course.decoder);
         let mut none = Piece { rest: &[] };
         let row = behind
             .code
-            .next_row(&self.image, kept, decoder, lent, &mut none);
+            .next_row(&self.image, &mut self.course, lent, &mut none);
         let _given = row.is_ok();
         self.phase = Phase::Behind(behind);
     }

@@ -13,10 +13,10 @@ use crate::laws::coder_laws;
 use crate::lent::Lent;
 use crate::pieces::code::find::find_marker;
 use crate::pieces::code::rows::{is_settled, skip_many};
+use crate::pieces::course::Course;
 use crate::pieces::piece::Piece;
 use crate::segments::{Code, Move};
-use qm_core::Decoder;
-use raster_core::{Kept, RowPlace};
+use raster_core::RowPlace;
 
 /// The state in the code of a stripe.
 #[derive(Clone, Copy, Drop)]
@@ -36,10 +36,10 @@ pub struct InCode {
 }
 
 impl InCode {
-    ghost use Rattle.std.specs.Prelude.{◌≢◌, ◌≤◌, ◌++◌, List, length, min, IfErr, IfOk, OnOk};
+    ghost use Rattle.std.specs.Prelude.{◌≢◌, ◌≤◌, ◌++◌, List, length, IfErr, IfOk, OnOk};
     ghost use Rattle.raster_core.specs.Window.{held};
     ghost use Rattle.t85_core.specs.declared.fault.Fault.TheVariants.{Changed};
-    ghost use Rattle.t85_core.specs.Lent.{KeepsLent, StripeAt, code_lent};
+    ghost use Rattle.t85_core.specs.Lent.{KeepsLent, code_lent};
     ghost use Rattle.t85_core.specs.Stages.{StartsCode};
     ghost use Rattle.t85_core.specs.Steps.Buffers.{copies};
     ghost use Rattle.t85_core.specs.Steps.InTime.{ReachesMarker};
@@ -80,28 +80,26 @@ impl InCode {
     }
 
     /// Decodes rows that equal the one before, if the bits already read determine them, and returns how many. The
-    /// stripe has `rows` rows. The window contains the last of them.
+    /// window contains the last of them.
     #[inline(always)]
     pub fn repeat(
         &mut self,
         image: &SizedImage,
-        rows: u32,
-        kept: Kept,
-        decoder: &mut Decoder,
+        course: &mut Course,
         lent: &mut Lent<'_, '_>,
     ) -> u32
-        ensures on { (s : StripeAt) (text out : List ℕ) → rows ≡ min s.left image.now.header.l0 →
-            WalkStands (sized_of image.now) (code_lent s self.old kept decoder.old lent.old) text
-            out → WalkStands (sized_of image.now) (code_lent s self.new kept decoder.new lent.new)
-            text (out ++ copies result (held lent.new.window.now).current) }
+        ensures on { (text out : List ℕ) → WalkStands (sized_of image.now) (code_lent course.old
+            self.old lent.old) text out → WalkStands (sized_of image.now) (code_lent course.new
+            self.new lent.new) text (out ++ copies result (held lent.new.window.now).current) }
         ensures begun { 0 < result → self.new.begun ≡ None }
         ensures lent { KeepsLent lent.old lent.new }
     {
+        let rows = course.left.min(image.header.l0);
         if self.begun.is_some() || self.row >= rows || !is_settled(self.at, self.row) {
             return 0;
         }
-        let left = rows - self.row;
-        let count = skip_many(image.header.shape(), kept, lent.learned, decoder, left);
+        let (shape, left) = (image.header.shape(), rows - self.row);
+        let count = skip_many(shape, course.kept, lent.learned, &mut course.decoder, left);
         if count == 0 {
             return 0;
         }

@@ -63,9 +63,7 @@ impl PieceDecoder {
                     self.phase = Phase::Behind(Behind::start(*code));
                     return None;
                 }
-                let rows = self.course.left.min(self.image.header.l0);
-                let (kept, decoder) = (&mut self.course.kept, &mut self.course.decoder);
-                match code.row_before_marker(&self.image, rows, kept, decoder, lent, piece) {
+                match code.row_before_marker(&self.image, &mut self.course, lent, piece) {
                     Ok(true) => Some(Outcome::Row),
                     Ok(false) => {
                         self.phase = Phase::Behind(Behind::start(*code));

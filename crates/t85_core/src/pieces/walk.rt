@@ -43,16 +43,7 @@ impl Walk {
         ensures code { 0 < result → (over self.new lent.new).stage ≡ stage.Code }
     {
         match &mut self.stage {
-            Stage::Code(code) => {
-                let rows = self.course.left.min(image.header.l0);
-                code.repeat(
-                    image,
-                    rows,
-                    self.course.kept,
-                    &mut self.course.decoder,
-                    lent,
-                )
-            }
+            Stage::Code(code) => code.repeat(image, &mut self.course, lent),
             _ => 0,
         }
     }

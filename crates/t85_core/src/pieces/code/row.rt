@@ -2,14 +2,14 @@
 
 ghost use Rattle.std.specs.Prelude.{◌≡◌, ◌≤◌, ◌<◌, ◌+◌, ◌^◌, ◌++◌, ℕ, List, [], None, Ok, Some, true, false, length, min, IfSome, OnOk};
 ghost use Rattle.qm_core.specs.Place.{Estimate};
-ghost use Rattle.qm_core.specs.declared.decoder.Decoder.{Decoder};
 ghost use Rattle.raster_core.specs.Row.{IsRowStart};
 ghost use Rattle.raster_core.specs.Window.{held, width_of};
 ghost use Rattle.raster_core.specs.declared.place.RowPlace.{RowPlace};
 ghost use Rattle.t85_core.specs.Steps.Segments.{IsByteOrMarker};
-ghost use Rattle.t85_core.specs.Lent.{KeepsWindow, KeepsLent, StripeAt, code_over, code_lent};
+ghost use Rattle.t85_core.specs.Lent.{KeepsWindow, KeepsLent, code_lent as over, code_view};
+ghost use Rattle.t85_core.specs.declared.pieces.course.Course.{Course};
 ghost use Rattle.t85_core.specs.Steps.PieceCode.{MarkerRead};
-ghost use Rattle.t85_core.specs.Steps.Pieces.{SomeStands, WalkStands, RowFits};
+ghost use Rattle.t85_core.specs.Steps.Pieces.{KeepsStripes, SomeStands, WalkStands, RowFits};
 ghost use Rattle.t85_core.specs.Steps.RowTurns.{BegunLeaves, BegunStep, CodeGoes, LeavesRow, RowStep};
 ghost use Rattle.t85_core.specs.Steps.SizedImage.{sized, sized_of};
 ghost use Rattle.t85_core.specs.Header.{Fields};
@@ -20,6 +20,7 @@ use crate::laws::coder_laws;
 use crate::lent::Lent;
 use crate::pieces::code::InCode;
 use crate::pieces::code::rows::offset_in;
+use crate::pieces::course::Course;
 use crate::pieces::piece::{Piece, PieceCode};
 use crate::pieces::rows::go_on_in_row;
 use crate::segments::Code;
@@ -48,48 +49,43 @@ impl InCode {
     pub fn next_row(
         &mut self,
         image: &SizedImage,
-        kept: &mut Kept,
-        decoder: &mut Decoder,
+        course: &mut Course,
         lent: &mut Lent<'_, '_>,
         piece: &mut Piece<'_>,
     ) -> Result<(), Fault>
-        requires room { self.old.row + 1 < 2 ^ 32 }
-        ensures step { (s : StripeAt) → self.old.row < min s.left image.now.header.l0 →
-            RowStep (sized_of image.now) (code_lent s self.old kept.old decoder.old lent.old)
-            (code_lent s self.new kept.new decoder.new lent.new) piece.old.rest.now
-            piece.new.rest.now result }
-        ensures leaves { (s : StripeAt) → self.old.row < min s.left image.now.header.l0 →
-            LeavesRow (sized_of image.now) (code_lent s self.old kept.old decoder.old lent.old)
-            (code_lent s self.new kept.new decoder.new lent.new) result }
+        requires left { self.old.row < min course.old.left image.now.header.l0 }
+        ensures step { RowStep (sized_of image.now) (over course.old self.old lent.old)
+            (over course.new self.new lent.new) piece.old.rest.now piece.new.rest.now result }
+        ensures leaves { LeavesRow (sized_of image.now) (over course.old self.old lent.old)
+            (over course.new self.new lent.new) result }
+        ensures stripe { KeepsStripes course.old course.new }
         ensures no_more { length piece.new.rest.now ≤ length piece.old.rest.now }
         ensures lent { KeepsLent lent.old lent.new }
     {
-        match self.row_or_marker(image, false, kept, decoder, lent, piece) {
+        match self.row_or_marker(image, false, course, lent, piece) {
             Ok(_) => Ok(()),
             Err(fault) => Err(fault),
         }
     }
 
-    /// While a height may still arrive: continues to the end of the next of the `rows` rows of the stripe and returns
-    /// true, or reads the end marker ahead and returns false. A row that only the marker determines is not decoded.
+    /// While a height may still arrive: continues to the end of the next row of the stripe and returns true, or reads
+    /// the end marker ahead and returns false. A row that only the marker determines is not decoded.
     pub fn row_before_marker(
         &mut self,
         image: &SizedImage,
-        rows: u32,
-        kept: &mut Kept,
-        decoder: &mut Decoder,
+        course: &mut Course,
         lent: &mut Lent<'_, '_>,
         piece: &mut Piece<'_>,
     ) -> Result<bool, Fault>
-        ensures goes { (s : StripeAt) → rows ≡ min s.left image.now.header.l0 →
-            (MarkerRead self.old.marker self.old.first → ⊥) → CodeGoes (sized_of image.now)
-            (code_lent s self.old kept.old decoder.old lent.old) (code_lent s self.new kept.new
-            decoder.new lent.new) piece.old.rest.now piece.new.rest.now result }
+        ensures goes { (MarkerRead self.old.marker self.old.first → ⊥) → CodeGoes (sized_of
+            image.now) (over course.old self.old lent.old) (over course.new self.new lent.new)
+            piece.old.rest.now piece.new.rest.now result }
+        ensures stripe { KeepsStripes course.old course.new }
         ensures no_more { length piece.new.rest.now ≤ length piece.old.rest.now }
         ensures lent { KeepsLent lent.old lent.new }
     {
-        if self.row < rows {
-            return self.row_or_marker(image, true, kept, decoder, lent, piece);
+        if self.row < course.left.min(image.header.l0) {
+            return self.row_or_marker(image, true, course, lent, piece);
         }
         self.find_end(image, piece)?;
         Ok(false)
@@ -101,20 +97,17 @@ impl InCode {
         &mut self,
         image: &SizedImage,
         waits: bool,
-        kept: &mut Kept,
-        decoder: &mut Decoder,
+        course: &mut Course,
         lent: &mut Lent<'_, '_>,
         piece: &mut Piece<'_>,
     ) -> Result<bool, Fault>
-        requires room { self.old.row + 1 < 2 ^ 32 }
-        ensures step { (s : StripeAt) → self.old.row < min s.left image.now.header.l0 →
-            BegunStep (sized_of image.now) (code_lent s self.old kept.old decoder.old lent.old)
-            (code_lent s self.new kept.new decoder.new lent.new) piece.old.rest.now
-            piece.new.rest.now result }
-        ensures leaves { (s : StripeAt) → self.old.row < min s.left image.now.header.l0 →
-            SomeStands (sized_of image.now) (code_lent s self.old kept.old decoder.old lent.old) →
-            BegunLeaves waits (code_lent s self.old kept.old decoder.old lent.old)
-            (code_lent s self.new kept.new decoder.new lent.new) result }
+        requires left { self.old.row < min course.old.left image.now.header.l0 }
+        ensures step { BegunStep (sized_of image.now) (over course.old self.old lent.old)
+            (over course.new self.new lent.new) piece.old.rest.now piece.new.rest.now result }
+        ensures leaves { SomeStands (sized_of image.now) (over course.old self.old lent.old) →
+            BegunLeaves waits (over course.old self.old lent.old) (over course.new self.new
+            lent.new) result }
+        ensures stripe { KeepsStripes course.old course.new }
         ensures no_more { length piece.new.rest.now ≤ length piece.old.rest.now }
         ensures lent { KeepsLent lent.old lent.new }
     {
@@ -125,13 +118,13 @@ impl InCode {
         match self.begun {
             Some(place) => {
                 let begun = BegunRow { place, waits };
-                self.finish_row::<REST_OF_ROW>(image, begun, kept, decoder, lent, piece)
+                self.finish_row::<REST_OF_ROW>(image, begun, course, lent, piece)
             }
             None => {
-                self.enter_row(kept, lent.window);
+                self.enter_row(&mut course.kept, lent.window);
                 let place = RowPlace::start();
                 let begun = BegunRow { place, waits };
-                self.finish_row::<WHOLE_ROW>(image, begun, kept, decoder, lent, piece)
+                self.finish_row::<WHOLE_ROW>(image, begun, course, lent, piece)
             }
         }
     }
@@ -139,12 +132,12 @@ impl InCode {
     /// Moves down to the next row of a stripe, and performs its move.
     fn enter_row(&self, kept: &mut Kept, window: &mut Window<'_>)
         requires fits { RowFits (width_of window.old) self.now (held window.old) }
-        ensures enters { (h : Fields) (height : ℕ) (s : StripeAt) (d : Decoder) (place : RowPlace)
-            (learned : List Estimate) (text out : List ℕ) → self.now.begun ≡ None →
-            self.now.row < min s.left h.l0 → IsRowStart place → place.done < h.xd →
-            WalkStands (sized h height) (code_over s self.now kept.old d window.old learned)
-            text out → WalkStands (sized h height) (code_over s (record self.now
-            { begun = Some place }) kept.new d window.new learned) text out }
+        ensures enters { (h : Fields) (height : ℕ) (course : Course) (place : RowPlace) (learned :
+            List Estimate) (text out : List ℕ) → self.now.begun ≡ None → self.now.row < min
+            course.left h.l0 → IsRowStart place → place.done < h.xd → WalkStands (sized h height)
+            (code_view (record course { kept = kept.old }) self.now (held window.old) learned) text
+            out → WalkStands (sized h height) (code_view (record course { kept = kept.new }) (record
+            self.now { begun = Some place }) (held window.new) learned) text out }
         ensures fits { (place : RowPlace) → place.done < width_of window.old → RowFits
             (width_of window.old) (record self.now { begun = Some place }) (held window.new) }
         ensures window { KeepsWindow window.old window.new }
@@ -159,21 +152,24 @@ impl InCode {
         &mut self,
         image: &SizedImage,
         row: BegunRow,
-        kept: &mut Kept,
-        decoder: &mut Decoder,
+        course: &mut Course,
         lent: &mut Lent<'_, '_>,
         piece: &mut Piece<'_>,
     ) -> Result<bool, Fault>
-        requires room { self.old.row + 1 < 2 ^ 32 }
+        requires left { self.old.row < min course.old.left image.now.header.l0 }
         requires fits { RowFits image.now.header.xd (record self.old { begun = Some row.place })
             (held lent.old.window.now) }
-        ensures step { (s : StripeAt) → BegunStep (sized_of image.now) (code_lent s (record self.old
-            { begun = Some row.place }) kept.old decoder.old lent.old) (code_lent s self.new
-            kept.new decoder.new lent.new) piece.old.rest.now piece.new.rest.now result }
-        ensures leaves { (s : StripeAt) → SomeStands (sized_of image.now) (code_lent s (record
-            self.old { begun = Some row.place }) kept.old decoder.old lent.old) → BegunLeaves
-            row.waits (code_lent s (record self.old { begun = Some row.place }) kept.old decoder.old
-            lent.old) (code_lent s self.new kept.new decoder.new lent.new) result }
+        ensures step { BegunStep (sized_of image.now) (over course.old (record self.old {
+          begun =
+              Some row.place;
+        }) lent.old) (over course.new self.new lent.new) piece.old.rest.now
+            piece.new.rest.now result }
+        ensures leaves { SomeStands (sized_of image.now) (over course.old (record self.old {
+          begun =
+              Some row.place;
+        }) lent.old) → BegunLeaves row.waits (over course.old (record self.old
+            { begun = Some row.place }) lent.old) (over course.new self.new lent.new) result }
+        ensures stripe { KeepsStripes course.old course.new }
         ensures no_more { length piece.new.rest.now ≤ length piece.old.rest.now }
         ensures lent { KeepsLent lent.old lent.new }
     {
@@ -181,7 +177,7 @@ impl InCode {
         coder_laws();
         // Both are local until the row ends or waits, so that the compiler keeps them in registers.
         let mut place = row.place;
-        let mut local = replace(decoder, Decoder::start());
+        let mut local = replace(&mut course.decoder, Decoder::start());
         local.resume();
         let mut code: PieceCode<'_, PART> = PieceCode {
             piece: Piece { rest: piece.rest },
@@ -192,8 +188,9 @@ impl InCode {
             failures: 0,
         };
         let shape = image.header.shape();
+        let kept = &mut course.kept;
         let went = go_on_in_row(shape, lent, kept, &mut local, &mut place, &mut code);
-        *decoder = local;
+        course.decoder = local;
         self.first = code.first;
         self.marker = code.marker;
         piece.rest = code.piece.rest;

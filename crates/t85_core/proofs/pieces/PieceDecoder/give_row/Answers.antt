@@ -1,5 +1,5 @@
 use Rattle.std.proofs.Common.{◌≡◌, ◌+◌, [], refl, arith}
-use Rattle.t85_core.specs.Lent.{StripeAt, code_lent, phase_lent}
+use Rattle.t85_core.specs.Lent.{code_lent, phase_lent}
 use Rattle.t85_core.specs.Steps.RowTurns.{LeavesRow, RowStep}
 use Rattle.t85_core.specs.declared.pieces.phase.Phase.TheVariants as phase
 use Rattle.t85_core.proofs.Decodings.PieceSteps.{in_code_of}
@@ -8,17 +8,16 @@ use Rattle.t85_core.proofs.pieces.PieceDecoder.give_row.Goals as goal
 
 pub returns-clause-gives : goal.returns-clause-gives
 returns-clause-gives c = λ limit below some.
-    let here : StripeAt = record { entities = c.args.self.now.course.entities; left = c.args.self.now.course.left; given = c.args.self.now.course.given } in
     let d = phase_lent c.args.self.now (phase.Behind c.args.behind) c.args.lent.now in
     let code = in_code_of c.args.behind.code.begun in
-    let new = code_lent here c.next_row-row.new.self c.next_row-row.new.kept c.next_row-row.new.decoder c.next_row-row.new.lent in
-    let step = at_first (λ image. RowStep image d.walk new [] c.next_row-row.new.piece.rest.now c.next_row-row.result) c.requires.open (c.next_row-row.ensures.step here c.requires.left) in
-    let leaves = at_first (λ image. LeavesRow image d.walk new c.next_row-row.result) c.requires.open (c.next_row-row.ensures.leaves here c.requires.left) (some_waits d refl refl some) in
+    let new = code_lent c.next_row-row.new.course c.next_row-row.new.self c.next_row-row.new.lent in
+    let step = at_first (λ image. RowStep image d.walk new [] c.next_row-row.new.piece.rest.now c.next_row-row.result) c.requires.open c.next_row-row.ensures.step in
+    let leaves = at_first (λ image. LeavesRow image d.walk new c.next_row-row.result) c.requires.open c.next_row-row.ensures.leaves (some_waits d refl refl some) in
     let next : c.next_row-row.new.self.row ≡ c.args.behind.code.row + 1 = row_after d new refl refl some code c.next_row-row.result leaves in
     record {
       keeps = record { header = refl; height = refl; is_open = refl; waits = refl; behind = refl; going = refl };
       code = code;
-      entities = refl;
+      entities = leaves.place.entities;
       below = omega (arith, next, below);
       on = row_given d _ refl refl code (record { header = refl; height = refl; is_open = refl; waits = refl; behind = refl; going = refl }) c.next_row-row.new.piece.rest.now c.next_row-row.result step leaves;
     }

@@ -1,7 +1,7 @@
 use Rattle.std.proofs.Common.{◌≡◌, ◌++◌, ◌∙◌, [], true, false, Ok, Err, None, Some, Option, refl, ap, sym, subst, inr, true≢false, rules}
 use Rattle.std.specs.Prelude.{is_some}
 use Rattle.t85_core.specs.declared.pieces.phase.Phase.TheVariants as phase
-use Rattle.t85_core.specs.Lent.{StripeAt, code_lent, phase_lent, stage_lent}
+use Rattle.t85_core.specs.Lent.{code_lent, phase_lent, stage_lent}
 use Rattle.t85_core.specs.Options.{fields_of}
 use Rattle.t85_core.specs.Phases.{phase_looks}
 use Rattle.t85_core.specs.Stages.{head_start}
@@ -78,13 +78,12 @@ returns-then-is_some-clause-leaves c =
 pub returns-in-Ok-true-row_before_marker-clause-leaves : goal.returns-in-Ok-true-row_before_marker-clause-leaves
 returns-in-Ok-true-row_before_marker-clause-leaves c =
     let old = c.args.self.now in
-    let here : StripeAt = record { entities = old.course.entities; left = old.course.left; given = old.course.given } in
     let d = phase_lent old (phase.Code c.in-Code.code) c.args.lent.now in
     let p = c.args.piece.now.rest.now in
     let p' = c.row_before_marker.new.piece.rest.now in
-    let new = code_lent here c.row_before_marker.new.self c.row_before_marker.new.kept c.row_before_marker.new.decoder c.row_before_marker.new.lent in
+    let new = code_lent c.row_before_marker.new.course c.row_before_marker.new.self c.row_before_marker.new.lent in
     let unread = c.end_marker.ensures.none (none_of_some c.end_marker.result (search rules)) in
-    let goes = at_first (λ image. CodeGoes image d.walk new p p' (Ok true)) (old.first (ap phase_looks c.in-Code.is)) (subst (λ b. CodeGoes (sized (fields_of old.image.header) old.image.height) d.walk new p p' (Ok b)) c.in-Ok-true-row_before_marker.field-0-test (c.in-Ok-true-row_before_marker.ensures.goes here c.min-rows.ensures unread)) in
+    let goes = at_first (λ image. CodeGoes image d.walk new p p' (Ok true)) (old.first (ap phase_looks c.in-Code.is)) (subst (λ b. CodeGoes (sized (fields_of old.image.header) old.image.height) d.walk new p p' (Ok b)) c.in-Ok-true-row_before_marker.field-0-test (c.in-Ok-true-row_before_marker.ensures.goes unread)) in
     leaves_of (ap (λ z. phase_lent old z c.args.lent.now) (sym c.in-Code.is))
     (leaves_row c.args.is_all d _ p p' refl refl
     (λ text out s.
@@ -101,13 +100,12 @@ returns-in-Ok-true-row_before_marker-clause-leaves c =
 pub returns-in-Ok-false-row_before_marker-clause-leaves : goal.returns-in-Ok-false-row_before_marker-clause-leaves
 returns-in-Ok-false-row_before_marker-clause-leaves c =
     let old = c.args.self.now in
-    let here : StripeAt = record { entities = old.course.entities; left = old.course.left; given = old.course.given } in
     let d = phase_lent old (phase.Code c.in-Code.code) c.args.lent.now in
     let p = c.args.piece.now.rest.now in
     let p' = c.row_before_marker.new.piece.rest.now in
-    let new = code_lent here c.row_before_marker.new.self c.row_before_marker.new.kept c.row_before_marker.new.decoder c.row_before_marker.new.lent in
+    let new = code_lent c.row_before_marker.new.course c.row_before_marker.new.self c.row_before_marker.new.lent in
     let unread = c.end_marker.ensures.none (none_of_some c.end_marker.result (search rules)) in
-    let goes = at_first (λ image. CodeGoes image d.walk new p p' (Ok false)) (old.first (ap phase_looks c.in-Code.is)) (subst (λ b. CodeGoes (sized (fields_of old.image.header) old.image.height) d.walk new p p' (Ok b)) c.in-Ok-false-row_before_marker.field-0-test (c.in-Ok-false-row_before_marker.ensures.goes here c.min-rows.ensures unread)) in
+    let goes = at_first (λ image. CodeGoes image d.walk new p p' (Ok false)) (old.first (ap phase_looks c.in-Code.is)) (subst (λ b. CodeGoes (sized (fields_of old.image.header) old.image.height) d.walk new p p' (Ok b)) c.in-Ok-false-row_before_marker.field-0-test (c.in-Ok-false-row_before_marker.ensures.goes unread)) in
     leaves_of (ap (λ z. phase_lent old z c.args.lent.now) (sym c.in-Code.is))
     (rw c.start-in-Ok-false-row_before_marker.ensures
     (leaves_on c.args.is_all d _ p p' refl refl (λ text out s.
@@ -125,14 +123,13 @@ returns-in-Ok-false-row_before_marker-clause-leaves c =
 pub returns-in-Err-row_before_marker-clause-leaves : goal.returns-in-Err-row_before_marker-clause-leaves
 returns-in-Err-row_before_marker-clause-leaves c =
     let old = c.args.self.now in
-    let here : StripeAt = record { entities = old.course.entities; left = old.course.left; given = old.course.given } in
     let d = phase_lent old (phase.Code c.in-Code.code) c.args.lent.now in
     let p = c.args.piece.now.rest.now in
     let p' = c.row_before_marker.new.piece.rest.now in
     let fault = c.in-Err-row_before_marker.fault in
     let outcome = c.outcome_of-in-Err-row_before_marker in
-    let new = code_lent here c.row_before_marker.new.self c.row_before_marker.new.kept c.row_before_marker.new.decoder c.row_before_marker.new.lent in
-    let goes = at_first (λ image. CodeGoes image d.walk new p p' (Err fault)) (old.first (ap phase_looks c.in-Code.is)) (c.in-Err-row_before_marker.ensures.goes here c.min-rows.ensures (c.end_marker.ensures.none (none_of_some c.end_marker.result (search rules)))) in
+    let new = code_lent c.row_before_marker.new.course c.row_before_marker.new.self c.row_before_marker.new.lent in
+    let goes = at_first (λ image. CodeGoes image d.walk new p p' (Err fault)) (old.first (ap phase_looks c.in-Code.is)) (c.in-Err-row_before_marker.ensures.goes (c.end_marker.ensures.none (none_of_some c.end_marker.result (search rules)))) in
     leaves_of (ap (λ z. phase_lent old z c.args.lent.now) (sym c.in-Code.is))
     (leaves_stop c.args.is_all d _ p p' fault outcome.result
     (record { more = outcome.ensures.more; broken = outcome.ensures.broken; row = outcome.ensures.row; done = outcome.ensures.done }) refl refl refl

@@ -6,7 +6,7 @@ use Rattle.t85_core.proofs.Decodings.PieceWalk.{row_entered}
 use Rattle.t85_core.proofs.pieces.code.InCode.enter_row.Goals as goal
 
 pub returns-clause-enters : goal.returns-clause-enters
-returns-clause-enters c = λ h height s d place learned text out none wants start within w.
+returns-clause-enters c = λ h height course place learned text out none wants start within w.
     let k = at_stage (ap code_kind none) w in
     record {
       left_is = w.left_is;

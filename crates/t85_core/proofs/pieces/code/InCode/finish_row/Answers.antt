@@ -31,11 +31,11 @@ same_fault : (f g : Fault) → ◌≡◌ {A = Result Bool Fault} (Err f) (Err g)
 same_fault f g e = cc
 
 pub returns-in-Ok-true-clause-step : goal.returns-in-Ok-true-clause-step
-returns-in-Ok-true-clause-step g c = λ s. record {
+returns-in-Ok-true-clause-step g c = record {
   row = λ _ text out w.
       let shape : IsShapeOf (fields_of c.args.image.now.header) c.shape-shape.result = record { width_is = c.shape-shape.ensures.width; mode_is = c.shape-shape.ensures.mode } in
       let k = at_stage refl (resumed c.resume.new.self refl (λ going. c.resume.ensures.unchanged (ap has_stopped c.replace-local.ensures.value ∙ going) ∙ c.replace-local.ensures.value) w) in
-      let m = subst (λ z. EndsRow c.args.row.waits z (row_state_at (carried_by c.args.lent.now.window.now c.args.kept.now c.args.lent.now.learned.now) c.resume.new.self c.args.row.place c.args.self.now.first c.args.self.now.marker c.args.piece.now.rest.now) (row_state c.go_on_in_row-went.new.lent c.go_on_in_row-went.new.kept c.go_on_in_row-went.new.decoder c.go_on_in_row-went.new.place c.go_on_in_row-went.new.code)) (in_row_shape k c.shape-shape.result shape) (c.in-Ok-true.ensures.row (ap Ok c.in-Ok-true.field-0-test)) (fields_of c.args.image.now.header) k.head.stripes.next k.head.passed.segments c.args.self.now.row k.began out k.code k.begun k.code_is in (
+      let m = subst (λ z. EndsRow c.args.row.waits z (row_state_at (carried_by c.args.lent.now.window.now c.args.course.now.kept c.args.lent.now.learned.now) c.resume.new.self c.args.row.place c.args.self.now.first c.args.self.now.marker c.args.piece.now.rest.now) (row_state c.go_on_in_row-went.new.lent c.go_on_in_row-went.new.kept c.go_on_in_row-went.new.decoder c.go_on_in_row-went.new.place c.go_on_in_row-went.new.code)) (in_row_shape k c.shape-shape.result shape) (c.in-Ok-true.ensures.row (ap Ok c.in-Ok-true.field-0-test)) (fields_of c.args.image.now.header) k.head.stripes.next k.head.passed.segments c.args.self.now.row k.began out k.code k.begun k.code_is in (
         m.0.given,
         m.0.taken,
         record {
@@ -53,10 +53,10 @@ returns-in-Ok-true-clause-step g c = λ s. record {
 }
 
 pub returns-in-Ok-true-clause-leaves : goal.returns-in-Ok-true-clause-leaves
-returns-in-Ok-true-clause-leaves g c = λ s some.
+returns-in-Ok-true-clause-leaves g c = λ some.
     let shape : IsShapeOf (fields_of c.args.image.now.header) c.shape-shape.result = record { width_is = c.shape-shape.ensures.width; mode_is = c.shape-shape.ensures.mode } in
     let k = at_stage refl (resumed c.resume.new.self refl (λ going. c.resume.ensures.unchanged (ap has_stopped c.replace-local.ensures.value ∙ going) ∙ c.replace-local.ensures.value) some.2) in
-    let m = subst (λ z. EndsRow c.args.row.waits z (row_state_at (carried_by c.args.lent.now.window.now c.args.kept.now c.args.lent.now.learned.now) c.resume.new.self c.args.row.place c.args.self.now.first c.args.self.now.marker c.args.piece.now.rest.now) (row_state c.go_on_in_row-went.new.lent c.go_on_in_row-went.new.kept c.go_on_in_row-went.new.decoder c.go_on_in_row-went.new.place c.go_on_in_row-went.new.code)) (in_row_shape k c.shape-shape.result shape) (c.in-Ok-true.ensures.row (ap Ok c.in-Ok-true.field-0-test)) (fields_of c.args.image.now.header) k.head.stripes.next k.head.passed.segments c.args.self.now.row k.began some.1 k.code k.begun k.code_is in
+    let m = subst (λ z. EndsRow c.args.row.waits z (row_state_at (carried_by c.args.lent.now.window.now c.args.course.now.kept c.args.lent.now.learned.now) c.resume.new.self c.args.row.place c.args.self.now.first c.args.self.now.marker c.args.piece.now.rest.now) (row_state c.go_on_in_row-went.new.lent c.go_on_in_row-went.new.kept c.go_on_in_row-went.new.decoder c.go_on_in_row-went.new.place c.go_on_in_row-went.new.code)) (in_row_shape k c.shape-shape.result shape) (c.in-Ok-true.ensures.row (ap Ok c.in-Ok-true.field-0-test)) (fields_of c.args.image.now.header) k.head.stripes.next k.head.passed.segments c.args.self.now.row k.began some.1 k.code k.begun k.code_is in
     record {
       place = record { entities = refl; left = refl; given = refl; at = refl };
       row = λ _. (refl, refl);
@@ -69,13 +69,13 @@ returns-in-Ok-true-clause-leaves g c = λ s some.
     }
 
 pub returns-in-Ok-false-clause-step : goal.returns-in-Ok-false-clause-step
-returns-in-Ok-false-clause-step g c = λ s. record {
+returns-in-Ok-false-clause-step g c = record {
   row = λ e. absurd (let bot : ⊥ = cc in bot);
   marker = λ _ unread. (
     (λ text out w.
         let shape : IsShapeOf (fields_of c.args.image.now.header) c.shape-shape.result = record { width_is = c.shape-shape.ensures.width; mode_is = c.shape-shape.ensures.mode } in
         let k = at_stage refl (resumed c.resume.new.self refl (λ going. c.resume.ensures.unchanged (ap has_stopped c.replace-local.ensures.value ∙ going) ∙ c.replace-local.ensures.value) w) in
-        let m = subst (λ z. StopsInRow c.args.row.waits z (row_state_at (carried_by c.args.lent.now.window.now c.args.kept.now c.args.lent.now.learned.now) c.resume.new.self c.args.row.place c.args.self.now.first c.args.self.now.marker c.args.piece.now.rest.now) (row_state c.go_on_in_row-went.new.lent c.go_on_in_row-went.new.kept c.go_on_in_row-went.new.decoder c.go_on_in_row-went.new.place c.go_on_in_row-went.new.code)) (in_row_shape k c.shape-shape.result shape) (c.in-Ok-false.ensures.marker (ap Ok c.in-Ok-false.field-0-test)) (fields_of c.args.image.now.header) k.head.stripes.next k.head.passed.segments c.args.self.now.row k.began out k.code k.begun k.code_is in
+        let m = subst (λ z. StopsInRow c.args.row.waits z (row_state_at (carried_by c.args.lent.now.window.now c.args.course.now.kept c.args.lent.now.learned.now) c.resume.new.self c.args.row.place c.args.self.now.first c.args.self.now.marker c.args.piece.now.rest.now) (row_state c.go_on_in_row-went.new.lent c.go_on_in_row-went.new.kept c.go_on_in_row-went.new.decoder c.go_on_in_row-went.new.place c.go_on_in_row-went.new.code)) (in_row_shape k c.shape-shape.result shape) (c.in-Ok-false.ensures.marker (ap Ok c.in-Ok-false.field-0-test)) (fields_of c.args.image.now.header) k.head.stripes.next k.head.passed.segments c.args.self.now.row k.began out k.code k.begun k.code_is in
         let at = m.1 unread in
         on_same (fields_of c.args.image.now.header) c.args.image.now.height _ text out c.args.piece.now.rest.now c.go_on_in_row-went.new.code.piece.rest.now at.waits.given at.waits.taken (record {
           left_is = w.left_is;
@@ -88,7 +88,7 @@ returns-in-Ok-false-clause-step g c = λ s. record {
     (λ text out w.
         let shape : IsShapeOf (fields_of c.args.image.now.header) c.shape-shape.result = record { width_is = c.shape-shape.ensures.width; mode_is = c.shape-shape.ensures.mode } in
         let k = at_stage refl (resumed c.resume.new.self refl (λ going. c.resume.ensures.unchanged (ap has_stopped c.replace-local.ensures.value ∙ going) ∙ c.replace-local.ensures.value) w) in
-        let m = subst (λ z. StopsInRow c.args.row.waits z (row_state_at (carried_by c.args.lent.now.window.now c.args.kept.now c.args.lent.now.learned.now) c.resume.new.self c.args.row.place c.args.self.now.first c.args.self.now.marker c.args.piece.now.rest.now) (row_state c.go_on_in_row-went.new.lent c.go_on_in_row-went.new.kept c.go_on_in_row-went.new.decoder c.go_on_in_row-went.new.place c.go_on_in_row-went.new.code)) (in_row_shape k c.shape-shape.result shape) (c.in-Ok-false.ensures.marker (ap Ok c.in-Ok-false.field-0-test)) (fields_of c.args.image.now.header) k.head.stripes.next k.head.passed.segments c.args.self.now.row k.began out k.code k.begun k.code_is in
+        let m = subst (λ z. StopsInRow c.args.row.waits z (row_state_at (carried_by c.args.lent.now.window.now c.args.course.now.kept c.args.lent.now.learned.now) c.resume.new.self c.args.row.place c.args.self.now.first c.args.self.now.marker c.args.piece.now.rest.now) (row_state c.go_on_in_row-went.new.lent c.go_on_in_row-went.new.kept c.go_on_in_row-went.new.decoder c.go_on_in_row-went.new.place c.go_on_in_row-went.new.code)) (in_row_shape k c.shape-shape.result shape) (c.in-Ok-false.ensures.marker (ap Ok c.in-Ok-false.field-0-test)) (fields_of c.args.image.now.header) k.head.stripes.next k.head.passed.segments c.args.self.now.row k.began out k.code k.begun k.code_is in
         let at = m.1 unread in
         (at.waits.given, at.waits.taken, in_time_row k c.coder_laws.ensures (in_use c.args.image.now) at)),
   );
@@ -97,10 +97,10 @@ returns-in-Ok-false-clause-step g c = λ s. record {
 }
 
 pub returns-in-Ok-false-clause-leaves : goal.returns-in-Ok-false-clause-leaves
-returns-in-Ok-false-clause-leaves g c = λ s some.
+returns-in-Ok-false-clause-leaves g c = λ some.
     let shape : IsShapeOf (fields_of c.args.image.now.header) c.shape-shape.result = record { width_is = c.shape-shape.ensures.width; mode_is = c.shape-shape.ensures.mode } in
     let k = at_stage refl (resumed c.resume.new.self refl (λ going. c.resume.ensures.unchanged (ap has_stopped c.replace-local.ensures.value ∙ going) ∙ c.replace-local.ensures.value) some.2) in
-    let m = subst (λ z. StopsInRow c.args.row.waits z (row_state_at (carried_by c.args.lent.now.window.now c.args.kept.now c.args.lent.now.learned.now) c.resume.new.self c.args.row.place c.args.self.now.first c.args.self.now.marker c.args.piece.now.rest.now) (row_state c.go_on_in_row-went.new.lent c.go_on_in_row-went.new.kept c.go_on_in_row-went.new.decoder c.go_on_in_row-went.new.place c.go_on_in_row-went.new.code)) (in_row_shape k c.shape-shape.result shape) (c.in-Ok-false.ensures.marker (ap Ok c.in-Ok-false.field-0-test)) (fields_of c.args.image.now.header) k.head.stripes.next k.head.passed.segments c.args.self.now.row k.began some.1 k.code k.begun k.code_is in
+    let m = subst (λ z. StopsInRow c.args.row.waits z (row_state_at (carried_by c.args.lent.now.window.now c.args.course.now.kept c.args.lent.now.learned.now) c.resume.new.self c.args.row.place c.args.self.now.first c.args.self.now.marker c.args.piece.now.rest.now) (row_state c.go_on_in_row-went.new.lent c.go_on_in_row-went.new.kept c.go_on_in_row-went.new.decoder c.go_on_in_row-went.new.place c.go_on_in_row-went.new.code)) (in_row_shape k c.shape-shape.result shape) (c.in-Ok-false.ensures.marker (ap Ok c.in-Ok-false.field-0-test)) (fields_of c.args.image.now.header) k.head.stripes.next k.head.passed.segments c.args.self.now.row k.began some.1 k.code k.begun k.code_is in
     record {
       place = record { entities = refl; left = refl; given = refl; at = refl };
       row = λ e. absurd (false_not_true e);
@@ -113,20 +113,20 @@ returns-in-Ok-false-clause-leaves g c = λ s some.
     }
 
 pub returns-in-Err-clause-step : goal.returns-in-Err-clause-step
-returns-in-Err-clause-step g c = λ s. record {
+returns-in-Err-clause-step g c = record {
   row = λ e. absurd (not_ok _ _ e);
   marker = λ e. absurd (not_ok _ _ e);
   err = λ text out w.
       let shape : IsShapeOf (fields_of c.args.image.now.header) c.shape-shape.result = record { width_is = c.shape-shape.ensures.width; mode_is = c.shape-shape.ensures.mode } in
       let k = at_stage refl (resumed c.resume.new.self refl (λ going. c.resume.ensures.unchanged (ap has_stopped c.replace-local.ensures.value ∙ going) ∙ c.replace-local.ensures.value) w) in
       row_off k c.coder_laws.ensures (in_use c.args.image.now) c.args.piece.now.rest.now c.in-Err.fault
-      (subst (λ z. BreaksRow z (row_state_at (carried_by c.args.lent.now.window.now c.args.kept.now c.args.lent.now.learned.now) c.resume.new.self c.args.row.place c.args.self.now.first c.args.self.now.marker c.args.piece.now.rest.now) c.in-Err.fault) (in_row_shape k c.shape-shape.result shape) c.in-Err.ensures.err (fields_of c.args.image.now.header) k.head.stripes.next k.head.passed.segments c.args.self.now.row k.began out k.code k.begun k.code_is _ (let few = k.few in omega arith));
+      (subst (λ z. BreaksRow z (row_state_at (carried_by c.args.lent.now.window.now c.args.course.now.kept c.args.lent.now.learned.now) c.resume.new.self c.args.row.place c.args.self.now.first c.args.self.now.marker c.args.piece.now.rest.now) c.in-Err.fault) (in_row_shape k c.shape-shape.result shape) c.in-Err.ensures.err (fields_of c.args.image.now.header) k.head.stripes.next k.head.passed.segments c.args.self.now.row k.began out k.code k.begun k.code_is _ (let few = k.few in omega arith));
   more = λ e.
       let cut = same_fault _ _ e in (
         (λ text out w.
             let shape : IsShapeOf (fields_of c.args.image.now.header) c.shape-shape.result = record { width_is = c.shape-shape.ensures.width; mode_is = c.shape-shape.ensures.mode } in
             let k = at_stage refl (resumed c.resume.new.self refl (λ going. c.resume.ensures.unchanged (ap has_stopped c.replace-local.ensures.value ∙ going) ∙ c.replace-local.ensures.value) w) in
-            let m = subst (λ z. WaitsInRow z (row_state_at (carried_by c.args.lent.now.window.now c.args.kept.now c.args.lent.now.learned.now) c.resume.new.self c.args.row.place c.args.self.now.first c.args.self.now.marker c.args.piece.now.rest.now) (row_state c.go_on_in_row-went.new.lent c.go_on_in_row-went.new.kept c.go_on_in_row-went.new.decoder c.go_on_in_row-went.new.place c.go_on_in_row-went.new.code)) (in_row_shape k c.shape-shape.result shape) (c.in-Err.ensures.more (ap Err cut)) (fields_of c.args.image.now.header) k.head.stripes.next k.head.passed.segments c.args.self.now.row k.began out k.code k.begun k.code_is in
+            let m = subst (λ z. WaitsInRow z (row_state_at (carried_by c.args.lent.now.window.now c.args.course.now.kept c.args.lent.now.learned.now) c.resume.new.self c.args.row.place c.args.self.now.first c.args.self.now.marker c.args.piece.now.rest.now) (row_state c.go_on_in_row-went.new.lent c.go_on_in_row-went.new.kept c.go_on_in_row-went.new.decoder c.go_on_in_row-went.new.place c.go_on_in_row-went.new.code)) (in_row_shape k c.shape-shape.result shape) (c.in-Err.ensures.more (ap Err cut)) (fields_of c.args.image.now.header) k.head.stripes.next k.head.passed.segments c.args.self.now.row k.began out k.code k.begun k.code_is in
             on_same (fields_of c.args.image.now.header) c.args.image.now.height _ text out c.args.piece.now.rest.now c.go_on_in_row-went.new.code.piece.rest.now m.0.given m.0.taken (record {
               left_is = w.left_is;
               width_is = c.go_on_in_row-went.ensures.lent.2.0 ∙ w.width_is;
@@ -140,12 +140,12 @@ returns-in-Err-clause-step g c = λ s. record {
 }
 
 pub returns-in-Err-clause-leaves : goal.returns-in-Err-clause-leaves
-returns-in-Err-clause-leaves g c = λ s some.
+returns-in-Err-clause-leaves g c = λ some.
     let shape : IsShapeOf (fields_of c.args.image.now.header) c.shape-shape.result = record { width_is = c.shape-shape.ensures.width; mode_is = c.shape-shape.ensures.mode } in
     let k = at_stage refl (resumed c.resume.new.self refl (λ going. c.resume.ensures.unchanged (ap has_stopped c.replace-local.ensures.value ∙ going) ∙ c.replace-local.ensures.value) some.2) in
     let m =
-    subst (λ z. BreaksRow z (row_state_at (carried_by c.args.lent.now.window.now c.args.kept.now c.args.lent.now.learned.now) c.resume.new.self c.args.row.place c.args.self.now.first c.args.self.now.marker c.args.piece.now.rest.now) c.in-Err.fault) (in_row_shape k c.shape-shape.result shape) c.in-Err.ensures.err
-    (fields_of c.args.image.now.header) k.head.stripes.next k.head.passed.segments c.args.self.now.row k.began some.1 k.code k.begun k.code_is (rows_in (fields_of c.args.image.now.header) c.args.image.now.height s.entities) (let few = k.few in omega arith) in
+    subst (λ z. BreaksRow z (row_state_at (carried_by c.args.lent.now.window.now c.args.course.now.kept c.args.lent.now.learned.now) c.resume.new.self c.args.row.place c.args.self.now.first c.args.self.now.marker c.args.piece.now.rest.now) c.in-Err.fault) (in_row_shape k c.shape-shape.result shape) c.in-Err.ensures.err
+    (fields_of c.args.image.now.header) k.head.stripes.next k.head.passed.segments c.args.self.now.row k.began some.1 k.code k.begun k.code_is (rows_in (fields_of c.args.image.now.header) c.args.image.now.height c.args.course.now.entities) (let few = k.few in omega arith) in
     record {
       place = record { entities = refl; left = refl; given = refl; at = refl };
       row = λ e. absurd (not_ok _ _ e);
@@ -155,7 +155,7 @@ returns-in-Err-clause-leaves g c = λ s some.
       unmarked = λ waits unread e. absurd (not_ok _ _ e);
       unread = λ e.
           let cut = same_fault _ _ e in
-          let left = subst (λ z. WaitsInRow z (row_state_at (carried_by c.args.lent.now.window.now c.args.kept.now c.args.lent.now.learned.now) c.resume.new.self c.args.row.place c.args.self.now.first c.args.self.now.marker c.args.piece.now.rest.now) (row_state c.go_on_in_row-went.new.lent c.go_on_in_row-went.new.kept c.go_on_in_row-went.new.decoder c.go_on_in_row-went.new.place c.go_on_in_row-went.new.code)) (in_row_shape k c.shape-shape.result shape) (c.in-Err.ensures.more (ap Err cut)) (fields_of c.args.image.now.header) k.head.stripes.next k.head.passed.segments c.args.self.now.row k.began some.1 k.code k.begun k.code_is in
+          let left = subst (λ z. WaitsInRow z (row_state_at (carried_by c.args.lent.now.window.now c.args.course.now.kept c.args.lent.now.learned.now) c.resume.new.self c.args.row.place c.args.self.now.first c.args.self.now.marker c.args.piece.now.rest.now) (row_state c.go_on_in_row-went.new.lent c.go_on_in_row-went.new.kept c.go_on_in_row-went.new.decoder c.go_on_in_row-went.new.place c.go_on_in_row-went.new.code)) (in_row_shape k c.shape-shape.result shape) (c.in-Err.ensures.more (ap Err cut)) (fields_of c.args.image.now.header) k.head.stripes.next k.head.passed.segments c.args.self.now.row k.began some.1 k.code k.begun k.code_is in
           none_read left.1 left.2;
       other = λ e. never_changed (fields_of c.args.image.now.header) before_all m.breaks.rest (subst (RestFault m.breaks.rest) e m.breaks.broken);
     }

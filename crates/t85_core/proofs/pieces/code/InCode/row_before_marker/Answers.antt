@@ -1,4 +1,4 @@
-use Rattle.std.proofs.Common.{◌<◌, ◌≤◌, min, refl, subst, rules}
+use Rattle.std.proofs.Common.{◌≤◌, min, refl, arith}
 use Rattle.t85_core.specs.Options.{fields_of}
 use Rattle.t85_core.specs.Lent.{code_lent}
 use Rattle.t85_core.specs.Steps.RowTurns.{CodeGoes}
@@ -9,22 +9,21 @@ use Rattle.t85_core.proofs.Walks.InfoEnds.{exit_all}
 use Rattle.t85_core.proofs.Decodings.PieceTurns.{code_broke_off, code_ended, code_goes}
 use Rattle.t85_core.proofs.pieces.code.InCode.row_before_marker.Goals as goal
 
-pub returns-then-self-rows-clause-goes : goal.returns-then-self-rows-clause-goes
-returns-then-self-rows-clause-goes c = λ s rows unread.
-    let wants : c.args.self.now.row < min s.left c.args.image.now.header.l0 = subst (λ n. c.args.self.now.row < n) rows (search rules) in
-    code_goes unread (c.row_or_marker.ensures.step s wants) (c.row_or_marker.ensures.leaves s wants)
+pub returns-then-self-min-clause-goes : goal.returns-then-self-min-clause-goes
+returns-then-self-min-clause-goes c = λ unread.
+    code_goes unread c.row_or_marker.ensures.step c.row_or_marker.ensures.leaves
 
 pub returns-in_err-find_end-clause-goes : goal.returns-in_err-find_end-clause-goes
-returns-in_err-find_end-clause-goes c = λ s rows unread.
-    let all : min s.left c.args.image.now.header.l0 ≤ c.args.self.now.row = subst (λ n. n ≤ c.args.self.now.row) rows (search rules) in
+returns-in_err-find_end-clause-goes c = λ unread.
+    let all : min c.args.course.now.left c.args.image.now.header.l0 ≤ c.args.self.now.row = (let le = c.if-self-min.false in let least = c.min.ensures in omega (arith, le, least)) in
     let k = c.in_err-find_end.ensures in
-    exit_all (CodeGoes (sized (fields_of c.args.image.now.header) c.args.image.now.height) (code_lent s c.args.self.now c.args.kept.now c.args.decoder.now c.args.lent.now) (code_lent s c.find_end.new.self c.args.kept.now c.args.decoder.now c.args.lent.now) c.args.piece.now.rest.now c.find_end.new.piece.rest.now) c.from_residual.result c.from_residual.ensures.1
-    (code_broke_off _ (k.step s c.args.kept.now c.args.decoder.now (held c.args.lent.now.window.now) c.args.lent.now.learned.now all) (k.other s c.args.kept.now c.args.decoder.now (held c.args.lent.now.window.now) c.args.lent.now.learned.now all)
+    exit_all (CodeGoes (sized (fields_of c.args.image.now.header) c.args.image.now.height) (code_lent c.args.course.now c.args.self.now c.args.lent.now) (code_lent c.args.course.now c.find_end.new.self c.args.lent.now) c.args.piece.now.rest.now c.find_end.new.piece.rest.now) c.from_residual.result c.from_residual.ensures.1
+    (code_broke_off _ (k.step c.args.course.now (held c.args.lent.now.window.now) c.args.lent.now.learned.now all) (k.other c.args.course.now (held c.args.lent.now.window.now) c.args.lent.now.learned.now all)
     (record { entities = refl; left = refl; given = refl; at = k.same.0 }) (in_code_of c.find_end.new.self.begun) k.none.0 k.none.1)
 
 pub returns-clause-goes : goal.returns-clause-goes
-returns-clause-goes c = λ s rows unread.
-    let all : min s.left c.args.image.now.header.l0 ≤ c.args.self.now.row = subst (λ n. n ≤ c.args.self.now.row) rows (search rules) in
+returns-clause-goes c = λ unread.
+    let all : min c.args.course.now.left c.args.image.now.header.l0 ≤ c.args.self.now.row = (let le = c.if-self-min.false in let least = c.min.ensures in omega (arith, le, least)) in
     let k = c.in_ok-find_end.ensures in
-    code_ended _ (k.step s c.args.kept.now c.args.decoder.now (held c.args.lent.now.window.now) c.args.lent.now.learned.now all) (k.in_time unread s c.args.kept.now c.args.decoder.now (held c.args.lent.now.window.now) c.args.lent.now.learned.now all)
+    code_ended _ (k.step c.args.course.now (held c.args.lent.now.window.now) c.args.lent.now.learned.now all) (k.in_time unread c.args.course.now (held c.args.lent.now.window.now) c.args.lent.now.learned.now all)
     (record { entities = refl; left = refl; given = refl; at = k.same.0 }) (in_code_of c.find_end.new.self.begun) k.marked

@@ -1,7 +1,7 @@
-use Rattle.std.proofs.Common.{◌≤◌, ◌<◌, [], Err, min, ap, refl, sym, subst, ◌∙◌, arith}
+use Rattle.std.proofs.Common.{◌≤◌, [], Err, min, ap, refl, sym, subst, ◌∙◌, arith}
 use Rattle.raster_core.specs.Window.{held}
 use Rattle.t85_core.specs.Options.{fields_of}
-use Rattle.t85_core.specs.Lent.{StripeAt, code_lent, stage_lent}
+use Rattle.t85_core.specs.Lent.{code_lent, stage_lent}
 use Rattle.t85_core.specs.Stages.{stage_behind}
 use Rattle.t85_core.specs.declared.pieces.course.Stage.TheVariants as stage
 use Rattle.t85_core.specs.Steps.SizedImage.{sized}
@@ -38,45 +38,37 @@ returns-in_err-next-in-Head-clause-step c =
 
 pub returns-in_err-next_row-in-Code-clause-step : goal.returns-in_err-next_row-in-Code-clause-step
 returns-in_err-next_row-in-Code-clause-step c =
-    let here : StripeAt = record { entities = c.steps.self.entities; left = c.steps.self.left; given = c.steps.self.given } in
     let on = subst (λ z. StepsOn (sized (fields_of c.args.image.now.header) c.args.image.now.height) (stage_lent c.args.self.now c.args.stage.now c.args.lent.now) (stage_lent c.steps.self z c.steps.lent) c.args.piece.now.rest.now c.steps.piece.rest.now []) c.in-Code.is c.steps.invariant.so_far in
-    let wants : c.in-Code.code.row < min c.steps.self.left c.args.image.now.header.l0 = (let lt = c.if-code-min.true in let min_is = c.min.ensures in omega (arith, lt, min_is)) in
-    let step = c.in_err-next_row-in-Code.ensures.step here wants in
-    turn_exit (fields_of c.args.image.now.header) c.args.image.now.height (stage_lent c.args.self.now c.args.stage.now c.args.lent.now) (code_lent here c.next_row.new.self c.next_row.new.kept c.next_row.new.decoder c.next_row.new.lent) c.args.piece.now.rest.now c.next_row.new.piece.rest.now c.from_residual-in_err-next_row-in-Code.result _ c.from_residual-in_err-next_row-in-Code.ensures.1
-    (off_then (fields_of c.args.image.now.header) c.args.image.now.height (stage_lent c.args.self.now c.args.stage.now c.args.lent.now) (code_lent here c.in-Code.code c.steps.self.kept c.steps.self.decoder c.steps.lent) c.args.piece.now.rest.now c.steps.piece.rest.now on _ step.err)
-    (λ e. let m = step.more (ap Err e) in (on_then (fields_of c.args.image.now.header) c.args.image.now.height (stage_lent c.args.self.now c.args.stage.now c.args.lent.now) (code_lent here c.in-Code.code c.steps.self.kept c.steps.self.decoder c.steps.lent) c.args.piece.now.rest.now c.steps.piece.rest.now on (code_lent here c.next_row.new.self c.next_row.new.kept c.next_row.new.decoder c.next_row.new.lent) c.next_row.new.piece.rest.now [] m.0, m.1))
+    let step = c.in_err-next_row-in-Code.ensures.step in
+    turn_exit (fields_of c.args.image.now.header) c.args.image.now.height (stage_lent c.args.self.now c.args.stage.now c.args.lent.now) (code_lent c.next_row.new.course c.next_row.new.self c.next_row.new.lent) c.args.piece.now.rest.now c.next_row.new.piece.rest.now c.from_residual-in_err-next_row-in-Code.result _ c.from_residual-in_err-next_row-in-Code.ensures.1
+    (off_then (fields_of c.args.image.now.header) c.args.image.now.height (stage_lent c.args.self.now c.args.stage.now c.args.lent.now) (code_lent c.steps.self c.in-Code.code c.steps.lent) c.args.piece.now.rest.now c.steps.piece.rest.now on _ step.err)
+    (λ e. let m = step.more (ap Err e) in (on_then (fields_of c.args.image.now.header) c.args.image.now.height (stage_lent c.args.self.now c.args.stage.now c.args.lent.now) (code_lent c.steps.self c.in-Code.code c.steps.lent) c.args.piece.now.rest.now c.steps.piece.rest.now on (code_lent c.next_row.new.course c.next_row.new.self c.next_row.new.lent) c.next_row.new.piece.rest.now [] m.0, m.1))
 
 pub returns-then-code-min-clause-step : goal.returns-then-code-min-clause-step
 returns-then-code-min-clause-step c =
-    let here : StripeAt = record { entities = c.steps.self.entities; left = c.steps.self.left; given = c.steps.self.given } in
     let on = subst (λ z. StepsOn (sized (fields_of c.args.image.now.header) c.args.image.now.height) (stage_lent c.args.self.now c.args.stage.now c.args.lent.now) (stage_lent c.steps.self z c.steps.lent) c.args.piece.now.rest.now c.steps.piece.rest.now []) c.in-Code.is c.steps.invariant.so_far in
-    let wants : c.in-Code.code.row < min c.steps.self.left c.args.image.now.header.l0 = (let lt = c.if-code-min.true in let min_is = c.min.ensures in omega (arith, lt, min_is)) in
-    turn_row (fields_of c.args.image.now.header) c.args.image.now.height (stage_lent c.args.self.now c.args.stage.now c.args.lent.now) (code_lent here c.next_row.new.self c.next_row.new.kept c.next_row.new.decoder c.next_row.new.lent) c.args.piece.now.rest.now c.next_row.new.piece.rest.now
-    (on_then (fields_of c.args.image.now.header) c.args.image.now.height (stage_lent c.args.self.now c.args.stage.now c.args.lent.now) (code_lent here c.in-Code.code c.steps.self.kept c.steps.self.decoder c.steps.lent) c.args.piece.now.rest.now c.steps.piece.rest.now on (code_lent here c.next_row.new.self c.next_row.new.kept c.next_row.new.decoder c.next_row.new.lent) c.next_row.new.piece.rest.now (held c.next_row.new.lent.window.now).current (c.in_ok-next_row-in-Code.ensures.step here wants).ok)
+    turn_row (fields_of c.args.image.now.header) c.args.image.now.height (stage_lent c.args.self.now c.args.stage.now c.args.lent.now) (code_lent c.next_row.new.course c.next_row.new.self c.next_row.new.lent) c.args.piece.now.rest.now c.next_row.new.piece.rest.now
+    (on_then (fields_of c.args.image.now.header) c.args.image.now.height (stage_lent c.args.self.now c.args.stage.now c.args.lent.now) (code_lent c.steps.self c.in-Code.code c.steps.lent) c.args.piece.now.rest.now c.steps.piece.rest.now on (code_lent c.next_row.new.course c.next_row.new.self c.next_row.new.lent) c.next_row.new.piece.rest.now (held c.next_row.new.lent.window.now).current c.in_ok-next_row-in-Code.ensures.step.ok)
 
 pub returns-then-code-min-clause-code : goal.returns-then-code-min-clause-code
 returns-then-code-min-clause-code c = λ some _.
-    let here : StripeAt = record { entities = c.steps.self.entities; left = c.steps.self.left; given = c.steps.self.given } in
     let on = subst (λ z. StepsOn (sized (fields_of c.args.image.now.header) c.args.image.now.height) (stage_lent c.args.self.now c.args.stage.now c.args.lent.now) (stage_lent c.steps.self z c.steps.lent) c.args.piece.now.rest.now c.steps.piece.rest.now []) c.in-Code.is c.steps.invariant.so_far in
-    let wants : c.in-Code.code.row < min c.steps.self.left c.args.image.now.header.l0 = (let lt = c.if-code-min.true in let min_is = c.min.ensures in omega (arith, lt, min_is)) in
-    (c.in_ok-next_row-in-Code.ensures.leaves here wants (_, _, (on some.0 some.1 some.2).2)).row.1
+    (c.in_ok-next_row-in-Code.ensures.leaves (_, _, (on some.0 some.1 some.2).2)).row.1
 
 pub returns-in_err-reset-in-Code-clause-step : goal.returns-in_err-reset-in-Code-clause-step
 returns-in_err-reset-in-Code-clause-step c =
-    let here : StripeAt = record { entities = c.steps.self.entities; left = c.steps.self.left; given = c.steps.self.given } in
     let on = subst (λ z. StepsOn (sized (fields_of c.args.image.now.header) c.args.image.now.height) (stage_lent c.args.self.now c.args.stage.now c.args.lent.now) (stage_lent c.steps.self z c.steps.lent) c.args.piece.now.rest.now c.steps.piece.rest.now []) c.in-Code.is c.steps.invariant.so_far in
     let all : min c.steps.self.left c.args.image.now.header.l0 ≤ c.in-Code.code.row = (let le = c.if-code-min.false in let min_is = c.min.ensures in omega (arith, le, min_is)) in
-    let step = c.in_err-reset-in-Code.ensures.step here c.steps.self.kept c.steps.self.decoder (held c.steps.lent.window.now) c.steps.lent.learned.now all in
-    turn_exit (fields_of c.args.image.now.header) c.args.image.now.height (stage_lent c.args.self.now c.args.stage.now c.args.lent.now) (code_lent here c.find_end.new.self c.steps.self.kept c.steps.self.decoder c.steps.lent) c.args.piece.now.rest.now c.find_end.new.piece.rest.now c.from_residual-in_err-reset-in-Code.result _ c.from_residual-in_err-reset-in-Code.ensures.1
-    (off_then (fields_of c.args.image.now.header) c.args.image.now.height (stage_lent c.args.self.now c.args.stage.now c.args.lent.now) (code_lent here c.in-Code.code c.steps.self.kept c.steps.self.decoder c.steps.lent) c.args.piece.now.rest.now c.steps.piece.rest.now on _ step.err)
-    (λ e. let m = step.more (ap Err e) in (on_then (fields_of c.args.image.now.header) c.args.image.now.height (stage_lent c.args.self.now c.args.stage.now c.args.lent.now) (code_lent here c.in-Code.code c.steps.self.kept c.steps.self.decoder c.steps.lent) c.args.piece.now.rest.now c.steps.piece.rest.now on (code_lent here c.find_end.new.self c.steps.self.kept c.steps.self.decoder c.steps.lent) c.find_end.new.piece.rest.now [] m.0, m.1))
+    let step = c.in_err-reset-in-Code.ensures.step c.steps.self (held c.steps.lent.window.now) c.steps.lent.learned.now all in
+    turn_exit (fields_of c.args.image.now.header) c.args.image.now.height (stage_lent c.args.self.now c.args.stage.now c.args.lent.now) (code_lent c.steps.self c.find_end.new.self c.steps.lent) c.args.piece.now.rest.now c.find_end.new.piece.rest.now c.from_residual-in_err-reset-in-Code.result _ c.from_residual-in_err-reset-in-Code.ensures.1
+    (off_then (fields_of c.args.image.now.header) c.args.image.now.height (stage_lent c.args.self.now c.args.stage.now c.args.lent.now) (code_lent c.steps.self c.in-Code.code c.steps.lent) c.args.piece.now.rest.now c.steps.piece.rest.now on _ step.err)
+    (λ e. let m = step.more (ap Err e) in (on_then (fields_of c.args.image.now.header) c.args.image.now.height (stage_lent c.args.self.now c.args.stage.now c.args.lent.now) (code_lent c.steps.self c.in-Code.code c.steps.lent) c.args.piece.now.rest.now c.steps.piece.rest.now on (code_lent c.steps.self c.find_end.new.self c.steps.lent) c.find_end.new.piece.rest.now [] m.0, m.1))
 
 pub steps-preserved : goal.steps-preserved
 steps-preserved c =
-    let here : StripeAt = record { entities = c.steps.self.entities; left = c.steps.self.left; given = c.steps.self.given } in
     let on = subst (λ z. StepsOn (sized (fields_of c.args.image.now.header) c.args.image.now.height) (stage_lent c.args.self.now c.args.stage.now c.args.lent.now) (stage_lent c.steps.self z c.steps.lent) c.args.piece.now.rest.now c.steps.piece.rest.now []) c.in-Code.is c.steps.invariant.so_far in
     let all : min c.steps.self.left c.args.image.now.header.l0 ≤ c.in-Code.code.row = (let le = c.if-code-min.false in let min_is = c.min.ensures in omega (arith, le, min_is)) in
-    let step = c.in_ok-reset-in-Code.ensures.step here c.steps.self.kept c.steps.self.decoder (held c.steps.lent.window.now) c.steps.lent.learned.now all in
+    let step = c.in_ok-reset-in-Code.ensures.step c.steps.self (held c.steps.lent.window.now) c.steps.lent.learned.now all in
     let row = c.in_ok-reset-in-Code.ensures.same.1 in
     let now = c.end_stripe-follows.ensures.lent in
     let was = c.steps.invariant.lends in
@@ -86,8 +78,8 @@ steps-preserved c =
       counts = λ e. ended_counts (sized (fields_of c.args.image.now.header) c.args.image.now.height) c.end_stripe-follows.result c.end_stripe-follows.ensures.counts (c.steps.invariant.counts e);
       so_far =
           subst (λ z. StepsOn (sized (fields_of c.args.image.now.header) c.args.image.now.height) (stage_lent c.args.self.now c.args.stage.now c.args.lent.now) (stage_lent c.end_stripe-follows.new.self z c.end_stripe-follows.new.lent) c.args.piece.now.rest.now c.find_end.new.piece.rest.now []) (sym c.behind.ensures)
-          (on_then (fields_of c.args.image.now.header) c.args.image.now.height (stage_lent c.args.self.now c.args.stage.now c.args.lent.now) (code_lent here c.find_end.new.self c.steps.self.kept c.steps.self.decoder c.steps.lent) c.args.piece.now.rest.now c.find_end.new.piece.rest.now
-          (on_then (fields_of c.args.image.now.header) c.args.image.now.height (stage_lent c.args.self.now c.args.stage.now c.args.lent.now) (code_lent here c.in-Code.code c.steps.self.kept c.steps.self.decoder c.steps.lent) c.args.piece.now.rest.now c.steps.piece.rest.now on (code_lent here c.find_end.new.self c.steps.self.kept c.steps.self.decoder c.steps.lent) c.find_end.new.piece.rest.now [] step.ok)
+          (on_then (fields_of c.args.image.now.header) c.args.image.now.height (stage_lent c.args.self.now c.args.stage.now c.args.lent.now) (code_lent c.steps.self c.find_end.new.self c.steps.lent) c.args.piece.now.rest.now c.find_end.new.piece.rest.now
+          (on_then (fields_of c.args.image.now.header) c.args.image.now.height (stage_lent c.args.self.now c.args.stage.now c.args.lent.now) (code_lent c.steps.self c.in-Code.code c.steps.lent) c.args.piece.now.rest.now c.steps.piece.rest.now on (code_lent c.steps.self c.find_end.new.self c.steps.lent) c.find_end.new.piece.rest.now [] step.ok)
           (stage_lent c.end_stripe-follows.new.self (stage_behind c.end_stripe-follows.result) c.end_stripe-follows.new.lent) c.find_end.new.piece.rest.now [] (ends_on c.find_end.new.piece.rest.now (c.end_stripe-follows.ensures.ends c.find_end.new.self (in_code_of c.find_end.new.self.begun) (subst (λ n. min c.steps.self.left c.args.image.now.header.l0 ≤ n) (sym row) all) c.in_ok-reset-in-Code.ensures.marked)));
     }
 
@@ -95,10 +87,10 @@ pub returns-in_err-next-in-Head-clause-counts : goal.returns-in_err-next-in-Head
 returns-in_err-next-in-Head-clause-counts c = counts_then (sized (fields_of c.args.image.now.header) c.args.image.now.height) c.args.self.now c.steps.self c.read_head.new.self c.steps.invariant.counts (counts_kept (sized (fields_of c.args.image.now.header) c.args.image.now.height) c.steps.self c.read_head.new.self c.read_head.ensures.counts)
 
 pub returns-in_err-next_row-in-Code-clause-counts : goal.returns-in_err-next_row-in-Code-clause-counts
-returns-in_err-next_row-in-Code-clause-counts c = c.steps.invariant.counts
+returns-in_err-next_row-in-Code-clause-counts c = counts_then (sized (fields_of c.args.image.now.header) c.args.image.now.height) c.args.self.now c.steps.self c.next_row.new.course c.steps.invariant.counts (counts_kept (sized (fields_of c.args.image.now.header) c.args.image.now.height) c.steps.self c.next_row.new.course c.next_row.ensures.stripe)
 
 pub returns-then-code-min-clause-counts : goal.returns-then-code-min-clause-counts
-returns-then-code-min-clause-counts c = c.steps.invariant.counts
+returns-then-code-min-clause-counts c = counts_then (sized (fields_of c.args.image.now.header) c.args.image.now.height) c.args.self.now c.steps.self c.next_row.new.course c.steps.invariant.counts (counts_kept (sized (fields_of c.args.image.now.header) c.args.image.now.height) c.steps.self c.next_row.new.course c.next_row.ensures.stripe)
 
 pub returns-in_err-reset-in-Code-clause-counts : goal.returns-in_err-reset-in-Code-clause-counts
 returns-in_err-reset-in-Code-clause-counts c = c.steps.invariant.counts
