@@ -241,7 +241,7 @@ fn misuse_of_a_decoder_is_told(rt: HostRuntime) {
 }
 
 /// The number of ways in which `spoil` changes a struct.
-const WAYS: u32 = 21;
+const WAYS: u32 = 24;
 
 /// Changes a struct among the rows of a stream to one that no call leaves; there are several ways.
 fn spoil(decoder: &mut T85Decoder, way: u32) {
@@ -277,6 +277,12 @@ fn spoil(decoder: &mut T85Decoder, way: u32) {
         18 => numbers.entities = 1,
         19 => numbers.left = 0,
         20 => numbers.left = 8,
+        21 => numbers.stage.next = 1,
+        22 => {
+            numbers.stage.next = 0;
+            numbers.stage.at.is_there = 1;
+        }
+        23 => numbers.stage.next = 4,
         _ => {}
     }
 }
