@@ -25,7 +25,7 @@ use Rattle.t85_core.specs.Steps.Segments.{HasPassed, segments_so_far}
 use Rattle.t85_core.specs.Steps.PieceCode.{CodeText}
 use Rattle.t85_core.specs.Steps.Pieces.{HeadStands, IsInCode, HasMarker, CodeStands, InRowStands, head_place, code_place}
 use Rattle.t85_core.specs.Steps.SizedImage.{sized}
-use Rattle.t85_core.specs.Steps.PieceStands.{DecoderStands, HeightKnown, CodeWalks, WalkWaits, IsAtMarker, entities_behind, is_last, place_behind, last_behind}
+use Rattle.t85_core.specs.Steps.PieceStands.{DecoderStands, HeightKnown, CodeWalks, WalkWaits, IsAtMarker, entities_behind, is_last, place_behind, last_behind, place_at}
 use Rattle.t85_core.specs.Steps.Behind.{BehindStands, behind_at}
 use Rattle.t85_core.proofs.Bytes.Lengths.{lengths_append, gives_none, valid_in_use, valid_over}
 use Rattle.t85_core.proofs.Bytes.Lists.{All-append, flat_map_push}
@@ -40,7 +40,7 @@ use Rattle.t85_core.proofs.Decodings.PieceGiven.{height_known}
 use Rattle.t85_core.proofs.Decodings.PieceHeights.{stripes_of, at_height}
 use Rattle.t85_core.proofs.Decodings.PieceLook.{only_comments, comments_behind}
 use Rattle.t85_core.proofs.Decodings.PieceSteps.{nil_of, some_row, at_stage}
-use Rattle.t85_core.proofs.Decodings.PieceStood.{own_height, place_at, code_of, waits_of, head_segments, in_code_entities}
+use Rattle.t85_core.proofs.Decodings.PieceStood.{own_height, code_of, waits_of, head_segments, in_code_entities}
 
 -- ---- the code of a stripe that has begun
 

@@ -28,7 +28,7 @@ use Rattle.t85_core.specs.Steps.HeightWalk.{LookEnds}
 use Rattle.t85_core.specs.Steps.Behind.{BehindStands, BehindOn, BreaksBehind, StopsBehind, move_came, behind_at}
 use Rattle.t85_core.specs.Steps.Pieces.{HeadStands, WalkStands, IsInCode, CodeStands, InRowStands, head_place, code_place}
 use Rattle.t85_core.specs.Steps.SizedImage.{sized}
-use Rattle.t85_core.specs.Steps.PieceStands.{DecoderStands, HeightKnown, WalkWaits, IsAtMarker, place_behind, last_behind, entities_behind, is_last}
+use Rattle.t85_core.specs.Steps.PieceStands.{DecoderStands, HeightKnown, WalkWaits, IsAtMarker, place_behind, last_behind, entities_behind, is_last, place_at}
 use Rattle.t85_core.specs.Steps.PieceSteps.{SomeStand, DecoderOn, EndsConsumed, EndsWhole, HeadEntered, HeightComes}
 use Rattle.t85_core.proofs.Bytes.Lengths.{valid_over}
 use Rattle.t85_core.proofs.Grammar.Heights.{one_height_of}
@@ -40,7 +40,7 @@ use Rattle.t85_core.proofs.Decodings.PieceSteps.{at_stage, put_stage, nil_of}
 use Rattle.t85_core.proofs.Decodings.PieceHeights.{at_height, head_raised}
 use Rattle.t85_core.proofs.Decodings.PieceBehind.{front_is, part_of}
 use Rattle.t85_core.proofs.Decodings.PieceLate.{RowsHeld, code_held, in_row_held, late_consumes, late_denotes, late_out, late_gives}
-use Rattle.t85_core.proofs.Decodings.PieceStood.{own_height, place_at, waits_of, put_walks, put_waits, known_more, in_code_entities, in_code_last, marker_of}
+use Rattle.t85_core.proofs.Decodings.PieceStood.{own_height, waits_of, put_walks, put_waits, known_more, in_code_entities, in_code_last, marker_of}
 
 -- segments without a move and a height are comments
 pub only_comments : (segments : List Segment) → count_by is_move segments ≡ 0 → lengths segments ≡ [] → AllByRecursion (λ s. IsTrue (is_comment s)) segments

@@ -15,7 +15,7 @@ use Rattle.t85_core.specs.Lent.{PieceView}
 use Rattle.t85_core.specs.Pieces.{AwaitsHeight, HoldsFixedRows, stripes_ended}
 use Rattle.t85_core.specs.Steps.Behind.{BehindStands, BreaksBehind, StopsBehind, behind_at, move_came}
 use Rattle.t85_core.specs.Steps.Pieces.{HeadStands, IsInCode, HasMarker, head_place}
-use Rattle.t85_core.specs.Steps.PieceStands.{DecoderStands, WalkWaits, IsAtMarker, place_behind, last_behind, entities_behind, is_last}
+use Rattle.t85_core.specs.Steps.PieceStands.{DecoderStands, WalkWaits, IsAtMarker, place_behind, last_behind, entities_behind, is_last, place_at}
 use Rattle.t85_core.specs.Steps.PieceSteps.{StaysOpen}
 use Rattle.t85_core.specs.Steps.Segments.{HasPassed, segments_so_far}
 use Rattle.t85_core.specs.Steps.SizedImage.{sized}
@@ -27,7 +27,7 @@ use Rattle.t85_core.proofs.Decodings.PieceCertain.{CodeBegins, StripesCame, begi
 use Rattle.t85_core.proofs.Decodings.PieceInTime.{fixed_rows}
 use Rattle.t85_core.proofs.Decodings.PieceLook.{comments_behind}
 use Rattle.t85_core.proofs.Decodings.PieceSteps.{nil_of, next_stripe, last_stripe}
-use Rattle.t85_core.proofs.Decodings.PieceStood.{own_height, place_at, waits_of, head_segments, in_code_entities, in_code_last}
+use Rattle.t85_core.proofs.Decodings.PieceStood.{own_height, waits_of, head_segments, in_code_entities, in_code_last}
 
 -- the rest of a stripe's segments is cut off
 abbrev IsCut : Fields → ℕ → ℕ → List ℕ → Type 0

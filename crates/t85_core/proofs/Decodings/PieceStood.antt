@@ -44,7 +44,7 @@ use Rattle.t85_core.specs.Steps.Pieces.{HeadStands, CommentStands, IsFirstWalk, 
 use Rattle.t85_core.specs.Steps.RowTurns.{RowStep, RowLeaves}
 use Rattle.t85_core.specs.Steps.StripeEnds.{StripeEnds}
 use Rattle.t85_core.specs.Steps.SizedImage.{SizedImage, sized}
-use Rattle.t85_core.specs.Steps.PieceStands.{DecoderStands, HeightKnown, StandsAs, CodeWalks, WalkWaits, IsAtMarker, entities_behind, is_last, place_behind, last_behind}
+use Rattle.t85_core.specs.Steps.PieceStands.{DecoderStands, HeightKnown, StandsAs, CodeWalks, WalkWaits, IsAtMarker, entities_behind, is_last, place_at, place_behind, last_behind}
 use Rattle.t85_core.specs.Steps.PieceSteps.{SomeStand, DecoderOn, EndsConsumed, EndsWhole, EndsBroken, NoHeightBelow, StaysOpen, StepLeaves, KeepsDecoder, StripeLeft, StripeClosed, HeadEntered, steps_left}
 use Rattle.t85_core.proofs.Decodings.ImagePut.{in_use}
 use Rattle.t85_core.proofs.Decodings.PieceBehind.{behind_first, front_is, part_of}
@@ -193,10 +193,6 @@ in_code_entities s e (inr k) = ap (λ z. entities_behind z e) k
 pub in_code_last : (s : Kind) (b : Bool) → IsInCode s → is_last s b ≡ b
 in_code_last s b (inl k) = ap (λ z. is_last z b) k
 in_code_last s b (inr k) = ap (λ z. is_last z b) k
-
--- the place there
-abbrev pub place_at : ℕ → ℕ → Place
-place_at height entities = record { height = height; entities = entities; given = false }
 
 pub not_head : (s : Kind) → s ≡ stage.Head → IsInCode s → ⊥
 not_head s e (inl k) = let z : stage.Head ≡ stage.Code = sym e ∙ k in cc

@@ -36,8 +36,12 @@ is_last stage.Code no_more = no_more
 is_last stage.Row no_more = no_more
 is_last stage.Done no_more = true
 
+-- the position behind this many, before a height
+abbrev pub place_at : (height entities : ℕ) → Place
+place_at height entities = record { height = height; entities = entities; given = false }
+
 abbrev pub place_behind : Fields → Kind → ℕ → Place
-place_behind h s entities = record { height = h.yd; entities = entities_behind s entities; given = false }
+place_behind h s entities = place_at h.yd (entities_behind s entities)
 
 abbrev pub last_behind : Fields → Kind → ℕ → Bool
 last_behind h s left = is_last s (nat_le left h.l0)

@@ -25,6 +25,7 @@ impl PieceDecoder {
     ghost use Rattle.t85_core.specs.declared.pieces.phase.Phase.TheVariants as phase;
     ghost use Rattle.t85_core.specs.Options.{fields_of};
     ghost use Rattle.t85_core.specs.Steps.Behind.{StopsBehind, behind_at};
+    ghost use Rattle.t85_core.specs.Steps.PieceStands.{place_at};
     ghost use Rattle.t85_core.specs.Steps.Segments.{IsByteOrMarker, code_bytes};
     ghost use Rattle.t85_core.specs.Steps.PieceSteps.{is_last_of, place_after, GivesBelow, HeightComes, Lowers, SomeStand, StepLeaves};
 
@@ -121,12 +122,7 @@ impl PieceDecoder {
 
     /// The position of marker segments behind this many stripe data entities.
     fn place_of(&self, entities: u32) -> Place
-        ensures { result ≡ record {
-          height = self.now.image.header.yd;
-          entities = entities;
-          given =
-              false;
-        } }
+        ensures { result ≡ place_at self.now.image.header.yd entities }
     {
         Place {
             height: self.image.header.yd,

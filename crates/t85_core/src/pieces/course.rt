@@ -2,8 +2,6 @@
 
 ghost use Rattle.std.specs.Prelude.{◌≡◌, ◌≤◌, ◌<◌, ◌+◌, ◌^◌, false};
 
-mod counts;
-
 use crate::fault::Fault;
 use crate::header::SizedImage;
 use crate::laws::coder_laws;
@@ -58,15 +56,14 @@ pub struct Course {
 }
 
 impl Course {
-    ghost use Rattle.std.specs.Prelude.{◌≡◌, ◌≤◌, ◌<◌, [], ℕ, List, None, Ok, length, true, OnOk, ◌++◌};
+    ghost use Rattle.std.specs.Prelude.{◌≡◌, ◌≤◌, ◌<◌, ◌-◌, ◌*◌, [], ℕ, List, Ok, length, true, OnOk, nat_eq};
     ghost use Rattle.qm_core.specs.Place.{Estimate};
     ghost use Rattle.raster_core.specs.Packed.{Held};
-    ghost use Rattle.raster_core.specs.Window.{held, width_of};
+    ghost use Rattle.raster_core.specs.Window.{width_of};
     ghost use Rattle.t85_core.specs.Stages as kind;
     ghost use Rattle.t85_core.specs.declared.pieces.code.InCode.{InCode};
     ghost use Rattle.t85_core.specs.declared.pieces.course.Stage.TheVariants as stage_type;
     ghost use Rattle.t85_core.specs.Lent.{KeepsLent, stage_view, stage_lent as over};
-    ghost use Rattle.t85_core.specs.Steps.Buffers.{copies};
     ghost use Rattle.t85_core.specs.Steps.Pieces.{WalkStands, IsFirstWalk, CountsOn, EndsCount, KeepsStripes, SomeStands, Step, Turn};
     ghost use Rattle.t85_core.specs.Stages.{head_start, stage_behind, stage_read};
     ghost use Rattle.t85_core.specs.Steps.SizedImage.{sized_of};
@@ -193,5 +190,20 @@ impl Course {
         self.left -= image.header.l0;
         self.entities += 1;
         true
+    }
+
+    /// Whether its counts are those of this image.
+    #[inline(always)]
+    pub fn fits(&self, image: &SizedImage) -> bool
+        ensures { result ≡ nat_eq self.now.left (image.now.height - self.now.entities *
+            image.now.header.l0) }
+    {
+        let before = u64::from(self.entities) * u64::from(image.header.l0);
+        let height = u64::from(image.height);
+        if before < height {
+            u64::from(self.left) == height - before
+        } else {
+            self.left == 0
+        }
     }
 }

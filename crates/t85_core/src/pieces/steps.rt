@@ -82,7 +82,7 @@ impl PieceDecoder {
 }
 
 /// The outcome for an error: the end of the bytes is an error only if they are the last.
-pub(super) fn outcome_of(fault: Fault, is_all: bool) -> Outcome
+fn outcome_of(fault: Fault, is_all: bool) -> Outcome
     ensures more { result ≡ outcome.More → (fault ≡ Truncated) × (is_all ≡ false) }
     ensures broken { (f : Fault) → result ≡ outcome.Broken f → (f ≡ fault) × (f ≡ Truncated → is_all
         ≡ true) }
