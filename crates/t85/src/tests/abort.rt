@@ -1,7 +1,8 @@
 //! Tests of ending a stream that cannot be completed.
 
+use crate::tests::encoding::CODED;
 use crate::tests::rows::{Sent, begun, go_on, zeros};
-use crate::tests::{CODED, Coded, decode};
+use crate::tests::{Coded, decode};
 use crate::{T85Encoder, t85_encode_abort, t85_encode_rows_left};
 
 /// Aborts a stream, with an output buffer of this many bytes.
