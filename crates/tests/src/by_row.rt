@@ -3,7 +3,10 @@
 ghost use Rattle.std.specs.Prelude.{◌≡◌};
 ghost use Rattle.raster_core.specs.Window.{width_of};
 
-use crate::random::{Choices, Encoded, Image, Kinds, Random, add, encode_rows};
+mod announced;
+mod failing;
+
+use crate::random::{Choices, Encoded, Image, Kinds, Random, encode_rows};
 use pbm_core::trial::Drip;
 use pbm_core::{PbmFault, Size, row_bytes};
 use raster_core::{Window, window_bytes};
@@ -239,102 +242,5 @@ fn rows_give_the_stream(rt: HostRuntime) -> Result<(), Fail> {
         kinds.commented >= 1000 && kinds.lowered >= 1500,
         "{kinds:?}"
     );
-    Ok(())
-}
-
-/// An image that ends early, with an announced height, gives the stream of the image of exactly its rows.
-#[test]
-fn fewer_rows_give_the_stream(rt: HostRuntime) -> Result<(), Fail> {
-    let mut random = Random::new(2);
-    let mut kinds = Kinds::NONE;
-    for number in 0..3000u32 {
-        let mut case = Case::random(rt.alloc(), &mut random)?;
-        case.choices.announced = Some(random.height_from(case.height));
-        case.height = random.between(1, case.image.size.height);
-        let ran = case.run(rt.alloc(), 3, None)?;
-        assert!(rt; ran.encoded.answer == Ok(()), "case {number}");
-        assert!(rt; ran.end == End::Whole, "case {number}: {:?}", ran.end);
-        assert!(rt; ran.written == ran.encoded.bytes, "case {number}");
-        kinds.count(&ran.written)?;
-    }
-    assert!(rt; kinds.streams == 3000 && kinds.lowered >= 2500, "{kinds:?}");
-    Ok(())
-}
-
-/// The number of runs by their end.
-#[derive(Clone, Copy, Debug)]
-struct Ends {
-    head: u32,
-    row: u32,
-    end: u32,
-    whole: u32,
-}
-
-impl Ends {
-    fn count(&mut self, end: End) {
-        add(&mut self.head, end == End::HeadFails);
-        add(&mut self.row, end == End::RowFails);
-        add(&mut self.end, end == End::EndFails);
-        add(&mut self.whole, end == End::Whole);
-    }
-}
-
-/// If a write fails, exactly the bytes before it are written, and the encoder is closed.
-#[test]
-fn failing_writes(rt: HostRuntime) -> Result<(), Fail> {
-    let mut random = Random::new(3);
-    let mut ends = Ends {
-        head: 0,
-        row: 0,
-        end: 0,
-        whole: 0,
-    };
-    for number in 0..4000u32 {
-        let mut case = Case::random(rt.alloc(), &mut random)?;
-        if random.is_one_in(2) {
-            case.choices.announced = Some(random.height_from(case.height));
-        }
-        let whole = case.run(rt.alloc(), 1, None)?.encoded.bytes;
-        let stays = random.below(whole.len());
-        let ran = case.run(rt.alloc(), 1, Some((stays as u64).saturating_add(1)))?;
-        assert!(rt;
-            whole.as_slice().get(..stays) == Some(ran.written.as_slice()),
-            "case {number}"
-        );
-        assert!(rt;
-            !matches!(&ran.end, End::Wrong(_)),
-            "case {number}: {:?}",
-            ran.end
-        );
-        ends.count(ran.end);
-    }
-    assert!(rt;
-        ends.head >= 100 && ends.row >= 1000 && ends.end >= 100,
-        "{ends:?}"
-    );
-    assert_eq!(rt; ends.whole, 0);
-    Ok(())
-}
-
-/// An announced height below the image's is rejected, as by `encode`, and nothing is written.
-#[test]
-fn refuses_a_low_height(rt: HostRuntime) -> Result<(), Fail> {
-    let mut random = Random::new(4);
-    let mut low = 0;
-    for number in 0..500u32 {
-        let mut case = Case::random(rt.alloc(), &mut random)?;
-        case.choices.announced = Some(random.between(0, case.height.saturating_sub(1)));
-        let ran = case.run(rt.alloc(), 3, None)?;
-        assert!(rt;
-            ran.encoded.answer == Err(Fault::AnnouncedLow),
-            "case {number}"
-        );
-        assert!(rt;
-            ran.end == End::Low && ran.written.is_empty(),
-            "case {number}"
-        );
-        add(&mut low, true);
-    }
-    assert_eq!(rt; low, 500);
     Ok(())
 }

@@ -1,6 +1,7 @@
 //! Images through `jbgtopbm85`, with each device failing in turn.
 
 use crate::streams::STREAMS;
+use crate::streams::broken::BROKEN;
 use crate::trial::Bytes::{Hex, Image, Raw};
 use crate::trial::{Cut, Run, all_are_cut, all_stand};
 use std::test::Fail;
@@ -8,7 +9,8 @@ use std::test::Fail;
 /// Each stream gives its image, or the rows that it determines.
 #[test]
 fn writes_each_image(rt: HostRuntime) -> Result<(), Fail> {
-    all_stand(&rt, rt.alloc(), &STREAMS)
+    all_stand(&rt, rt.alloc(), &STREAMS)?;
+    all_stand(&rt, rt.alloc(), &BROKEN)
 }
 
 /// Images with as many rows as the limit, and with more: the latter are rejected before anything is written.

@@ -1,12 +1,11 @@
 //! Streams with variable height, which are read twice, and their encoding.
 
+mod announced;
+mod changed;
+
 use crate::trial::Bytes::{Hex, Image, Raw};
 use crate::trial::{Devices, Run, SMOOTH, Trial, all_stand, is_read_again, leaves, stands};
-use pbm_core::trial::{Drip, Pieces};
-use raster_core::{Window, window_bytes};
-use std::alloc::Global;
 use std::test::Fail;
-use t85_core::{Fault, Header, decode, to_pbm};
 
 /// A run of the decoder that reads its stream twice, and the number of bytes read the second time.
 struct Twice {
@@ -139,67 +138,6 @@ fn reads_again(rt: HostRuntime) -> Result<(), Fail> {
     Ok(())
 }
 
-/// Images encoded with an announced height, and the images that the reader decodes.
-static ANNOUNCED: [Run<'static>; 6] = [
-    Run {
-        words: &["pbmtojbg85", "-p", "0", "-Y", "5"],
-        input: Image("1 1", "80"),
-        reads: 8,
-        output: Hex("00000100 00000001 00000005 00000080 00 0000 20 C0 FF02 FF05 00000001 FF02"),
-        fault: None,
-    },
-    Run {
-        words: &["pbmtojbg85", "-p", "0", "-Y", "1"],
-        input: Image("1 1", "80"),
-        reads: 8,
-        output: Hex("00000100 00000001 00000001 00000080 00 0000 20 C0 FF02"),
-        fault: None,
-    },
-    Run {
-        words: &["pbmtojbg85", "-p", "0", "-s", "1", "-Y", "9"],
-        input: Image("1 2", "80 80"),
-        reads: 9,
-        output: Hex(
-            "00000100 00000001 00000009 00000001 00 0000 20 C0 FF02 C0 FF02 FF05 00000002 FF02",
-        ),
-        fault: None,
-    },
-    Run {
-        words: &["pbmtojbg85", "-p", "32", "-s", "128"],
-        input: Image("1 1", "80"),
-        reads: 8,
-        output: Hex("00000100 00000001 00000001 00000080 00 0000 20 C0 FF02"),
-        fault: None,
-    },
-    Run {
-        words: &["pbmtojbg85", "-p", "0", "-r", "-Y", "5"],
-        input: Image("1 1", "80"),
-        reads: 8,
-        output: Hex("00000100 00000001 00000005 00000080 00 0000 20 C0 FF03 FF05 00000001 FF03"),
-        fault: None,
-    },
-    Run {
-        words: &["pbmtojbg85", "-p", "32", "-Y", "5"],
-        input: Image("1 1", "80"),
-        reads: 8,
-        output: Hex("00000100 00000001 00000005 00000080 00 0000 20 C0 FF02 FF05 00000001 FF02"),
-        fault: None,
-    },
-];
-
-#[test]
-fn announces_heights(rt: HostRuntime) -> Result<(), Fail> {
-    all_stand(&rt, rt.alloc(), &ANNOUNCED)?;
-    for run in &ANNOUNCED {
-        assert!(rt;
-            stands(rt.alloc(), run.back(), Trial::Sizes)?,
-            "{:?}",
-            run.words
-        );
-    }
-    Ok(())
-}
-
 /// Runs that end before anything is written.
 static REFUSED: [Run<'static>; 2] = [
     // An announced height below the image's.
@@ -254,54 +192,4 @@ fn wants_a_second_reading(rt: HostRuntime) -> Result<(), Fail> {
     assert!(rt; leaves(rt.alloc(), ONCE, once)?);
     assert!(rt; stands(rt.alloc(), WITHIN, Trial::Sizes)?);
     Ok(())
-}
-
-/// The result and the number of bytes written if the second reading has other bytes.
-fn converts(alloc: Global, first: &[u8], second: &[u8]) -> (Result<(), Fault>, usize) {
-    let mut input = Pieces::new(first, 1, None);
-    let mut again = Some(Pieces::new(second, 1, None));
-    let mut held = [0; 64];
-    let mut output = Drip::new(&mut held, 1, None, false);
-    let answer = to_pbm(alloc, &mut input, &mut again, u32::MAX, &mut output);
-    (answer, output.written().len())
-}
-
-/// A header of 1 by 5 with variable height, and a stream of fixed height.
-const VARIABLE: [u8; 32] = [
-    0, 0, 1, 0, 0, 0, 0, 1, 0, 0, 0, 5, 0, 0, 0, 128, 0, 0, 0, 32, 0xC0, 0xFF, 2, 0xFF, 5, 0, 0, 0,
-    1, 0xFF, 2, 0,
-];
-
-const FIXED: [u8; 23] = [
-    0, 0, 1, 0, 0, 0, 0, 1, 0, 0, 0, 1, 0, 0, 0, 128, 0, 0, 0, 0, 0xC0, 0xFF, 2,
-];
-
-#[test]
-fn second_reading_has_another_header(rt: HostRuntime) {
-    assert!(rt; converts(rt.alloc(), &VARIABLE, &FIXED) == (Err(Fault::Changed), 0));
-}
-
-/// The result of `decode` for these bytes at this height, and the number of bytes written.
-fn decodes(alloc: Global, bytes: &[u8], height: u32) -> Result<(Result<(), Fault>, usize), Fault> {
-    let mut input = Pieces::new(bytes, 1, None);
-    let header = Header::read(&mut input)?;
-    if height == 0 || height > header.yd {
-        return Err(Fault::ZeroSize);
-    }
-    let mut rows = vec![in alloc; 0u8; window_bytes(header.xd)].map_err(|_| Fault::OutOfMemory)?;
-    let mut window = Window::over(rows.as_mut_slice(), header.xd);
-    let mut held = [0; 64];
-    let mut output = Drip::new(&mut held, 1, None, false);
-    let answer = decode(&header, height, &mut window, &mut input, &mut output);
-    Ok((answer, output.written().len()))
-}
-
-/// A new height of 3 before the first stripe, decoded at 5 rows.
-const OTHER: [u8; 26] = [
-    0, 0, 1, 0, 0, 0, 0, 1, 0, 0, 0, 5, 0, 0, 0, 128, 0, 0, 0, 32, 0xFF, 5, 0, 0, 0, 3,
-];
-
-#[test]
-fn second_reading_has_another_height(rt: HostRuntime) {
-    assert!(rt; decodes(rt.alloc(), &OTHER, 5) == Ok((Err(Fault::Changed), 7)));
 }

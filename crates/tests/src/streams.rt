@@ -1,9 +1,11 @@
 //! Streams and their results.
 
-use crate::trial::Bytes::{Hex, Image, Raw};
+pub mod broken;
+
+use crate::trial::Bytes::{Hex, Image};
 use crate::trial::Run;
 
-pub static STREAMS: [Run<'static>; 47] = [
+pub static STREAMS: [Run<'static>; 28] = [
     Run {
         words: &["jbgtopbm85"],
         input: Hex("00000100 00000008 00000001 00000080 00 0000 08 FF02"),
@@ -203,138 +205,5 @@ pub static STREAMS: [Run<'static>; 47] = [
         reads: 45,
         output: Image("8 3", "FF FF FF"),
         fault: None,
-    },
-    Run {
-        words: &["jbgtopbm85"],
-        input: Hex("00000100 00000008 00000001 00000080 00 0000 00 F0 00 00"),
-        reads: 24,
-        output: Image("8 1", "FF"),
-        fault: Some("input ends too early"),
-    },
-    Run {
-        words: &["jbgtopbm85"],
-        input: Hex("00000100 00000008 00000001 00000080 00 0000 00 F0"),
-        reads: 22,
-        output: Image("8 1", ""),
-        fault: Some("input ends too early"),
-    },
-    Run {
-        words: &["jbgtopbm85"],
-        input: Hex("00000100 00000001 00000001 00000080 00 0000 00 C0 FF"),
-        reads: 23,
-        output: Image("1 1", ""),
-        fault: Some("input ends too early"),
-    },
-    Run {
-        words: &["jbgtopbm85"],
-        input: Hex("00000100 00000008 00000002 00000080 00 0000 00 F0 00"),
-        reads: 23,
-        output: Image("8 2", ""),
-        fault: Some("input ends too early"),
-    },
-    Run {
-        words: &["jbgtopbm85"],
-        input: Hex("00000100 00000008 00000002 00000080 00 0000 00 F0 00 00"),
-        reads: 24,
-        output: Image("8 2", "FF"),
-        fault: Some("input ends too early"),
-    },
-    Run {
-        words: &["jbgtopbm85"],
-        input: Hex("00000100 00000008 00000002 00000080 00 0000 00 F0 00 00 00"),
-        reads: 25,
-        output: Image("8 2", "FF 32"),
-        fault: Some("input ends too early"),
-    },
-    Run {
-        words: &["jbgtopbm85"],
-        input: Hex("00000100 00000008 00000002 00000080 00 0000 00 F0 00 00 00 FF"),
-        reads: 26,
-        output: Image("8 2", "FF 32"),
-        fault: Some("input ends too early"),
-    },
-    Run {
-        words: &["jbgtopbm85"],
-        input: Hex("00000100 00000008 00000002 00000080 00 0000 00 F0 00 00 FF04"),
-        reads: 25,
-        output: Image("8 2", "FF"),
-        fault: Some("image was aborted"),
-    },
-    Run {
-        words: &["jbgtopbm85"],
-        input: Hex("00000100 00000008 00000002 00000080 00 0000 00 F0 00 00 FF05"),
-        reads: 25,
-        output: Image("8 2", "FF"),
-        fault: Some("unexpected escape code"),
-    },
-    Run {
-        words: &["jbgtopbm85"],
-        input: Hex("00000100 00000008 00000002 00000080 00 0000 00 FF06 00000080 0000"),
-        reads: 28,
-        output: Image("8 2", ""),
-        fault: Some("adaptive pixel move is not allowed"),
-    },
-    Run {
-        words: &["jbgtopbm85"],
-        input: Hex("00000100 00000008 00000002 00000080 00 0000 00 FF06 00000000 0001"),
-        reads: 28,
-        output: Image("8 2", ""),
-        fault: Some("adaptive pixel move is not allowed"),
-    },
-    Run {
-        words: &["jbgtopbm85"],
-        input: Hex("00000100 00000008 00000001 00000080 03 0000 00 FF06 00000000 0400 F0 FF02"),
-        reads: 28,
-        output: Image("8 1", ""),
-        fault: Some("adaptive pixel move is not allowed"),
-    },
-    Run {
-        words: &["jbgtopbm85"],
-        input: Hex("00000100 00000008 00000002 00000080 00 0000 00 FF06 00000000 0000 FF06"),
-        reads: 30,
-        output: Image("8 2", ""),
-        fault: Some("second adaptive pixel move in a stripe"),
-    },
-    Run {
-        words: &["jbgtopbm85"],
-        input: Hex("00000100 00000008 00000002 00000080 00 0000 00 FF07 00000005 68"),
-        reads: 28,
-        output: Image("8 2", ""),
-        fault: Some("input ends too early"),
-    },
-    Run {
-        words: &["jbgtopbm85"],
-        input: Hex("00000100 00000001 00000002 00000001 00 0000 08 E0 FF02 E0"),
-        reads: 25,
-        output: Image("1 2", "80"),
-        fault: Some("input ends too early"),
-    },
-    Run {
-        words: &["jbgtopbm85"],
-        input: Hex("00000100 00000001 00000001 00000080 00 0000 00 FF05 00000001 C0 FF02"),
-        reads: 22,
-        output: Image("1 1", ""),
-        fault: Some("new height is not allowed"),
-    },
-    Run {
-        words: &["jbgtopbm85"],
-        input: Hex("00000100 00000008 00000001 00000080 00 0000"),
-        reads: 20,
-        output: Raw(b""),
-        fault: Some("header is shorter than 20 bytes"),
-    },
-    Run {
-        words: &["jbgtopbm85"],
-        input: Hex("00000100 00100001 00000001 00000080 00 0000 00"),
-        reads: 20,
-        output: Raw(b""),
-        fault: Some("image is wider than 1048576"),
-    },
-    Run {
-        words: &["jbgtopbm85"],
-        input: Hex("01010201 00000000 00000000 00000000 00 0000 00"),
-        reads: 20,
-        output: Raw(b""),
-        fault: Some("reserved bits of the header are set"),
     },
 ];

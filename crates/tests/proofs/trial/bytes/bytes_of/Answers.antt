@@ -1,6 +1,6 @@
 use Rattle.std.proofs.Common.{rules}
 use Rattle.tests.proofs.Hex.{two}
-use Rattle.tests.proofs.trial.bytes_of.Goals as goal
+use Rattle.tests.proofs.trial.bytes.bytes_of.Goals as goal
 
 pub loop-c-preserved : goal.loop-c-preserved
 loop-c-preserved c =

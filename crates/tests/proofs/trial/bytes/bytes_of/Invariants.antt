@@ -1,5 +1,5 @@
 use Rattle.tests.proofs.Hex.{Pairs}
-use Rattle.tests.proofs.trial.bytes_of.Given as goal
+use Rattle.tests.proofs.trial.bytes.bytes_of.Given as goal
 
 abbrev pub invariant-loop-c : goal.invariant-loop-c
 invariant-loop-c l = Pairs l.hex l.bytes.items l.high l.c-iterator.rest.now
