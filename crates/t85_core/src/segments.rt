@@ -13,12 +13,15 @@ ghost use Rattle.t85_core.specs.Steps.Segments.{code_bytes, IsByteOrMarker, Piec
 
 mod atmove;
 mod length;
+mod markers;
 
 pub use self::atmove::Move;
+pub use self::markers::{ATMOVE, COMMENT, ESCAPE, NEWLEN, SDNORM, SDRST, STUFF};
 use crate::fault::Fault;
 use crate::header::Header;
 use crate::input_buffer::ByteSource;
 use crate::segments::length::read_length;
+use crate::segments::markers::ABORT;
 use byteorder::{BigEndian, ByteOrder};
 
 /// The start of a stripe, or the position of its next item: the current height, the number of stripe data entities
@@ -68,23 +71,6 @@ pub struct Segments {
     pub comments: u64,
     pub next: Next,
 }
-
-/// The byte with which marker segments and end markers begin.
-pub const ESCAPE: u8 = 0xff;
-
-pub const STUFF: u8 = 0;
-
-pub const SDNORM: u8 = 2;
-
-pub const SDRST: u8 = 3;
-
-const ABORT: u8 = 4;
-
-pub const NEWLEN: u8 = 5;
-
-pub const ATMOVE: u8 = 6;
-
-pub const COMMENT: u8 = 7;
 
 /// Reads marker segments of one stripe, up to a NEWLEN with a height that is not the current one, or up to the code.
 /// `moved_before` says whether there was an ATMOVE of the stripe before them.
