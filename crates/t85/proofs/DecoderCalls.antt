@@ -11,10 +11,10 @@ use Rattle.t85_core.specs.declared.pieces.numbers.PieceNumbers.{PieceNumbers}
 use Rattle.t85_core.specs.Header.{Fields, HeaderOf}
 use Rattle.t85_core.specs.Laws.{HeaderLaws}
 use Rattle.t85_core.specs.Lent.{decoder_view}
-use Rattle.t85_core.specs.Numbers.{ArePieceNumbers}
+use Rattle.t85_core.specs.Numbers.{ArePieceNumbers, StaysInImage}
 use Rattle.t85_core.specs.Options.{fields_of}
 use Rattle.t85_core.specs.Outcomes.{end_in}
-use Rattle.t85_core.specs.Pieces.{AreCertain, IsLeastHeight}
+use Rattle.t85_core.specs.Pieces.{AreCertain, HasDecoded, IsLeastHeight}
 use Rattle.t85.specs.Decoded.{window_bytes}
 use Rattle.t85.specs.Decoder.{Answers, BytesCall, DecoderIsNotBegun, GivesRowAt, HasNoDecoder, IsShort, LacksWindow, TellsCertain, bytes_of_call, bytes_call}
 use Rattle.t85.specs.DecoderLimit.{IsWithinLimit, StaysWithinLimit}
@@ -75,14 +75,16 @@ never_begun d h version next header some (inr (inr (inr (inl (rows, none))))) = 
 never_begun d h version next header some (inr (inr (inr (inr (rows, none))))) = some rows none
 
 -- a decoder was resumed
-pub one_resumed : (d : T85Decoder) (header : Header) (decoder : PieceDecoder) → d.place < 3 → HeaderOf d.header (fields_of header) → decoder.image.header ≡ header → ArePieceNumbers d.numbers decoder → HasNoDecoder d → ⊥
-one_resumed d header decoder place header_of same numbers (inl far) = omega (arith, place, far)
-one_resumed d header decoder place header_of same numbers (inr never) = never decoder (subst (λ h. HeaderOf d.header (fields_of h)) (sym same) header_of) numbers
+pub one_resumed : (d : T85Decoder) (header : Header) (decoder : PieceDecoder) → d.place < 3 → HeaderOf d.header (fields_of header) → decoder.image.header ≡ header → ArePieceNumbers d.numbers decoder → StaysInImage decoder → HasNoDecoder d → ⊥
+one_resumed d header decoder place header_of same numbers stays (inl far) = omega (arith, place, far)
+one_resumed d header decoder place header_of same numbers stays (inr never) = never decoder (subst (λ h. HeaderOf d.header (fields_of h)) (sym same) header_of) numbers stays
 
 -- none was
-pub none_resumed : HeaderLaws → (hold : Hold) (header : Header) → HeaderOf hold.decoder.header (fields_of header) → ((decoder : PieceDecoder) → fields_of decoder.image.header ≡ fields_of header → ArePieceNumbers hold.decoder.numbers decoder → ⊥) →
+pub none_resumed : HeaderLaws → (hold : Hold) (header : Header) → HeaderOf hold.decoder.header (fields_of header) →
+    ((decoder : PieceDecoder) (rows : Held) (learned : List Estimate) (text out : List ℕ) → HasDecoded (decoder_view decoder rows learned) text out → fields_of decoder.image.header ≡ fields_of header → ArePieceNumbers hold.decoder.numbers decoder → ⊥) →
     {stream out : List ℕ} → InRows hold stream out → ⊥
-none_resumed laws hold header header_of all k = all k.decoder (laws.one hold.decoder.header (fields_of k.decoder.image.header) (fields_of header) k.header_of header_of) k.numbers_are
+none_resumed laws hold header header_of all {out = out} k =
+    all k.decoder _ _ k.has.decoded out k.has.has (laws.one hold.decoder.header (fields_of k.decoder.image.header) (fields_of header) k.header_of header_of) k.numbers_are
 
 pub rows_next : (n : ℕ) → (n ≡ 1) ⊎ (n ≡ 2) → (n ≡ 1 → ⊥) → n ≡ 2
 rows_next n (inl one) not = absurd (not one)

@@ -10,7 +10,7 @@ use Rattle.t85_core.specs.Pieces.{AwaitsHeight, HandsOut, HoldsImage, IsLeastHei
 use Rattle.t85_core.specs.Consumed.{ConsumesImage}
 use Rattle.t85_core.specs.declared.pieces.More.{More}
 use Rattle.t85_core.specs.declared.pieces.PieceDecoder.{PieceDecoder}
-use Rattle.t85_core.specs.Numbers.{ArePieceNumbers}
+use Rattle.t85_core.specs.Numbers.{ArePieceNumbers, StaysInImage}
 use Rattle.t85.specs.Decoded.{window_bytes}
 use Rattle.t85.specs.declared.decoder.T85Decoder.{T85Decoder}
 use Rattle.t85.specs.declared.decoder.Answer.{Answer}
@@ -162,9 +162,9 @@ pub record Answers (Has : List ℕ → List ℕ → Type 0) (old new : Hold) (ca
   pub bound : call.taken ≤ length call.bytes
   pub tells : TellsAnswer Has old new call what
 
--- no decoder of the engine has the header and the numbers of the struct, or its rows have no place in the window
+-- No decoder of the engine that stays in its image has the header and the numbers of the struct, or its rows have no place in the window.
 abbrev pub HasNoDecoder : T85Decoder → Type 0
-HasNoDecoder d = (2 < d.place) ⊎ ((decoder : PieceDecoder) → HeaderOf d.header (fields_of decoder.image.header) → ArePieceNumbers d.numbers decoder → ⊥)
+HasNoDecoder d = (2 < d.place) ⊎ ((decoder : PieceDecoder) → HeaderOf d.header (fields_of decoder.image.header) → ArePieceNumbers d.numbers decoder → StaysInImage decoder → ⊥)
 
 -- No call leaves this struct: its version or its next event is unknown, its header is complete before it was read, or rejected, or its
 -- numbers are those of no decoder.

@@ -1,11 +1,13 @@
 -- A decoder in pieces, as plain numbers.
-use Rattle.std.specs.Prelude.{ℕ, ◌+◌, ◌≡◌, ◌==◌, not, Bool, true, false, Option, Some, None}
+use Rattle.std.specs.Prelude.{ℕ, ◌+◌, ◌<◌, ◌≤◌, ◌≡◌, ⊤, min, ◌==◌, not, Bool, true, false, Option, Some, None}
 use Rattle.std.specs.Int.{from_bool}
 use Rattle.std.specs.Option.{unwrap_or}
 use Rattle.qm_core.specs.Decoder.{decoder_registers, has_stopped}
 use Rattle.raster_core.specs.Row.{row_place_numbers}
 use Rattle.raster_core.specs.declared.place.RowPlace.{RowPlace}
 use Rattle.raster_core.specs.declared.place.RowPlaceNumbers.{RowPlaceNumbers}
+use Rattle.t85_core.specs.Header.{Fields}
+use Rattle.t85_core.specs.Options.{fields_of}
 use Rattle.t85_core.specs.Phases.{phase_behind, phase_is_open, phase_stage}
 use Rattle.t85_core.specs.declared.pieces.PieceDecoder.{PieceDecoder}
 use Rattle.t85_core.specs.declared.pieces.code.InCode.{InCode}
@@ -145,6 +147,20 @@ abbrev pub AreStageNumbers : StageNumbers → Stage → Type 0
 AreStageNumbers n (stage.Head head) = AreMoveNumbers n.at head.at × IsHeadNext n head.comment
 AreStageNumbers n (stage.Code c) = AreCodeNumbers n c
 AreStageNumbers n stage.Done = n.next ≡ 4
+
+-- So many rows of a stripe are decoded. A row that has begun is one that is left, with a pixel left.
+abbrev pub PlaceFits : Fields → (left row : ℕ) → Option RowPlace → Type 0
+PlaceFits h left row None = row ≤ min left h.l0
+PlaceFits h left row (Some place) = (row < min left h.l0) × (place.done < h.xd)
+
+abbrev pub StageFits : Fields → (left : ℕ) → Stage → Type 0
+StageFits h left (stage.Head head) = ⊤
+StageFits h left (stage.Code c) = PlaceFits h left c.row c.begun
+StageFits h left stage.Done = ⊤
+
+-- what a decoder has decoded is in its image
+abbrev pub StaysInImage : PieceDecoder → Type 0
+StaysInImage d = StageFits (fields_of d.image.header) d.course.left (phase_stage d.phase)
 
 -- whether a height may still arrive
 abbrev pub ArePhaseNumbers : PieceNumbers → Phase → Type 0

@@ -28,7 +28,7 @@ fn misuse_of_a_decoder_is_told(rt: HostRuntime) {
 }
 
 /// The number of ways in which `spoil` changes a struct.
-const WAYS: u32 = 24;
+const WAYS: u32 = 28;
 
 /// Changes a struct among the rows of a stream to one that no call leaves; there are several ways.
 fn spoil(decoder: &mut T85Decoder, way: u32) {
@@ -70,6 +70,23 @@ fn spoil(decoder: &mut T85Decoder, way: u32) {
             numbers.stage.at.is_there = 1;
         }
         23 => numbers.stage.next = 4,
+        24 => {
+            numbers.stage.next = 2;
+            numbers.stage.row = 2;
+        }
+        25 => {
+            numbers.stage.next = 3;
+            numbers.stage.row = 1;
+        }
+        26 => {
+            numbers.stage.next = 3;
+            numbers.stage.row = 0;
+            numbers.stage.place.done = 1;
+        }
+        27 => {
+            numbers.stage.next = 2;
+            numbers.stage.row = u32::MAX;
+        }
         _ => {}
     }
 }

@@ -1,6 +1,5 @@
 -- A walk whose numbers fit.
-use Rattle.std.proofs.Common.{◌≡◌, ◌<◌, ◌≤◌, ℕ, List, min, false, Option, None, Some, refl, sym, subst, arith}
-use Rattle.std.specs.Prelude.{IfSome}
+use Rattle.std.proofs.Common.{◌≡◌, ap, ◌<◌, ◌≤◌, ℕ, List, min, false, Option, None, Some, refl, sym, subst, arith}
 use Rattle.qm_core.specs.Decoder.{has_stopped}
 use Rattle.qm_core.specs.declared.decoder.Decoder.{Decoder}
 use Rattle.qm_core.specs.Place.{Estimate}
@@ -8,21 +7,33 @@ use Rattle.raster_core.specs.Packed.{Held}
 use Rattle.raster_core.specs.declared.place.RowPlace.{RowPlace}
 use Rattle.t85_core.specs.declared.pieces.code.InCode.{InCode}
 use Rattle.t85_core.specs.declared.pieces.course.Course.{Course}
-use Rattle.t85_core.specs.Lent.{WalkView, code_view}
+use Rattle.t85_core.specs.Lent.{WalkView, code_view, stage_view}
+use Rattle.t85_core.specs.Numbers.{PlaceFits, StageFits}
+use Rattle.t85_core.specs.declared.pieces.course.Stage.{Stage}
+use Rattle.t85_core.specs.declared.pieces.course.Stage.TheVariants as stage_type
 use Rattle.t85_core.specs.Stages.{place_from, code_kind}
 use Rattle.t85_core.specs.Stages as stage
 use Rattle.t85_core.specs.Header.{Fields}
-use Rattle.t85_core.specs.Steps.Pieces.{WalkStands, RowFits, CodeStands, InRowStands, rows_in, head_place, code_place}
+use Rattle.t85_core.specs.Steps.Pieces.{WalkStands, CodeStands, InRowStands, rows_in, head_place, code_place}
 use Rattle.t85_core.specs.Steps.SizedImage.{sized}
 use Rattle.t85_core.proofs.Decodings.PieceSteps.{at_stage}
 use Rattle.t85_core.proofs.Decodings.PieceWalk.{in_row_going}
 
--- a row can be decoded from where a code is
-pub fits_of : {h : Fields} {height : ℕ} (course : Course) {c : InCode} {rows : Held} {learned : List Estimate} {text out : List ℕ} → WalkStands (sized h height) (code_view course c rows learned) text out → RowFits h.xd c rows
-fits_of {h} course {c = c} s = record { width_is = s.width_is; within = place_within c.begun s.within } where
-  place_within : (begun : Option RowPlace) → (place_from begun).done < h.xd → IfSome begun (λ place. place.done < h.xd)
-  place_within None lt = tt
-  place_within (Some place) lt = lt
+-- what is decoded is in the image
+pub stage_fits : {h : Fields} {height : ℕ} (course : Course) (s : Stage) {rows : Held} {learned : List Estimate} {text out : List ℕ} → WalkStands (sized h height) (stage_view course s rows learned) text out → StageFits h course.left s
+stage_fits course (stage_type.Head head) k = tt
+stage_fits {h} {height} course (stage_type.Code c) {rows} {learned} {text} {out} k = by c.begun refl where
+  in_stripe : {n : ℕ} → n < rows_in h height course.entities → n < min course.left h.l0
+  in_stripe {n} = subst (λ z. n < min z h.l0) (sym k.left_is)
+
+  by : (begun : Option RowPlace) → c.begun ≡ begun → PlaceFits h course.left c.row begun
+  by None e =
+      let at : CodeStands (sized h height) (head_place course.entities course.given c.at (record { held = rows; kept = course.kept; learned = learned })) (code_place c.row c.first c.marker course.decoder) text out = at_stage (ap code_kind e) k in
+      subst (λ z. c.row ≤ min z h.l0) (sym k.left_is) at.few
+  by (Some place) e =
+      let at : InRowStands (sized h height) (head_place course.entities course.given c.at (record { held = rows; kept = course.kept; learned = learned })) (code_place c.row c.first c.marker course.decoder) (place_from c.begun) text out = at_stage (ap code_kind e) k in
+      (in_stripe at.few, subst (λ b. (place_from b).done < h.xd) e k.within)
+stage_fits course stage_type.Done k = tt
 
 -- a row that is left is one of the stripe
 pub row_in_stripe : {h : Fields} {height : ℕ} {w : WalkView} {text out : List ℕ} → WalkStands (sized h height) w text out → w.row < min w.left h.l0 → w.row < rows_in h height w.entities

@@ -35,10 +35,11 @@ use Rattle.t85_core.specs.declared.segments.Code.TheVariants as code
 use Rattle.t85_core.specs.declared.segments.atmove.Move as move
 use Rattle.t85_core.specs.Header.{Fields}
 use Rattle.t85_core.specs.Options.{fields_of}
-use Rattle.t85_core.specs.Numbers.{is_set, AreCourseNumbers, AreHeadNumbers, AreMoveNumbers, ArePhaseNumbers, IsCourseAs}
+use Rattle.t85_core.specs.Numbers.{is_set, AreCourseNumbers, AreHeadNumbers, AreMoveNumbers, ArePhaseNumbers, IsCourseAs, StaysInImage}
 use Rattle.t85_core.specs.Steps.Pieces.{CodeStands, InRowStands, StageStands, WalkStands, head_place, code_place}
 use Rattle.t85_core.specs.Steps.SizedImage.{sized}
 use Rattle.t85_core.specs.Steps.PieceStands.{DecoderStands, HeightKnown, CodeWalks, WalkWaits}
+use Rattle.t85_core.proofs.Decodings.PieceFits.{stage_fits}
 use Rattle.t85_core.proofs.Decodings.PieceSteps.{walk_at}
 use Rattle.t85_core.proofs.Decodings.PieceWalk.{in_row_going, going}
 use Rattle.t85_core.proofs.Decodings.PieceStood.{walks_of, code_of, waits_of, put_walks, put_code, put_waits}
@@ -224,3 +225,11 @@ stands_as d d' c' rows learned text out walk header height is_open waits behind 
       (subst (λ b. WalkWaits (fields_of d.image.header) d'.walk b text out) (sym behind)
       (subst (λ z. WalkWaits (fields_of d.image.header) z (phase_behind d.phase) text out) (sym walk)
       (subst (λ z. WalkWaits (fields_of d.image.header) (stage_view z (phase_stage d.phase) rows learned) (phase_behind d.phase) text out) (sym k.same) t))))
+
+-- what it has decoded is in its image
+pub stays : (d : PieceDecoder) {rows : Held} {learned : List Estimate} {text out : List ℕ} → DecoderStands (decoder_view d rows learned) text out → StaysInImage d
+stays d {rows} {learned} {text} {out} s = by (phase_is_open d.phase) (phase_waits d.phase) refl refl where
+  by : (a b : Bool) → phase_is_open d.phase ≡ a → phase_waits d.phase ≡ b → StaysInImage d
+  by false b e f = stage_fits d.course (phase_stage d.phase) (walks_of (decoder_view d rows learned) text out e s)
+  by true false e f = stage_fits d.course (phase_stage d.phase) (let k = code_of (decoder_view d rows learned) text out e f s in k.walk)
+  by true true e f = stage_fits d.course (phase_stage d.phase) (let k = waits_of (decoder_view d rows learned) text out e f s in k.walk)

@@ -174,11 +174,6 @@ AfterRows l0 Leaves c c' =
 abbrev pub HasMarker : WalkView → Type 0
 HasMarker w = MarkerRead w.marker w.first
 
--- A row of this width can be decoded from here.
-pub record RowFits (width : ℕ) (c : InCode) (rows : Held) : Type 0 where
-  pub width_is : rows.width ≡ width
-  pub within : IfSome c.begun (λ place. place.done < width)
-
 -- the stripe stays the same
 pub record KeepsPlace (w w' : WalkView) : Type 0 where
   pub entities : w'.entities ≡ w.entities

@@ -3,7 +3,7 @@
 ghost use Rattle.std.specs.Prelude.{◌≡◌, List, None, Some, ℕ, IfSome, IsSome, IsSomeAnd};
 ghost use Rattle.qm_core.specs.Place.{Estimate};
 ghost use Rattle.raster_core.specs.Packed.{Held};
-ghost use Rattle.t85_core.specs.Numbers.{AreCourseNumbers, ArePieceNumbers, IsCourseAs, piece_numbers};
+ghost use Rattle.t85_core.specs.Numbers.{AreCourseNumbers, ArePieceNumbers, IsCourseAs, StaysInImage, piece_numbers};
 ghost use Rattle.t85_core.specs.Options.{fields_of};
 ghost use Rattle.t85_core.specs.declared.pieces.course.Course.{Course};
 
@@ -182,24 +182,25 @@ impl PieceDecoder {
         numbers.is_given = u8::from(course.given);
     }
 
-    /// The decoder with this header that has these numbers and has not ended, if there is one. The next call must
-    /// borrow the window and the contexts as the last call left them; with others it is only safe.
+    /// The decoder with this header that has these numbers and has not ended, if there is one whose rows and pixels are
+    /// in its image. The next call must borrow the window and the contexts as the last call left them; with others it
+    /// is only safe.
     #[inline(always)]
     pub fn resume(header: Header, numbers: &PieceNumbers) -> Option<PieceDecoder>
         ensures is { IfSome result (λ d. (d.image.header ≡ header) × (d.end ≡ None) ×
-            ArePieceNumbers numbers.now d) }
+            ArePieceNumbers numbers.now d × StaysInImage d) }
         ensures all { (d : PieceDecoder) → fields_of d.image.header ≡ fields_of header →
-            ArePieceNumbers numbers.now d → IsSome result }
+            StaysInImage d → ArePieceNumbers numbers.now d → IsSome result }
         ensures resumes { (d : PieceDecoder) (rows : Held) (learned : List Estimate)
             (text out : List ℕ) → HasDecoded (decoder_view d rows learned) text out →
             fields_of d.image.header ≡ fields_of header → ArePieceNumbers numbers.now d →
-            IfSome result (λ r. HasDecoded (decoder_view r rows learned) text out) }
+            IsSomeAnd result (λ r. HasDecoded (decoder_view r rows learned) text out) }
     {
         if numbers.height < 1 || header.yd < numbers.height {
             return None;
         }
         let course = numbers.course()?;
-        let phase = numbers.phase()?;
+        let phase = numbers.phase(&header)?;
         let image = SizedImage {
             header,
             height: numbers.height,

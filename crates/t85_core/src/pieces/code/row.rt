@@ -9,13 +9,13 @@ ghost use Rattle.t85_core.specs.Steps.Segments.{IsByteOrMarker};
 ghost use Rattle.t85_core.specs.Lent.{KeepsWindow, KeepsLent, code_lent as over, code_view};
 ghost use Rattle.t85_core.specs.declared.pieces.course.Course.{Course};
 ghost use Rattle.t85_core.specs.Steps.PieceCode.{MarkerRead};
-ghost use Rattle.t85_core.specs.Steps.Pieces.{KeepsStripes, SomeStands, WalkStands, RowFits};
+ghost use Rattle.t85_core.specs.Steps.Pieces.{KeepsStripes, SomeStands, WalkStands};
 ghost use Rattle.t85_core.specs.Steps.RowTurns.{BegunLeaves, BegunStep, CodeGoes, LeavesRow, RowStep};
 ghost use Rattle.t85_core.specs.Steps.SizedImage.{sized, sized_of};
 ghost use Rattle.t85_core.specs.Header.{Fields};
 
 use crate::fault::Fault;
-use crate::header::{Header, SizedImage};
+use crate::header::SizedImage;
 use crate::laws::coder_laws;
 use crate::lent::Lent;
 use crate::pieces::code::InCode;
@@ -25,7 +25,7 @@ use crate::pieces::piece::{Piece, PieceCode};
 use crate::pieces::rows::go_on_in_row;
 use crate::segments::Code;
 use qm_core::Decoder;
-use raster_core::{Kept, RowPlace, Window};
+use raster_core::{Kept, RowPlace, Shape, Window};
 use std::mem::replace;
 
 /// A whole row, and the rest of a row: each is compiled separately.
@@ -92,7 +92,6 @@ impl InCode {
     }
 
     /// Continues to the end of the next row, and returns true; or returns false at the end marker, if it `waits` there.
-    /// If the position or the window does not fit this image, which no call leaves, it reports that the piece has ended.
     fn row_or_marker(
         &mut self,
         image: &SizedImage,
@@ -111,10 +110,6 @@ impl InCode {
         ensures no_more { length piece.new.rest.now ≤ length piece.old.rest.now }
         ensures lent { KeepsLent lent.old lent.new }
     {
-        if !self.has_row_that_fits(&image.header, lent.window) {
-            drop_rest(piece);
-            return Err(Fault::Truncated);
-        }
         match self.begun {
             Some(place) => {
                 let begun = BegunRow { place, waits };
@@ -131,15 +126,12 @@ impl InCode {
 
     /// Moves down to the next row of a stripe, and performs its move.
     fn enter_row(&self, kept: &mut Kept, window: &mut Window<'_>)
-        requires fits { RowFits (width_of window.old) self.now (held window.old) }
         ensures enters { (h : Fields) (height : ℕ) (course : Course) (place : RowPlace) (learned :
             List Estimate) (text out : List ℕ) → self.now.begun ≡ None → self.now.row < min
             course.left h.l0 → IsRowStart place → place.done < h.xd → WalkStands (sized h height)
             (code_view (record course { kept = kept.old }) self.now (held window.old) learned) text
             out → WalkStands (sized h height) (code_view (record course { kept = kept.new }) (record
             self.now { begun = Some place }) (held window.new) learned) text out }
-        ensures fits { (place : RowPlace) → place.done < width_of window.old → RowFits
-            (width_of window.old) (record self.now { begun = Some place }) (held window.new) }
         ensures window { KeepsWindow window.old window.new }
     {
         kept.offset = offset_in(self.at, self.row, kept.offset);
@@ -157,8 +149,6 @@ impl InCode {
         piece: &mut Piece<'_>,
     ) -> Result<bool, Fault>
         requires left { self.old.row < min course.old.left image.now.header.l0 }
-        requires fits { RowFits image.now.header.xd (record self.old { begun = Some row.place })
-            (held lent.old.window.now) }
         ensures step { BegunStep (sized_of image.now) (over course.old (record self.old {
           begun =
               Some row.place;
@@ -187,7 +177,10 @@ impl InCode {
             fault: None,
             failures: 0,
         };
-        let shape = image.header.shape();
+        let shape = Shape {
+            width: lent.window.width(),
+            ..image.header.shape()
+        };
         let kept = &mut course.kept;
         let went = go_on_in_row(shape, lent, kept, &mut local, &mut place, &mut code);
         course.decoder = local;
@@ -210,32 +203,4 @@ impl InCode {
             }
         }
     }
-
-    /// Whether a row of this image can be decoded from here.
-    fn has_row_that_fits(&self, header: &Header, window: &Window<'_>) -> bool
-        ensures yes { result ≡ true → RowFits header.now.xd self.now (held window.now) }
-        ensures no { result ≡ false → RowFits header.now.xd self.now (held window.now) → ⊥ }
-    {
-        window.width() == header.xd && self.has_place_within(header.xd)
-    }
-
-    /// Whether the next row has not begun, or has not reached this width.
-    fn has_place_within(&self, width: u32) -> bool
-        ensures yes { result ≡ true → IfSome self.now.begun (λ place. place.done < width) }
-        ensures no { result ≡ false → IfSome self.now.begun (λ place. place.done < width) → ⊥ }
-    {
-        match self.begun {
-            Some(place) => place.done() < width,
-            None => true,
-        }
-    }
-}
-
-/// Drops the rest of a piece. It is in a function of its own so that the compiler does not expect it.
-#[cold]
-#[inline(never)]
-fn drop_rest(piece: &mut Piece<'_>)
-    ensures { piece.new.rest.now ≡ [] }
-{
-    piece.rest = &[];
 }

@@ -1,10 +1,12 @@
 //! The phase of a decoder in pieces as numbers.
 
 ghost use Rattle.std.specs.Prelude.{◌≡◌, Some, IfSome};
-ghost use Rattle.t85_core.specs.Numbers.{AreHeadNumbers, ArePhaseNumbers, AreStageNumbers, waits_number};
+ghost use Rattle.t85_core.specs.Numbers.{AreHeadNumbers, ArePhaseNumbers, AreStageNumbers, StageFits, waits_number};
+ghost use Rattle.t85_core.specs.Options.{fields_of};
 ghost use Rattle.t85_core.specs.Phases.{phase_stage};
 ghost use Rattle.t85_core.specs.declared.pieces.phase.Phase.{Phase};
 
+use crate::header::Header;
 use crate::pieces::code::InCode;
 use crate::pieces::course::Stage;
 use crate::pieces::head::Head;
@@ -29,15 +31,17 @@ impl PieceNumbers {
     ghost use Rattle.t85_core.specs.declared.pieces.head.Head.{Head};
     ghost use Rattle.t85_core.specs.declared.pieces.phase.Phase.TheVariants as phase;
 
-    /// Whether a height may still arrive, and what comes next.
+    /// Whether a height may still arrive in a stream with this header, and what comes next.
     #[inline(always)]
-    pub(super) fn phase(&self) -> Option<Phase>
+    pub(super) fn phase(&self, header: &Header) -> Option<Phase>
         ensures all { (phase : Phase) → ArePhaseNumbers self.now phase → AreStageNumbers
-            self.now.stage (phase_stage phase) → result ≡ Some phase }
+            self.now.stage (phase_stage phase) → StageFits (fields_of header.now) self.now.left
+            (phase_stage phase) → result ≡ Some phase }
         ensures is { IfSome result (λ phase. ArePhaseNumbers self.now phase × AreStageNumbers
-            self.now.stage (phase_stage phase)) }
+            self.now.stage (phase_stage phase) × StageFits (fields_of header.now) self.now.left
+            (phase_stage phase)) }
     {
-        let stage = self.stage.stage()?;
+        let stage = self.stage.stage(header, self.left)?;
         if self.is_open == 0 {
             return Some(Phase::Known(stage));
         }

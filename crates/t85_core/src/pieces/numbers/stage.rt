@@ -2,8 +2,9 @@
 
 ghost use Rattle.std.specs.Prelude.{◌≡◌, ◌<◌, Bool, Option, Some, None, ℕ, IfSome};
 ghost use Rattle.raster_core.specs.declared.place.RowPlace.{RowPlace};
-ghost use Rattle.t85_core.specs.Numbers.{AreCodeNumbers, AreMoveNumbers, AreStageNumbers, IsCodeNext, code_number, marker_number, place_numbers, stage_numbers};
+ghost use Rattle.t85_core.specs.Numbers.{AreCodeNumbers, AreMoveNumbers, AreStageNumbers, IsCodeNext, StageFits, code_number, marker_number, place_numbers, stage_numbers};
 ghost use Rattle.t85_core.specs.declared.pieces.code.InCode.{InCode};
+ghost use Rattle.t85_core.specs.Options.{fields_of};
 ghost use Rattle.t85_core.specs.Phases.{phase_stage};
 ghost use Rattle.t85_core.specs.declared.pieces.course.Stage.{Stage};
 ghost use Rattle.t85_core.specs.declared.pieces.course.Stage.TheVariants as stage_type;
@@ -11,6 +12,7 @@ ghost use Rattle.t85_core.specs.declared.segments.atmove.Move.{Move};
 ghost use Rattle.t85_core.specs.declared.segments.Code.{Code};
 ghost use Rattle.t85_core.specs.declared.segments.Code.TheVariants as code;
 
+use crate::header::Header;
 use crate::pieces::code::InCode;
 use crate::pieces::course::Stage;
 use crate::pieces::head::Head;
@@ -159,17 +161,20 @@ impl StageNumbers {
         }
     }
 
-    /// The next item that has these numbers, if there is one.
+    /// The next item that has these numbers, if there is one where so many rows are left of an image with this header.
     #[inline(always)]
-    pub(super) fn stage(&self) -> Option<Stage>
-        ensures all { (stage : Stage) → AreStageNumbers self.now stage → result ≡ Some stage }
-        ensures is { IfSome result (AreStageNumbers self.now) }
+    pub(super) fn stage(&self, header: &Header, left: u32) -> Option<Stage>
+        ensures all { (stage : Stage) → AreStageNumbers self.now stage → StageFits (fields_of
+            header.now) left stage → result ≡ Some stage }
+        ensures is { IfSome result (λ stage. AreStageNumbers self.now stage × StageFits (fields_of
+            header.now) left stage) }
     {
+        let rows = left.min(header.l0);
         match self.next {
             0 => Some(Stage::Head(self.head(None)?)),
             1 => Some(Stage::Head(self.head(Some(self.comment))?)),
-            2 => Some(Stage::Code(self.code(None)?)),
-            3 => {
+            2 if self.row <= rows => Some(Stage::Code(self.code(None)?)),
+            3 if self.row < rows && self.place.done < header.xd => {
                 let place = RowPlace::from_numbers(self.place)?;
                 Some(Stage::Code(self.code(Some(place))?))
             }

@@ -17,7 +17,7 @@ pub returns-in-Some-clause-not_begun : goal.returns-in-Some-clause-not_begun
 returns-in-Some-clause-not_begun c = λ no.
     let is = c.in-Some.ensures.is in
     absurd (never_begun c.args.self.now (fields_of c.in-Ok.header) c.requires.version (inr c.requires.next) c.in-Ok.ensures.accepted
-    (λ rows. one_resumed c.args.self.now c.in-Ok.header c.in-Some.decoder (search rules) c.in-Ok.ensures.accepted is.0 is.2) no)
+    (λ rows. one_resumed c.args.self.now c.in-Ok.header c.in-Some.decoder (search rules) c.in-Ok.ensures.accepted is.0 is.2 is.3) no)
 
 pub returns-in-None-clause-certain : goal.returns-in-None-clause-certain
-returns-in-None-clause-certain c = λ window stream out k. absurd (none_resumed c.headers.ensures (hold_of c.args.self.now window) c.in-Ok.header c.in-Ok.ensures.accepted (λ d header numbers. (let none = c.in-None.ensures.all d header numbers in let bot : ⊥ = cc in bot)) k)
+returns-in-None-clause-certain c = λ window stream out k. absurd (none_resumed c.headers.ensures (hold_of c.args.self.now window) c.in-Ok.header c.in-Ok.ensures.accepted (λ d rows learned text out has header numbers. c.in-None.ensures.resumes d rows learned text out has header numbers) k)

@@ -39,13 +39,13 @@ pub returns-then-needed-window-clause-not_begun : goal.returns-then-needed-windo
 returns-then-needed-window-clause-not_begun c = λ no.
     let is = c.in-Some.ensures.is in
     absurd (never_begun c.args.self.now (fields_of c.in-Ok.header) c.requires.version c.requires.next c.in-Ok.ensures.accepted
-    (λ rows. one_resumed c.args.self.now c.in-Ok.header c.in-Some.decoder (search rules) c.in-Ok.ensures.accepted is.0 is.2) no)
+    (λ rows. one_resumed c.args.self.now c.in-Ok.header c.in-Some.decoder (search rules) c.in-Ok.ensures.accepted is.0 is.2 is.3) no)
 
 pub returns-clause-not_begun : goal.returns-clause-not_begun
 returns-clause-not_begun c = λ no.
     let is = c.in-Some.ensures.is in
     absurd (never_begun c.args.self.now (fields_of c.in-Ok.header) c.requires.version c.requires.next c.in-Ok.ensures.accepted
-    (λ rows. one_resumed c.args.self.now c.in-Ok.header c.in-Some.decoder (search rules) c.in-Ok.ensures.accepted is.0 is.2) no)
+    (λ rows. one_resumed c.args.self.now c.in-Ok.header c.in-Some.decoder (search rules) c.in-Ok.ensures.accepted is.0 is.2 is.3) no)
 
 pub returns-clause-answers : goal.returns-clause-answers
 returns-clause-answers c =

@@ -6,7 +6,7 @@ use Rattle.t85_core.proofs.Decodings.PieceRows.{row_taken, row_unread, row_broke
 use Rattle.t85_core.proofs.pieces.rows.go_on_in_row.Goals as goal
 
 pub returns-in-Ok-clause-row : goal.returns-in-Ok-clause-row
-returns-in-Ok-clause-row g c = λ _ h c' segments row began out text b code. (
+returns-in-Ok-clause-row g c = λ _ _ h c' segments row began out text b code. (
   row_taken piece_view (λ s. s.failures) _ c.go_on_row.new.source c.args.code.now.first c.go_on_row.new.source.first c.args.code.now.marker c.go_on_row.new.source.marker c.args.code.now.piece.rest.now c.go_on_row.new.source.piece.rest.now
       refl refl refl refl refl refl c.requires.unbroken
       h c.args.shape c' segments row (carried_by c.args.lent.now.window.now c.args.kept.now c.args.lent.now.learned.now) (carried_by c.go_on_row.new.window c.go_on_row.new.kept c.go_on_row.new.learned) c.args.decoder.now c.go_on_row.new.decoder c.args.place.now c.go_on_row.new.place began out text b code c.in-Ok.ensures.row,

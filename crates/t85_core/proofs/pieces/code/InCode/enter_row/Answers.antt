@@ -17,11 +17,5 @@ returns-clause-enters c = λ h height course place learned text out none wants s
       stands = row_entered k (row_in_stripe w wants) _ _ start refl c.turn.ensures.turned c.offset_in-kept.ensures.is refl;
     }
 
-pub returns-clause-fits : goal.returns-clause-fits
-returns-clause-fits c = λ place within. record {
-  width_is = ap (λ w. w.width) c.turn.ensures.turned ∙ c.requires.fits.width_is;
-  within = within;
-}
-
 pub returns-clause-window : goal.returns-clause-window
 returns-clause-window c = (ap (λ w. w.width) c.turn.ensures.turned, search rules)

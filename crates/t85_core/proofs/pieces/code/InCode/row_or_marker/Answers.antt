@@ -1,25 +1,13 @@
-use Rattle.std.proofs.Common.{◌≡◌, ap, [], ℕ, List, Some, length, refl, sym, subst, append-nil, rules, arith}
+use Rattle.std.proofs.Common.{[], ℕ, List, Some, refl, sym, subst, append-nil, arith}
 use Rattle.t85_core.specs.Options.{fields_of}
 use Rattle.raster_core.specs.Window.{held}
 use Rattle.t85_core.specs.Lent.{code_view, code_lent}
 use Rattle.t85_core.specs.Steps.Pieces.{SomeStands, StepsOn, WalkStands}
 use Rattle.t85_core.specs.Steps.RowTurns.{BegunLeaves, BegunStep}
 use Rattle.t85_core.specs.Steps.SizedImage.{sized}
-use Rattle.t85_core.proofs.Decodings.PieceFits.{fits_of}
 use Rattle.t85_core.proofs.Decodings.PieceSteps.{on_same}
 use Rattle.t85_core.proofs.Decodings.PieceTurns.{begun_then, begun_leaves_then}
 use Rattle.t85_core.proofs.pieces.code.InCode.row_or_marker.Goals as goal
-
-pub returns-then-not-has_row_that_fits-clause-step : goal.returns-then-not-has_row_that_fits-clause-step
-returns-then-not-has_row_that_fits-clause-step c = record {
-  row = λ e. absurd (let bot : ⊥ = cc in bot);
-  marker = λ e. absurd (let bot : ⊥ = cc in bot);
-  err = λ text out w. absurd (c.has_row_that_fits.ensures.no (search rules) (fits_of c.args.course.now w));
-  more = λ _. ((λ text out w. absurd (c.has_row_that_fits.ensures.no (search rules) (fits_of c.args.course.now w))), (let z : length c.drop_rest.new.piece.rest.now ≡ 0 = ap length c.drop_rest.ensures in omega (arith, z)));
-}
-
-pub returns-then-not-has_row_that_fits-clause-leaves : goal.returns-then-not-has_row_that_fits-clause-leaves
-returns-then-not-has_row_that_fits-clause-leaves c = λ some. absurd (c.has_row_that_fits.ensures.no (search rules) (fits_of c.args.course.now some.2))
 
 pub returns-in-Some-clause-step : goal.returns-in-Some-clause-step
 returns-in-Some-clause-step c =
