@@ -1,6 +1,7 @@
 //! Rows whose code arrives in parts, with a decoder that is rebuilt from its numbers for each part.
 
-use crate::rows::{Course, Given, code_of_model, is_row, over_8, row_of, shape};
+use crate::rows::model::{code_of_model, row_of};
+use crate::rows::{Course, Given, is_row, over_8, shape};
 use qm_core::{CodeBytes, Decoder, DecoderRegisters, Pulled, Stop};
 use raster_core::{RowPlace, RowPlaceNumbers, Window, go_on_row, window_bytes};
 use std::process::Abort;

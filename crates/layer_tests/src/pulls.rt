@@ -3,7 +3,8 @@
 
 ghost use Rattle.std.specs.Prelude.{◌+◌, ◌<◌};
 
-use crate::rows::{Course, Given, Taken, context_by_coordinates, pixel, put, shape};
+use crate::rows::model::{context_by_coordinates, pixel};
+use crate::rows::{Course, Given, Taken, put, shape};
 use qm_core::{CodeBytes, Context, Decoder, Encoder, Learned, Pulled};
 use raster_core::{Shape, Window, window_bytes};
 use std::alloc::{AllocError, Global};
