@@ -57,14 +57,6 @@ impl T85Decoder {
         taken
     }
 
-    /// The bytes of the header received so far.
-    pub(super) fn header_bytes(&self) -> &[u8]
-        ensures bytes { result.now ≡ self.now.header }
-        ensures long { length result.now ≡ 20 }
-    {
-        &self.header
-    }
-
     /// Checks the header, which is complete.
     fn judge_header(&mut self) -> Answer
         requires version { self.old.version ≡ 2 }

@@ -130,7 +130,6 @@ impl T85Decoder {
     {
         // The proof uses these laws about headers.
         headers();
-        let _header = self.header_bytes();
         let mut window = Window::resume(memory, header.xd, self.place);
         let mut held = self.held();
         let progress = decoder.feed(&mut window, &mut self.learned, &mut held, bytes, more);

@@ -251,10 +251,10 @@ impl PieceDecoder {
     {
         let mut behind = behind;
         let mut none = Piece { rest: &[] };
-        let row = behind
+        // The end marker has been read, so the row ends.
+        let _ = behind
             .code
             .next_row(&self.image, &mut self.course, lent, &mut none);
-        let _given = row.is_ok();
         self.phase = Phase::Behind(behind);
     }
 }

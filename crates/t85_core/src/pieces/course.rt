@@ -78,8 +78,6 @@ impl Course {
         ensures counts { (result.entities ≡ 0) × (result.left ≡ image.now.height) }
         ensures lent { KeepsLent lent.old lent.new }
     {
-        // The proof uses this value to show that a stripe has rows.
-        let _rows = image.header.l0;
         let mut kept = START;
         restart(lent.window, &mut kept, lent.learned);
         Course {

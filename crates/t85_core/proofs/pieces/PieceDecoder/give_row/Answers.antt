@@ -10,14 +10,14 @@ pub returns-clause-gives : goal.returns-clause-gives
 returns-clause-gives c = λ limit below some.
     let d = phase_lent c.args.self.now (phase.Behind c.args.behind) c.args.lent.now in
     let code = in_code_of c.args.behind.code.begun in
-    let new = code_lent c.next_row-row.new.course c.next_row-row.new.self c.next_row-row.new.lent in
-    let step = at_first (λ image. RowStep image d.walk new [] c.next_row-row.new.piece.rest.now c.next_row-row.result) c.requires.open c.next_row-row.ensures.step in
-    let leaves = at_first (λ image. LeavesRow image d.walk new c.next_row-row.result) c.requires.open c.next_row-row.ensures.leaves (some_waits d refl refl some) in
-    let next : c.next_row-row.new.self.row ≡ c.args.behind.code.row + 1 = row_after d new refl refl some code c.next_row-row.result leaves in
+    let new = code_lent c.next_row.new.course c.next_row.new.self c.next_row.new.lent in
+    let step = at_first (λ image. RowStep image d.walk new [] c.next_row.new.piece.rest.now c.next_row.result) c.requires.open c.next_row.ensures.step in
+    let leaves = at_first (λ image. LeavesRow image d.walk new c.next_row.result) c.requires.open c.next_row.ensures.leaves (some_waits d refl refl some) in
+    let next : c.next_row.new.self.row ≡ c.args.behind.code.row + 1 = row_after d new refl refl some code c.next_row.result leaves in
     record {
       keeps = record { header = refl; height = refl; is_open = refl; waits = refl; behind = refl; going = refl };
       code = code;
       entities = leaves.place.entities;
       below = omega (arith, next, below);
-      on = row_given d _ refl refl code (record { header = refl; height = refl; is_open = refl; waits = refl; behind = refl; going = refl }) c.next_row-row.new.piece.rest.now c.next_row-row.result step leaves;
+      on = row_given d _ refl refl code (record { header = refl; height = refl; is_open = refl; waits = refl; behind = refl; going = refl }) c.next_row.new.piece.rest.now c.next_row.result step leaves;
     }
