@@ -148,7 +148,7 @@ AreStageNumbers n (stage.Head head) = AreMoveNumbers n.at head.at × IsHeadNext 
 AreStageNumbers n (stage.Code c) = AreCodeNumbers n c
 AreStageNumbers n stage.Done = n.next ≡ 4
 
--- So many rows of a stripe are decoded. A row that has begun is one that is left, with a pixel left.
+-- At most all rows of a stripe are decoded. A row that has begun is another one of them, and has a pixel left.
 abbrev pub PlaceFits : Fields → (left row : ℕ) → Option RowPlace → Type 0
 PlaceFits h left row None = row ≤ min left h.l0
 PlaceFits h left row (Some place) = (row < min left h.l0) × (place.done < h.xd)
