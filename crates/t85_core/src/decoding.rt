@@ -142,16 +142,8 @@ fn decode_buffered<S: HeldSource, W: Output, const HELD: usize>(
 {
     // The proof uses these laws of the coder.
     coder_laws();
-    match decode_image(image, walk, lent, stream, buffer) {
-        Ok(()) => buffer.write_held(),
-        Err(fault) => match fault {
-            Fault::Write => Err(fault),
-            _ => match buffer.write_held() {
-                Ok(()) => Err(fault),
-                Err(last) => Err(last),
-            },
-        },
-    }
+    let outcome = decode_image(image, walk, lent, stream, buffer);
+    buffer.finish(outcome)
 }
 
 /// Writes the rows of an image to the buffer.

@@ -124,16 +124,8 @@ fn encode_buffered<R: Input, W: Output, const HELD: usize>(
     ensures same_input { SameInput (R.view source.old) (R.view source.new) }
     ensures writes { WritesBehind buffer.old buffer.new result }
 {
-    match encode_image(size, form, options, window, source, buffer) {
-        Ok(()) => buffer.write_held(),
-        Err(fault) => match fault {
-            Fault::Write => Err(fault),
-            _ => match buffer.write_held() {
-                Ok(()) => Err(fault),
-                Err(last) => Err(last),
-            },
-        },
-    }
+    let outcome = encode_image(size, form, options, window, source, buffer);
+    buffer.finish(outcome)
 }
 
 /// Writes the stream to the buffer.

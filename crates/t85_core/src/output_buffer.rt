@@ -65,7 +65,11 @@ impl<'a, W: Output, const SIZE: usize> OutputBuffer<'a, W, SIZE> {
 }
 
 impl<W: Output, const SIZE: usize> OutputBuffer<'_, W, SIZE> {
-    ghost use Rattle.t85_core.specs.Steps.Views.{text_taken, WritesBehind};
+    ghost use Rattle.std.specs.Prelude.{◌⊎◌, ℕ, Ok, Err};
+    ghost use Rattle.t85_core.specs.Failures.{CountsBoth, CountsRead};
+    ghost use Rattle.t85_core.specs.Steps.Buffers.{WritesOn};
+    ghost use Rattle.t85_core.specs.Steps.Views.{target_view, text_taken, WritesBehind};
+    ghost use Rattle.t85_core.specs.declared.output_buffer.OutputBuffer.{OutputBuffer};
 
     /// Writes the buffered bytes.
     pub fn write_held(&mut self) -> Result<(), Fault>
@@ -84,6 +88,26 @@ impl<W: Output, const SIZE: usize> OutputBuffer<'_, W, SIZE> {
             Err(count) => {
                 self.at += count;
                 Err(Fault::Write)
+            }
+        }
+    }
+
+    /// Writes the buffered bytes, except after a failed write. Returns this outcome, or `Write` if that fails.
+    pub fn finish(&mut self, outcome: Result<(), Fault>) -> Result<(), Fault>
+        ensures text { Keeps (text_taken self.old) (text_taken self.new) }
+        ensures ok { OnOk result ((outcome ≡ Ok tt) × (self.new.at ≡ 0) × (self.new.end ≡ 0)) }
+        ensures err { IfErr result (λ f. (f ≡ Write) ⊎ ((outcome ≡ Err f) × (self.new.at ≡ 0) ×
+            (self.new.end ≡ 0))) }
+        ensures failed { outcome ≡ Err Write → self.new ≡ self.old }
+        ensures reads { (old new : ℕ) → CountsRead old new outcome → CountsBoth old new result }
+        ensures writes { (before : OutputBuffer W SIZE W.Output) → WritesOn (target_view before)
+            (target_view self.old) outcome → WritesBehind before self.new result }
+    {
+        match outcome {
+            Err(Fault::Write) => outcome,
+            _ => {
+                self.write_held()?;
+                outcome
             }
         }
     }

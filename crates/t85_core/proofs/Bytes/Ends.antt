@@ -1,5 +1,5 @@
 -- A walk that ends in the middle, seen from its beginning.
-use Rattle.std.proofs.Common.{◌≡◌, ◌≢◌, ℕ, List, [], ◌++◌, Option, Result, Ok, Err, append-nil}
+use Rattle.std.proofs.Common.{◌≡◌, ◌≢◌, ◌⊎◌, inl, inr, subst, ℕ, List, [], ◌++◌, Option, Result, Ok, Err, append-nil}
 use Rattle.std.specs.Io.KnownBytes.{Consumes}
 use Rattle.std.specs.Result.{IfOk, OnOk, OnErr, IfErr, IsErrAnd, IsErrOf}
 use Rattle.t85_core.specs.declared.fault.Fault.{Fault}
@@ -71,3 +71,23 @@ always_err (Err e) p = p
 pub err_of : {T E : Type 0} {P : Type 0} (r : Result T E) {e : E} → IsErrOf r e → OnErr r P → P
 err_of (Ok x) is p = absurd (let bot : ⊥ = cc in bot)
 err_of (Err e) is p = p
+
+pub of_ok : {T E : Type 0} {P : Type 0} {r : Result T E} {x : T} → r ≡ Ok x → OnOk r P → P
+of_ok {P = P} is p = subst (λ z. OnOk z P) is p
+
+pub of_err : {T E : Type 0} (P : E → Type 0) {r : Result T E} {e : E} → r ≡ Err e → IfErr r P → P e
+of_err P is p = subst (λ z. IfErr z P) is p
+
+pub map_if_err : {T E : Type 0} (r : Result T E) {P Q : E → Type 0} → ((e : E) → P e → Q e) → IfErr r P → IfErr r Q
+map_if_err (Ok x) k p = tt
+map_if_err (Err e) k p = k e p
+
+-- what both outcomes leave
+pub either_way : {T E : Type 0} {P R : Type 0} (r : Result T E) → (P → R) → OnOk r P → IfErr r (λ _. R) → R
+either_way (Ok x) k p q = k p
+either_way (Err e) k p q = q
+
+-- by cases on which of two it is
+pub one_or_other : {A B R : Type 0} → (A → R) → (B → R) → A ⊎ B → R
+one_or_other k l (inl a) = k a
+one_or_other k l (inr b) = l b

@@ -1,14 +1,11 @@
 -- The buffered bytes are written.
-use Rattle.std.proofs.Common.{◌≡◌, ◌≢◌, ◌⊎◌, inl, inr, ℕ, List, [], ◌++◌, Option, None, Some, Result, Ok, Err, refl, sym, ap, ◌∙◌, subst, append-nil}
-use Rattle.std.specs.Prelude.{IfErr}
+use Rattle.std.proofs.Common.{◌≡◌, inl, ℕ, List, [], ◌++◌, Option, None, Some, refl, sym, ap, ◌∙◌, subst, append-nil}
 use Rattle.std.specs.Io.KnownBytes.{Consumes, Keeps, append_known}
-use Rattle.pbm_core.specs.declared.fault.PbmFault.TheVariants as pbm
 use Rattle.t85_core.specs.declared.fault.Fault.{Fault}
-use Rattle.t85_core.specs.declared.fault.Fault.TheVariants.{Read, Write, Pbm}
+use Rattle.t85_core.specs.declared.fault.Fault.TheVariants.{Write}
 use Rattle.t85_core.specs.Header.{Fields}
 use Rattle.t85_core.specs.Steps.Buffers.{held_of}
-use Rattle.pbm_core.specs.Device.{one_more}
-use Rattle.t85_core.specs.Failures.{reads_after, writes_after, CountsFault, CountsBoth}
+use Rattle.t85_core.specs.Failures.{reads_after, CountsFault}
 use Rattle.t85_core.specs.Steps.DecodeStripes.{ImageRead, ImageCut, ImageUnwritten}
 use Rattle.t85_core.specs.Laws.{IsInUse}
 use Rattle.t85_core.specs.Steps.CoderLaws.{CoderLaws}
@@ -65,27 +62,6 @@ image_begun q h height use_ known known' text text' i = record {
 pub counts_any : (old new : ℕ) (fault : Fault) → new ≡ reads_after fault old → CountsFault old new fault
 counts_any old new Write e = inl e
 counts_any old new f e = e
-
-reads_few : (fault : Fault) → ((n : ℕ) → reads_after fault n ≡ n) ⊎ ((n : ℕ) → reads_after fault n ≡ one_more n)
-reads_few Read = inr (λ n. refl)
-reads_few (Pbm pbm.Read) = inr (λ n. refl)
-reads_few f = inl (λ n. refl)
-
--- whatever was reported of the rows, a write failed after them
-pub counts_written : (old new : ℕ) (fault last : Fault) → new ≡ reads_after fault old → last ≡ Write → CountsFault old new last
-counts_written old new fault last e is = subst (CountsFault old new) (sym is) (went (reads_few fault)) where
-  went : ((n : ℕ) → reads_after fault n ≡ n) ⊎ ((n : ℕ) → reads_after fault n ≡ one_more n) → (new ≡ old) ⊎ (new ≡ one_more old)
-  went (inl z) = inl (e ∙ z old)
-  went (inr z) = inr (e ∙ z old)
-
-pub counts_whole : (old new : ℕ) (r : Result (Unit {0}) Fault) → new ≡ old → IfErr r (λ f. f ≡ Write) → CountsBoth old new r
-counts_whole old new (Ok u) e is = e
-counts_whole old new (Err f) e is = subst (CountsFault old new) (sym is) (inl e)
-
--- no write has failed with another fault
-pub no_failed_write : (fault : Fault) → fault ≢ Write → (n : ℕ) → writes_after fault n ≡ n
-no_failed_write Write n = absurd (n refl)
-no_failed_write f n = λ m. refl
 
 -- a buffer that is empty
 pub text_unheld : (bytes : List ℕ) (at end : ℕ) (a : Option (List ℕ)) → at ≡ end → append_known a (held_of bytes at end) ≡ a

@@ -1,6 +1,6 @@
 -- The buffered bytes of a stream are written.
-use Rattle.std.proofs.Common.{◌≡◌, ◌≢◌, ◌≤◌, ◌⊎◌, inl, inr, ℕ, List, [], take, Option, Err, refl, sym, ap, ◌∙◌, append-nil, arith}
-use Rattle.std.specs.Prelude.{IsErrOf}
+use Rattle.std.proofs.Common.{◌≡◌, ◌≤◌, ◌⊎◌, inl, inr, ℕ, List, [], take, Option, Result, Ok, Err, refl, sym, ap, ◌∙◌, append-nil, arith}
+use Rattle.std.specs.Prelude.{IfErr, IsErrOf, OnOk}
 use Rattle.std.proofs.lemmas.Grind.{div_ceil_times}
 use Rattle.std.proofs.Math.Seq.{take-length}
 use Rattle.pbm_core.specs.Image.{RowFault}
@@ -115,11 +115,13 @@ module _ {form : Form} (width height' : ℕ) (whole : Raster → List ℕ) (know
     appended = i.appended;
   }
 
-  -- whatever was reported
-  pub told_front : (s : Settings) (up_to : Raster → ℕ → List ℕ) (fault : Fault) → IsEncodeFault fault → fault ≢ Write →
-      ((why : PbmFault) → IsErrOf {T = Unit {0}} {E = Fault} (Err fault) (Pbm why) → ImageShort s (layout_of form width height') up_to whole (passage known known' text text') why) →
+  -- whatever the outcome is
+  pub front_of : {s : Settings} {up_to : Raster → ℕ → List ℕ} → 1 ≤ width → (r : Result (Unit {0}) Fault) → OnOk r (ImageCoded (layout_of form width height') whole (passage known known' text text')) →
+      (IsErrOf r Write → ImageRefused (layout_of form width height') whole (passage known known' text text')) → IfErr r IsEncodeFault →
+      ((why : PbmFault) → IsErrOf r (Pbm why) → ImageShort s (layout_of form width height') up_to whole (passage known known' text text') why) →
       ImageFront (layout_of form width height') whole (passage known known' text text')
-  told_front s up_to fault among other short = went (which fault among) where
+  front_of some (Ok x) coded refused among short = coded_front some coded
+  front_of some (Err fault) coded refused among short = went (which fault among) where
     went : (fault ≡ Write) ⊎ ((why : PbmFault) × (fault ≡ Pbm why)) → ImageFront (layout_of form width height') whole (passage known known' text text')
-    went (inl is) = absurd (other is)
+    went (inl is) = refused_front some (refused (ap Err is))
     went (inr (why, is)) = short_front (short why (is_of is))
