@@ -64,7 +64,8 @@ pub record IsFed (old kept : T85Decoder) (memory memory' : List ℕ) (header : H
       (piece_call bytes is_all progress (decoder_view e' (rows_at kept.place header.xd memory') learned'))
 
 module _ {old kept : T85Decoder} {memory memory' : List ℕ} {header : Header} {e e' : PieceDecoder} {learned' : List Estimate} {held' bytes : List ℕ} {is_all : Bool} {progress : Progress} {certain : ℕ}
-    (new : T85Decoder) (told : Report) (laws : HeaderLaws) (done : IsFed old kept memory memory' header e e' learned' held' bytes is_all progress) (certain_is : end_in progress.outcome ≡ None → TellsCertain kept certain)
+    (new : T85Decoder) (told : Report) (laws : HeaderLaws) (done : IsFed old kept memory memory' header e e' learned' held' bytes is_all progress)
+    (certain_is : end_in progress.outcome ≡ None → TellsCertain kept certain)
     (taken : told.taken ≡ progress.taken) (at : told.row ≡ kept.place * div_ceil header.xd 8) where
   fields_same : fields_of e'.image.header ≡ fields_of header
   fields_same = done.call.fed.same ∙ ap fields_of done.header_is
@@ -123,7 +124,8 @@ module _ {old kept : T85Decoder} {memory memory' : List ℕ} {header : Header} {
   unfolding row'
   row_long = placed_within (div_ceil header.xd 8) kept.place memory' done.small done.long' ∙ ap (λ f. div_ceil f.xd 8) (sym fields_same)
 
-  with_row : {stream out : List ℕ} → progress.outcome ≡ outcome.Row → ContinuesRows header e (hold_of old memory) stream out → InRows (hold_of kept memory') (stream ++ take told.taken bytes) (out ++ row')
+  with_row : {stream out : List ℕ} → progress.outcome ≡ outcome.Row → ContinuesRows header e (hold_of old memory) stream out →
+      InRows (hold_of kept memory') (stream ++ take told.taken bytes) (out ++ row')
   unfolding row'
   with_row {out = out} e1 k = rows_of (further k) (done.call.fed.row e1 k.text out k.has)
 
@@ -131,7 +133,8 @@ module _ {old kept : T85Decoder} {memory memory' : List ℕ} {header : Header} {
   without_row {out = out} e1 k = rows_of (further k) (done.call.fed.more e1 k.text out k.has).0
 
   -- more rows are certain than the limit
-  certain_of_more : {stream out : List ℕ} → end_in progress.outcome ≡ None → kept.max_rows < certain → IsOverLimit kept new told.answer → (has : InRows (hold_of kept memory') stream out) → IsCertainOfMore has new.max_rows
+  certain_of_more : {stream out : List ℕ} → end_in progress.outcome ≡ None → kept.max_rows < certain → IsOverLimit kept new told.answer → (has : InRows (hold_of kept memory') stream out) →
+      IsCertainOfMore has new.max_rows
   certain_of_more {stream} {out} going more over has = record {
     rows = certain;
     certain = certain_is going memory' stream out has;
@@ -180,7 +183,8 @@ module _ {old kept : T85Decoder} {memory memory' : List ℕ} {header : Header} {
   in_place_of_more : {stream out : List ℕ} → progress.outcome ≡ outcome.More → IsOverLimit kept new told.answer → kept.max_rows < certain → ContinuesRows header e (hold_of old memory) stream out →
       ReplacesMore new (bytes_call bytes is_all told.taken told.row) stream out
   in_place_of_more {stream} {out} e1 over more k =
-      let has : InRows (hold_of kept memory') (stream ++ bytes) out = subst (λ b. InRows (hold_of kept memory') (stream ++ b) out) (take_all told.taken bytes (omega (arith, all_taken e1))) (without_row e1 k) in
+      let has : InRows (hold_of kept memory') (stream ++ bytes) out = subst (λ b. InRows (hold_of kept memory') (stream ++ b) out) (take_all told.taken bytes (omega (arith, all_taken e1)))
+      (without_row e1 k) in
       record {
         hold = hold_of kept memory';
         has = has;

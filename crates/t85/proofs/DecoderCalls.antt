@@ -30,8 +30,10 @@ use Rattle.t85.proofs.DecoderRows.{KeepsRows, fed_as, rows_moved}
 -- ---- the certain rows, if the stream goes on
 
 -- those of a decoder with the numbers of the struct
-pub decoder_certain : HeaderLaws → (d : T85Decoder) (header : Header) (e : PieceDecoder) (certain : ℕ) → HeaderOf d.header (fields_of header) → fields_of e.image.header ≡ fields_of header → ArePieceNumbers d.numbers e →
-    ((other : PieceDecoder) (numbers : PieceNumbers) (rows : Held) (learned : List Estimate) → fields_of other.image.header ≡ fields_of e.image.header → ArePieceNumbers numbers other → ArePieceNumbers numbers e → AreCertain (decoder_view other rows learned) certain) → TellsCertain d certain
+pub decoder_certain : HeaderLaws → (d : T85Decoder) (header : Header) (e : PieceDecoder) (certain : ℕ) → HeaderOf d.header (fields_of header) → fields_of e.image.header ≡ fields_of header →
+    ArePieceNumbers d.numbers e →
+    ((other : PieceDecoder) (numbers : PieceNumbers) (rows : Held) (learned : List Estimate) → fields_of other.image.header ≡ fields_of e.image.header → ArePieceNumbers numbers other →
+    ArePieceNumbers numbers e → AreCertain (decoder_view other rows learned) certain) → TellsCertain d certain
 decoder_certain laws d header e certain header_of header_is numbers is = λ window stream out k.
     is k.decoder d.numbers (rows_at d.place k.decoder.image.header.xd (take (window_bytes k.decoder.image.header.xd) window)) d.learned
     (laws.one d.header (fields_of k.decoder.image.header) (fields_of header) k.header_of header_of ∙ sym header_is) k.numbers_are numbers k.has.decoded out k.has.has
@@ -51,7 +53,8 @@ counted_within d d' certain c is to = λ window stream out k rows least.
     record { version = sym c.version; next = sym c.next; header = sym c.header; learned = sym c.learned; place = sym c.place; numbers = sym c.numbers; held = sym c.held } in
     least_to (fields_of k.decoder.image.header) k.has.decoded rows certain d'.max_rows least (is window stream out (rows_moved same k)) (rw c.limit to)
 
-pub told_within : (d d' : T85Decoder) (certain : ℕ) (outcome : Outcome) (what : Answer) → (end_in outcome ≡ None → TellsCertain d certain) → IsToldOf outcome d d' certain what → StaysWithinLimit what d'
+pub told_within : (d d' : T85Decoder) (certain : ℕ) (outcome : Outcome) (what : Answer) → (end_in outcome ≡ None → TellsCertain d certain) → IsToldOf outcome d d' certain what →
+    StaysWithinLimit what d'
 told_within d d' certain outcome.Row what is (inl counted) = subst (λ a. StaysWithinLimit a d') (sym counted.what_is) (counted_within d d' certain counted.counts (is refl) counted.certain_to)
 told_within d d' certain outcome.Row what is (inr (over, why)) = subst (λ a. StaysWithinLimit a d') (sym over.what_is) tt
 told_within d d' certain outcome.More what is (inl asked) = subst (λ a. StaysWithinLimit a d') (sym asked.what_is) (asked_within d d' certain asked.same (is refl) asked.certain_to)
@@ -75,13 +78,15 @@ never_begun d h version next header some (inr (inr (inr (inl (rows, none))))) = 
 never_begun d h version next header some (inr (inr (inr (inr (rows, none))))) = some rows none
 
 -- a decoder was resumed
-pub one_resumed : (d : T85Decoder) (header : Header) (decoder : PieceDecoder) → d.place < 3 → HeaderOf d.header (fields_of header) → decoder.image.header ≡ header → ArePieceNumbers d.numbers decoder → StaysInImage decoder → HasNoDecoder d → ⊥
+pub one_resumed : (d : T85Decoder) (header : Header) (decoder : PieceDecoder) → d.place < 3 → HeaderOf d.header (fields_of header) → decoder.image.header ≡ header → ArePieceNumbers d.numbers decoder →
+    StaysInImage decoder → HasNoDecoder d → ⊥
 one_resumed d header decoder place header_of same numbers stays (inl far) = omega (arith, place, far)
 one_resumed d header decoder place header_of same numbers stays (inr never) = never decoder (subst (λ h. HeaderOf d.header (fields_of h)) (sym same) header_of) numbers stays
 
 -- none was
 pub none_resumed : HeaderLaws → (hold : Hold) (header : Header) → HeaderOf hold.decoder.header (fields_of header) →
-    ((decoder : PieceDecoder) (rows : Held) (learned : List Estimate) (text out : List ℕ) → HasDecoded (decoder_view decoder rows learned) text out → fields_of decoder.image.header ≡ fields_of header → ArePieceNumbers hold.decoder.numbers decoder → ⊥) →
+    ((decoder : PieceDecoder) (rows : Held) (learned : List Estimate) (text out : List ℕ) → HasDecoded (decoder_view decoder rows learned) text out → fields_of decoder.image.header ≡
+    fields_of header → ArePieceNumbers hold.decoder.numbers decoder → ⊥) →
     {stream out : List ℕ} → InRows hold stream out → ⊥
 none_resumed laws hold header header_of all {out = out} k =
     all k.decoder _ _ k.has.decoded out k.has.has (laws.one hold.decoder.header (fields_of k.decoder.image.header) (fields_of header) k.header_of header_of) k.numbers_are
@@ -152,7 +157,8 @@ module _ (laws : HeaderLaws) (d d' : T85Decoder) (window memory' rest : List ℕ
       (λ stream out k. subst (λ n. take n window ≡ take n (take needed window)) (sym (wide (hold_of d window) stream out refl k))
       (sym (take_all needed (take needed window) (take_long needed window))))
 
-  same_back : (stream out : List ℕ) (k : InRows (hold_of d' memory') stream out) → take (window_bytes k.decoder.image.header.xd) memory' ≡ take (window_bytes k.decoder.image.header.xd) (memory' ++ rest)
+  same_back : (stream out : List ℕ) (k : InRows (hold_of d' memory') stream out) → take (window_bytes k.decoder.image.header.xd) memory' ≡
+      take (window_bytes k.decoder.image.header.xd) (memory' ++ rest)
   same_back stream out k = sym (take-append-le (window_bytes k.decoder.image.header.xd) memory' rest (omega (arith, wide (hold_of d' memory') stream out same k, long')))
 
   row_back : (call : BytesCall) (stream out : List ℕ) → GivesRowAt (hold_of d' memory') call stream out → GivesRowAt (hold_of d' (memory' ++ rest)) call stream out

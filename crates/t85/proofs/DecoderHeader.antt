@@ -36,14 +36,17 @@ waiting_is d e is = by e.phase is.phase_is where
 
 pub ended_same : (s : Stage) (d : T85Decoder) (entities : ℕ) → AreStageNumbers d.numbers.stage s → d.numbers.entities ≡ entities → stripes_ended_by d ≡ entities_behind (stage_kind s) entities
 ended_same s d entities is many = ap (λ n. cond {A = ℕ} ((d.numbers.stage.next == 2) || (d.numbers.stage.next == 3)) (n + 1) n) many ∙ by s is where
-  at : (n : ℕ) → d.numbers.stage.next ≡ n → cond {A = ℕ} ((d.numbers.stage.next == 2) || (d.numbers.stage.next == 3)) (entities + 1) entities ≡ cond {A = ℕ} ((n == 2) || (n == 3)) (entities + 1) entities
+  at : (n : ℕ) → d.numbers.stage.next ≡ n → cond {A = ℕ} ((d.numbers.stage.next == 2) || (d.numbers.stage.next == 3)) (entities + 1) entities ≡
+      cond {A = ℕ} ((n == 2) || (n == 3)) (entities + 1) entities
   at n e = ap (λ m. cond {A = ℕ} ((m == 2) || (m == 3)) (entities + 1) entities) e
 
-  in_head : (comment : Option ℕ) → IsHeadNext d.numbers.stage comment → cond {A = ℕ} ((d.numbers.stage.next == 2) || (d.numbers.stage.next == 3)) (entities + 1) entities ≡ entities_behind (head_kind comment) entities
+  in_head : (comment : Option ℕ) → IsHeadNext d.numbers.stage comment → cond {A = ℕ} ((d.numbers.stage.next == 2) || (d.numbers.stage.next == 3)) (entities + 1) entities ≡
+      entities_behind (head_kind comment) entities
   in_head None e = at 0 e
   in_head (Some left) e = at 1 e.0
 
-  in_code : (begun : Option RowPlace) → IsCodeNext d.numbers.stage begun → cond {A = ℕ} ((d.numbers.stage.next == 2) || (d.numbers.stage.next == 3)) (entities + 1) entities ≡ entities_behind (code_kind begun) entities
+  in_code : (begun : Option RowPlace) → IsCodeNext d.numbers.stage begun → cond {A = ℕ} ((d.numbers.stage.next == 2) || (d.numbers.stage.next == 3)) (entities + 1) entities ≡
+      entities_behind (code_kind begun) entities
   in_code None e = at 2 e
   in_code (Some place) e = at 3 e.0
 

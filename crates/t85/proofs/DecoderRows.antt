@@ -65,7 +65,8 @@ rows_entered {old} {new} {memory} {memory'} {header} {e} {stream = stream} {out}
     }
 
 -- they go on with a decoder that was resumed
-pub rows_resumed : {d : T85Decoder} {memory : List ℕ} {header : Header} {e : PieceDecoder} → HeaderLaws → HeaderOf d.header (fields_of header) → length memory ≡ window_bytes header.xd → IsResumed header e d →
+pub rows_resumed : {d : T85Decoder} {memory : List ℕ} {header : Header} {e : PieceDecoder} → HeaderLaws → HeaderOf d.header (fields_of header) → length memory ≡ window_bytes header.xd →
+    IsResumed header e d →
     (stream out : List ℕ) → CountsRows (hold_of d memory) stream out → ContinuesRows header e (hold_of d memory) stream out
 rows_resumed {d} {memory} {header} {e} laws header_of long resumes stream out k =
     let same = laws.one d.header (fields_of k.rows.decoder.image.header) (fields_of header) k.rows.header_of header_of in

@@ -255,7 +255,8 @@ module _ (p new : T85Pbm) (row row' piece : List ℕ) (n taken : ℕ) where
   tells_within (Broken fault) whole before rows t = t
   tells_within told whole before rows t = absurd t
 
-pub row_reads : {p new : T85Pbm} {row piece : List ℕ} {n taken : ℕ} {told : PbmAnswer} (row' : List ℕ) → p.version ≡ 1 → p.next ≡ 1 → 1 ≤ p.rows_left → n ≡ bytes_of_row p.width → n ≤ length row → length row' ≡ n →
+pub row_reads : {p new : T85Pbm} {row piece : List ℕ} {n taken : ℕ} {told : PbmAnswer} (row' : List ℕ) → p.version ≡ 1 → p.next ≡ 1 → 1 ≤ p.rows_left → n ≡ bytes_of_row p.width → n ≤ length row →
+    length row' ≡ n →
     new.width ≡ p.width → new.is_plain ≡ p.is_plain → taken ≤ length piece →
     ((before : List ℕ) (rows : List (List Bool)) → InPbmRows p (take n row) before rows → TellsPart before rows (pbm_hold new row') (pbm_call piece taken) told) →
     ReadsPbmRow (pbm_hold p row) (pbm_hold new (row' ++ drop n row)) (pbm_call piece taken) told

@@ -38,7 +38,8 @@ best_refusal d rows window scratch =
 
 -- The offset is the best one for the next stripe, if these are its rows: of each raster that may follow, with these rows next.
 abbrev pub IsBestNext : EncoderHold → List (List Bool) → ℕ → Type 0
-IsBestNext hold part offset = OfEach hold (λ image rows sent. (raster : Raster) → MayCome image (rows ++ part) raster → length part ≡ min image.settings.stripe_rows (height raster - length rows) → IsBestFor image.settings raster (length rows / image.settings.stripe_rows) offset)
+IsBestNext hold part offset = OfEach hold (λ image rows sent. (raster : Raster) → MayCome image (rows ++ part) raster → length part ≡ min image.settings.stripe_rows (height raster - length rows) →
+    IsBestFor image.settings raster (length rows / image.settings.stripe_rows) offset)
 
 -- the memory that a call borrows: the window, the scratch memory and the offset
 pub record BestMemory : Type 0 where

@@ -58,7 +58,8 @@ pub record DeliversRows (h : Fields) (height : ℕ) (body : List ℕ) (stride : 
   pub fit : ℕ
   pub room : HaveRoom height (div_ceil h.xd 8) stride (length l.old) fit
   pub kept : outside fit (div_ceil h.xd 8) stride l.new ≡ outside fit (div_ceil h.xd 8) stride l.old
-  pub delivers : (let p : Placing = record { fit = fit; row = div_ceil h.xd 8; stride = stride } in FitsRows rows (fault_status outcome.fault) p l.new l.written l.answer ⊎ IsFullOfRows rows p l.new l.written l.answer)
+  pub delivers : (let p : Placing = record { fit = fit; row = div_ceil h.xd 8; stride = stride } in FitsRows rows (fault_status outcome.fault) p l.new l.written l.answer ⊎
+      IsFullOfRows rows p l.new l.written l.answer)
 
 -- the rows would overlap
 pub record RefusesStride (stream : List ℕ) (limit stride : ℕ) (l : Lending) : Type 0 where

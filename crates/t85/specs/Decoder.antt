@@ -151,7 +151,8 @@ TellsAnswer Has old new call answer.Done =
     × ((bytes_held_by new.decoder ≡ []) ⊎ (call.taken ≡ 0))
     × ((stream out rest : List ℕ) → Has stream out → MayFollow call.is_all rest → ConsumesStream new.decoder (stream ++ bytes_of_call call) ((stream ++ call.bytes) ++ rest))
 TellsAnswer Has old new call (answer.Broken fault) =
-    HasEnded new.decoder (fault_number fault) × ((stream out rest : List ℕ) → Has stream out → MayFollow call.is_all rest → IsBrokenStream ((stream ++ call.bytes) ++ rest) new.decoder.numbers.height fault out)
+    HasEnded new.decoder (fault_number fault) × ((stream out rest : List ℕ) → Has stream out → MayFollow call.is_all rest →
+    IsBrokenStream ((stream ++ call.bytes) ++ rest) new.decoder.numbers.height fault out)
 TellsAnswer Has old new call answer.TooManyRows = HasEnded new.decoder 24 × ((stream out : List ℕ) → Has stream out → IsAboveLimit new.decoder call stream out)
 TellsAnswer Has old new call answer.ShortWindow = KeepsHold old new call × ((stream out : List ℕ) → Has stream out → IsShort old.window stream)
 TellsAnswer Has old new call answer.NotBegun = KeepsHold old new call × ((stream out : List ℕ) → Has stream out → ⊥)

@@ -59,7 +59,8 @@ pub record InRows (hold : Hold) (stream out : List ℕ) : Type 0 where
   pub numbers_are : ArePieceNumbers hold.decoder.numbers decoder
   pub text : List ℕ
   pub stream_is : stream ≡ hold.decoder.header ++ text
-  pub has : HasFed (decoder_view decoder (rows_at hold.decoder.place decoder.image.header.xd (take (window_bytes decoder.image.header.xd) hold.window)) hold.decoder.learned) (bytes_held_by hold.decoder) text out
+  pub has : HasFed (decoder_view decoder (rows_at hold.decoder.place decoder.image.header.xd (take (window_bytes decoder.image.header.xd) hold.window)) hold.decoder.learned)
+      (bytes_held_by hold.decoder) text out
 
 -- among the rows, where the struct counts those that were returned
 pub record CountsRows (hold : Hold) (stream out : List ℕ) : Type 0 where

@@ -72,7 +72,8 @@ pub record ContinuesRows (header : Header) (decoder : PieceDecoder) (hold : Hold
 -- This decoder has decoded whatever a decoder with the numbers of the struct has.
 abbrev pub IsResumed : Header → PieceDecoder → T85Decoder → Type 0
 IsResumed header decoder d =
-    (other : PieceDecoder) (rows : Held) (learned : List Estimate) (text out : List ℕ) → HasDecoded (decoder_view other rows learned) text out → fields_of other.image.header ≡ fields_of header → ArePieceNumbers d.numbers other → HasDecoded (decoder_view decoder rows learned) text out
+    (other : PieceDecoder) (rows : Held) (learned : List Estimate) (text out : List ℕ) → HasDecoded (decoder_view other rows learned) text out → fields_of other.image.header ≡ fields_of header →
+    ArePieceNumbers d.numbers other → HasDecoded (decoder_view decoder rows learned) text out
 
 -- The decoder is behind the header, or among the rows.
 pub record MayEnterRows (header : Header) (d : T85Decoder) : Type 0 where

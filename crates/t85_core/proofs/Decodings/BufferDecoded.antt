@@ -30,13 +30,25 @@ all_handed old new bytes at end a e k =
     keeps_then old (append_known new []) new
     (subst (λ z. Keeps old (append_known new z)) (none_held bytes (a ∙ sym e)) k) (append_nothing new)
 
-pub image_handed : (h : Fields) (height : ℕ) (known known' text old new : Option (List ℕ)) → ImageRead h height (passage known known' text old) → Keeps old new → ImageRead h height (passage known known' text new)
-image_handed h height known known' text old new i k = record { given = i.given; taken = i.taken; parts = i.parts; only = i.only; rows = i.rows; denotes = i.denotes; appended = Appends-keeps text old new _ i.appended k }
+pub image_handed : (h : Fields) (height : ℕ) (known known' text old new : Option (List ℕ)) → ImageRead h height (passage known known' text old) → Keeps old new →
+    ImageRead h height (passage known known' text new)
+image_handed h height known known' text old new i k = record {
+  given = i.given;
+  taken = i.taken;
+  parts = i.parts;
+  only = i.only;
+  rows = i.rows;
+  denotes = i.denotes;
+  appended =
+      Appends-keeps text old new _ i.appended k;
+}
 
-pub cut_handed : (h : Fields) (height : ℕ) (known known' text old new : Option (List ℕ)) (fault : Fault) → ImageCut h height (passage known known' text old) fault → Keeps old new → ImageCut h height (passage known known' text new) fault
+pub cut_handed : (h : Fields) (height : ℕ) (known known' text old new : Option (List ℕ)) (fault : Fault) → ImageCut h height (passage known known' text old) fault → Keeps old new →
+    ImageCut h height (passage known known' text new) fault
 cut_handed h height known known' text old new fault i k = record { rows = i.rows; ends = i.ends; appended = Appends-keeps text old new _ i.appended k }
 
-pub begun_handed : (h : Fields) (height : ℕ) (known known' text old new : Option (List ℕ)) → ImageUnwritten h height (passage known known' text old) → Keeps old new → ImageUnwritten h height (passage known known' text new)
+pub begun_handed : (h : Fields) (height : ℕ) (known known' text old new : Option (List ℕ)) → ImageUnwritten h height (passage known known' text old) → Keeps old new →
+    ImageUnwritten h height (passage known known' text new)
 begun_handed h height known known' text old new i k = record {
   given = i.given;
   ahead = i.ahead;
@@ -47,7 +59,8 @@ begun_handed h height known known' text old new i k = record {
 }
 
 -- an image that was written begins with all of its rows
-pub image_begun : CoderLaws → (h : Fields) (height : ℕ) → IsInUse h height → (known known' text text' : Option (List ℕ)) → ImageRead h height (passage known known' text text') → ImageUnwritten h height (passage known known' text text')
+pub image_begun : CoderLaws → (h : Fields) (height : ℕ) → IsInUse h height → (known known' text text' : Option (List ℕ)) → ImageRead h height (passage known known' text text') →
+    ImageUnwritten h height (passage known known' text text')
 image_begun q h height use_ known known' text text' i = record {
   given = i.given;
   ahead = [];

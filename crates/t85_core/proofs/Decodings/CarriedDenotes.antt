@@ -20,20 +20,24 @@ use Rattle.t85_core.specs.Steps.Looked.{CarryAt}
 use Rattle.t85_core.proofs.Decodings.StripesCarried.{run_wide, AllFollowed, stripes_follow}
 
 -- as many rows as the stripes have room for
-pub run_many : (h : Fields) (left : ℕ) (b : StripeStart) (todo : List Stripe) (rows : List (List Bool)) (flags : List Bool) (next : StripeStart) → StripesRun h left b todo (flagged rows flags) next → length rows ≡ min left (length todo * h.l0)
+pub run_many : (h : Fields) (left : ℕ) (b : StripeStart) (todo : List Stripe) (rows : List (List Bool)) (flags : List Bool) (next : StripeStart) → StripesRun h left b todo (flagged rows flags) next →
+    length rows ≡ min left (length todo * h.l0)
 run_many h left b [] rows flags next run = let none : length rows ≡ 0 = ap length run.0 in omega (arith, none)
 run_many h left b (s ∷ todo) rows flags next run =
     let others = run_many h (left - h.l0) run.4 todo run.1 run.3 next run.8 in
     let lengths : length rows ≡ length run.0 + length run.1 = ap length run.5 ∙ length-append run.0 run.1 in
     omega (arith, lengths, others, run.7.many)
 
-pub stripes_wide : (h : Fields) (left : ℕ) (b : StripeStart) (todo : List Stripe) (rows : List (List Bool)) (flags : List Bool) (next : StripeStart) → StripesRun h left b todo (flagged rows flags) next → AllByRecursion (λ row. length row ≡ h.xd) rows
+pub stripes_wide : (h : Fields) (left : ℕ) (b : StripeStart) (todo : List Stripe) (rows : List (List Bool)) (flags : List Bool) (next : StripeStart) →
+    StripesRun h left b todo (flagged rows flags) next → AllByRecursion (λ row. length row ≡ h.xd) rows
 stripes_wide h left b [] rows flags next run = subst (AllByRecursion (λ row. length row ≡ h.xd)) (sym run.0) tt
 stripes_wide h left b (s ∷ todo) rows flags next run =
     subst (AllByRecursion (λ row. length row ≡ h.xd)) (sym run.5)
-    (All-append (λ row. length row ≡ h.xd) run.0 run.1 (run_wide (stripe_coding h s.segments) 0 (first_row_start b) run.0 run.2 run.7.last run.7.run) (stripes_wide h (left - h.l0) run.4 todo run.1 run.3 next run.8))
+    (All-append (λ row. length row ≡ h.xd) run.0 run.1 (run_wide (stripe_coding h s.segments) 0 (first_row_start b) run.0 run.2 run.7.last run.7.run)
+    (stripes_wide h (left - h.l0) run.4 todo run.1 run.3 next run.8))
 
-pub stripes_whole : (h : Fields) (left : ℕ) (b : StripeStart) (todo : List Stripe) (rows : List (List Bool)) (flags : List Bool) (next : StripeStart) → StripesRun h left b todo (flagged rows flags) next → AreStripes h todo
+pub stripes_whole : (h : Fields) (left : ℕ) (b : StripeStart) (todo : List Stripe) (rows : List (List Bool)) (flags : List Bool) (next : StripeStart) →
+    StripesRun h left b todo (flagged rows flags) next → AreStripes h todo
 stripes_whole h left b [] rows flags next run = tt
 stripes_whole h left b (s ∷ todo) rows flags next run = (run.7.whole, stripes_whole h (left - h.l0) run.4 todo run.1 run.3 next run.8)
 
@@ -59,7 +63,14 @@ pub carried_denotes : (h : Fields) (height : ℕ) (body rest : List ℕ) (stripe
 carried_denotes h height body rest stripes rows flags next ok from to body_is count gives run =
     record {
       parts = record { stripes = stripes; rest = rest; body_is = body_is; count = count; each = stripes_whole h height (image_start h.xd) stripes rows flags next run; gives = gives };
-      proper = record { width_from = ok.width_from; width_to = ok.width_to; height_from = omega (arith, from, many); height_to = omega (arith, to, many, ok.height_to); rows = stripes_wide h height (image_start h.xd) stripes rows flags next run };
+      proper = record {
+        width_from = ok.width_from;
+        width_to = ok.width_to;
+        height_from = omega (arith, from, many);
+        height_to = omega (arith, to, many, ok.height_to);
+        rows =
+            stripes_wide h height (image_start h.xd) stripes rows flags next run;
+      };
       width = refl;
       height = many;
       flags = flags;

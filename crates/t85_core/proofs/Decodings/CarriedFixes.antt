@@ -66,7 +66,8 @@ module _ (c : Coding) (i : ℕ) where
       subst (AreEnough count (after (begun (learned_at c i)) (to_row r))) coded (subst (λ s. AreEnough count s (events_with c.mode move r b row flag)) a.carried.state enough.0) in
       let more : AreEnough count (begun (learned_at c i)) (to_row (r + 1)) =
       subst (λ z. AreEnough count (begun (learned_at c i)) (to_row z)) one
-      (subst (AreEnough count (begun (learned_at c i))) (sym (rows_more c (i * c.stripe_rows) r)) (enough_append count (begun (learned_at c i)) (to_row r) (events_of_row c (i * c.stripe_rows + r) ++ []) so_far here)) in
+      (subst (AreEnough count (begun (learned_at c i))) (sym (rows_more c (i * c.stripe_rows) r))
+      (enough_append count (begun (learned_at c i)) (to_row r) (events_of_row c (i * c.stripe_rows + r) ++ []) so_far here)) in
       let rs : (r + 1) + length rows ≡ r + suc (length rows) = omega arith in
       subst (λ z. AreEnough count (begun (learned_at c i)) (to_row z)) rs (rows_enough count last rows flags (next_rows a) run.1 enough.1 more)
 
@@ -87,7 +88,8 @@ carried_agrees {h} stripes {x} {n} a i r n_is le le' k =
     }
 
 -- whole stripes that were run through, and then a stripe of which first rows were
-module _ (h : Fields) (height : ℕ) (ok : IsAccepted h) (stripes : List Stripe) (segments : List Segment) (code : List ℕ) (first more : List (List Bool)) (first_flags more_flags : List Bool) (mid : StripeStart)
+module _ (h : Fields) (height : ℕ) (ok : IsAccepted h) (stripes : List Stripe) (segments : List Segment) (code : List ℕ) (first more : List (List Bool)) (first_flags more_flags : List Bool)
+    (mid : StripeStart)
     (fewer : length stripes < stripe_count height h.l0) (run : StripesRun h height (image_start h.xd) stripes (flagged first first_flags) mid)
     (begins : FrontRun (open_stripe h mid segments) (min (height - length stripes * h.l0) h.l0) code more more_flags) where
   abbrev all : List Stripe
@@ -123,7 +125,8 @@ module _ (h : Fields) (height : ℕ) (ok : IsAccepted h) (stripes : List Stripe)
 
   flags_many : length first_flags ≡ length stripes * h.l0
   flags_many = ap (λ x. x) (stripes_flags h height (image_start h.xd) stripes first first_flags mid run) ∙ first_many where
-    stripes_flags : (h : Fields) (left : ℕ) (b : StripeStart) (todo : List Stripe) (rows : List (List Bool)) (flags : List Bool) (next : StripeStart) → StripesRun h left b todo (flagged rows flags) next → length flags ≡ length rows
+    stripes_flags : (h : Fields) (left : ℕ) (b : StripeStart) (todo : List Stripe) (rows : List (List Bool)) (flags : List Bool) (next : StripeStart) →
+        StripesRun h left b todo (flagged rows flags) next → length flags ≡ length rows
     stripes_flags h left b [] rows flags next r = ap length r.1 ∙ sym (ap length r.0)
     stripes_flags h left b (s ∷ todo) rows flags next r =
         let others = stripes_flags h (left - h.l0) r.4 todo r.1 r.3 next r.8 in
@@ -327,11 +330,13 @@ module _ (h : Fields) (height : ℕ) (ok : IsAccepted h) (stripes : List Stripe)
       enough =
           subst (AreEnough (length code) begins.last.state) (sym (coded ∙ sym (append-nil (events_of_row with_row (length stripes * h.l0 + length more)))))
           (subst (λ s. AreEnough (length code) s (events_of_row with_row (length stripes * h.l0 + length more) ++ [])) (sym at_row.state)
-          (enough_rest (length code) (begun (learned_at with_row (length stripes))) (flat_map (events_of_row with_row) (numbers_from (length stripes * h.l0) (length more))) (events_of_row with_row (length stripes * h.l0 + length more) ++ [])
+          (enough_rest (length code) (begun (learned_at with_row (length stripes))) (flat_map (events_of_row with_row) (numbers_from (length stripes * h.l0) (length more)))
+          (events_of_row with_row (length stripes * h.l0 + length more) ++ [])
           (subst (AreEnough (length code) (begun (learned_at with_row (length stripes)))) (rows_more with_row (length stripes * h.l0) (length more))
           (subst (λ m. AreEnough (length code) (begun (learned_at with_row (length stripes))) (flat_map (events_of_row with_row) (numbers_from (length stripes * h.l0) m))) one_more d.enough))))
 
-abbrev pub front_of : {h : Fields} {count : ℕ} {c : StripeStart} {segments : List Segment} {code : List ℕ} {rows : List (List Bool)} {flags : List Bool} → BegunRun (open_stripe h c segments) count code rows flags → FrontRun (open_stripe h c segments) count code rows flags
+abbrev pub front_of : {h : Fields} {count : ℕ} {c : StripeStart} {segments : List Segment} {code : List ℕ} {rows : List (List Bool)} {flags : List Bool} →
+    BegunRun (open_stripe h c segments) count code rows flags → FrontRun (open_stripe h c segments) count code rows flags
 front_of b = record { last = b.last; run = b.run; few = b.few; lies = b.lies }
 
 -- A body that breaks after whole stripes fixes their rows, and the rows that were run through of the stripe that breaks.
@@ -342,7 +347,16 @@ pub carried_fixes : CoderLaws → (h : Fields) (height : ℕ) (body tail : List 
     BegunRun (open_stripe h mid broken.segments) (min (height - length stripes * h.l0) h.l0) broken.code more more_flags →
     Fixes h height body fault (first ++ more)
 carried_fixes q h height body tail fault stripes broken first more first_flags more_flags mid ok body_is fewer gives run begins = record {
-  broken = record { stripes = stripes; tail = tail; bytes_are = body_is; fewer = fewer; each = stripes_whole h height (image_start h.xd) stripes first first_flags mid run; gives = gives; tail_has = broken };
+  broken = record {
+    stripes = stripes;
+    tail = tail;
+    bytes_are = body_is;
+    fewer = fewer;
+    each = stripes_whole h height (image_start h.xd) stripes first first_flags mid run;
+    gives = gives;
+    tail_has =
+        broken;
+  };
   fixed = record {
     flags = first_flags ++ more_flags;
     decided = carried_decided h height ok stripes broken.segments broken.code first more first_flags more_flags mid fewer run (front_of begins) begins.enough;

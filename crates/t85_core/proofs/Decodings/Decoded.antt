@@ -38,9 +38,11 @@ consumes_front None front = tt
 consumes_front (Some known) front = refl
 
 -- fixed rows stay so, whatever bytes follow, unless the end is the error
-pub fixes_more : (h : Fields) (height : ℕ) (given more : List ℕ) (fault : Fault) (rows : List (List Bool)) → Fixes h height given fault rows → (fault ≡ Truncated) ⊎ Fixes h height (given ++ more) fault rows
+pub fixes_more : (h : Fields) (height : ℕ) (given more : List ℕ) (fault : Fault) (rows : List (List Bool)) → Fixes h height given fault rows → (fault ≡ Truncated) ⊎
+    Fixes h height (given ++ more) fault rows
 fixes_more h height given more fault rows f = went (stable_rest h _ _ _ f.broken.tail_has.rest more fault f.broken.tail_has.rest_has) where
-  went : (fault ≡ Truncated) ⊎ (rest_fault h (spot_behind (spot_after height f.broken.stripes) f.broken.tail_has.segments) (count_by is_move f.broken.tail_has.segments) (not (is_nil f.broken.tail_has.code)) (f.broken.tail_has.rest ++ more) ≡ Some fault) → (fault ≡ Truncated) ⊎ Fixes h height (given ++ more) fault rows
+  went : (fault ≡ Truncated) ⊎ (rest_fault h (spot_behind (spot_after height f.broken.stripes) f.broken.tail_has.segments) (count_by is_move f.broken.tail_has.segments)
+      (not (is_nil f.broken.tail_has.code)) (f.broken.tail_has.rest ++ more) ≡ Some fault) → (fault ≡ Truncated) ⊎ Fixes h height (given ++ more) fault rows
   went (inl e) = inl e
   went (inr e) = inr (record {
     broken = record {
@@ -54,7 +56,8 @@ fixes_more h height given more fault rows f = went (stable_rest h _ _ _ f.broken
         segments = f.broken.tail_has.segments;
         code = f.broken.tail_has.code;
         rest = f.broken.tail_has.rest ++ more;
-        bytes_are = ap (λ z. z ++ more) f.broken.tail_has.bytes_are ∙ append_assoc (flat_map segment_bytes f.broken.tail_has.segments) (stuffed f.broken.tail_has.code ++ f.broken.tail_has.rest) more ∙ ap (λ z. flat_map segment_bytes f.broken.tail_has.segments ++ z) (append_assoc (stuffed f.broken.tail_has.code) f.broken.tail_has.rest more);
+        bytes_are = ap (λ z. z ++ more) f.broken.tail_has.bytes_are ∙ append_assoc (flat_map segment_bytes f.broken.tail_has.segments) (stuffed f.broken.tail_has.code ++ f.broken.tail_has.rest) more
+            ∙ ap (λ z. flat_map segment_bytes f.broken.tail_has.segments ++ z) (append_assoc (stuffed f.broken.tail_has.code) f.broken.tail_has.rest more);
         begun = f.broken.tail_has.begun;
         gives = f.broken.tail_has.gives;
         rest_has = e;
@@ -70,7 +73,8 @@ module _ (q : CoderLaws) (h : Fields) (height : ℕ) (use_ : IsInUse h height) (
   written : (rows : List (List Bool)) → Appends out_mid out_new (flat_map packed_row rows) → Appends out_old out_new (pbm_rows h.xd height rows)
   written rows out = Appends-more out_old out_mid out_new (header_text h.xd height) (flat_map packed_row rows) header out
 
-  rows_written : (body : List ℕ) (fault : Fault) (rows : List (List Bool)) → Fixes h height body fault rows → Appends out_mid out_new (flat_map packed_row rows) → WritesRows h height body fault out_old out_new
+  rows_written : (body : List ℕ) (fault : Fault) (rows : List (List Bool)) → Fixes h height body fault rows → Appends out_mid out_new (flat_map packed_row rows) →
+      WritesRows h height body fault out_old out_new
   rows_written body fault rows fixes out = record {
     rows = rows;
     fixes = fixes;
@@ -93,12 +97,15 @@ module _ (q : CoderLaws) (h : Fields) (height : ℕ) (use_ : IsInUse h height) (
     denotes : DenotesAt h height body raster
     denotes = subst (λ z. DenotesAt h height z raster) (sym i.taken) (i.denotes rest)
 
-  rows_known : (bytes known : Option (List ℕ)) (fault : Fault) → ImageCut h height (passage bytes known out_mid out_new) fault → fault ≢ Read → IfSome bytes (λ body. WritesRows h height body fault out_old out_new)
+  rows_known : (bytes known : Option (List ℕ)) (fault : Fault) → ImageCut h height (passage bytes known out_mid out_new) fault → fault ≢ Read →
+      IfSome bytes (λ body. WritesRows h height body fault out_old out_new)
   rows_known None known fault i other = tt
   rows_known (Some body) None fault i other = absurd i.ends.taken
-  rows_known (Some body) (Some rest) fault i other = rows_written body fault i.rows (subst (λ z. Fixes h height z fault i.rows) (sym i.ends.taken) (longer_or_all (λ z. Fixes h height z fault i.rows) i.ends.given rest has i.ends.at_end (fixes_more h height i.ends.given rest fault i.rows has))) i.appended where
-    has : Fixes h height i.ends.given fault i.rows
-    has = subst (λ f. Fixes h height i.ends.given f i.rows) (counted-other Truncated fault other) i.ends.has_fault
+  rows_known (Some body) (Some rest) fault i other = rows_written body fault i.rows
+      (subst (λ z. Fixes h height z fault i.rows) (sym i.ends.taken) (longer_or_all (λ z. Fixes h height z fault i.rows) i.ends.given rest has i.ends.at_end
+      (fixes_more h height i.ends.given rest fault i.rows has))) i.appended where
+        has : Fixes h height i.ends.given fault i.rows
+        has = subst (λ f. Fixes h height i.ends.given f i.rows) (counted-other Truncated fault other) i.ends.has_fault
 
   rows_unread : (bytes known in_new : Option (List ℕ)) (fault : Fault) → ImageCut h height (passage bytes known out_mid out_new) fault → fault ≡ Read → known ≡ in_new →
       (given : List ℕ) × Consumes bytes in_new given × WritesRows h height given Truncated out_old out_new
@@ -112,13 +119,15 @@ module _ (q : CoderLaws) (h : Fields) (height : ℕ) (use_ : IsInUse h height) (
   cut_among bytes known fault i = uncounted_body Truncated fault (body_faults i.ends.has_fault.broken)
 
   -- what is written is a beginning of what was written
-  front_written : (in_new : Option (List ℕ)) (in_held out_held : List ℕ) → known_length out_mid ≤ known_length out_new → ImageUnwritten h height (passage in_old (prepend_known in_held in_new) out_mid (append_known out_new out_held)) →
+  front_written : (in_new : Option (List ℕ)) (in_held out_held : List ℕ) → known_length out_mid ≤ known_length out_new →
+      ImageUnwritten h height (passage in_old (prepend_known in_held in_new) out_mid (append_known out_new out_held)) →
       WritesImageFront h height in_old in_new out_old out_new
   front_written in_new in_held out_held grows i = record {
     given = (i.given ++ i.ahead) ++ in_held;
     taken = Consumes-more in_old (prepend_known in_held in_new) in_new (i.given ++ i.ahead) in_held i.taken (consumes_front in_new in_held);
     appends = λ rest fault text o.
-        let first = i.first (i.ahead ++ (in_held ++ rest)) fault text (subst (λ z. IsOutcome h height z fault text) (append_assoc (i.given ++ i.ahead) in_held rest ∙ append_assoc i.given i.ahead (in_held ++ rest)) o) in
+        let first = i.first (i.ahead ++ (in_held ++ rest)) fault text (subst (λ z. IsOutcome h height z fault text)
+        (append_assoc (i.given ++ i.ahead) in_held rest ∙ append_assoc i.given i.ahead (in_held ++ rest)) o) in
         subst (AppendsBeginning out_old out_new) (sym first.1)
         (beginning_longer first.0
         (beginning_after (header_text h.xd height) header (beginning_handed out_new out_held grows i.appended)));
@@ -151,7 +160,8 @@ module _ (q : CoderLaws) (h : Fields) (height : ℕ) (use_ : IsInUse h height) (
     unread is e = rows_unread in_old known in_new f (err (λ w. let both : Read ≡ Write = sym is ∙ w in let bot : ⊥ = cc in bot)) is (drained e)
 
 -- a beginning of the header is a beginning of whatever is to be written
-pub front_of_header : (h : Fields) (height : ℕ) (known out_old out_new : Option (List ℕ)) → AppendsBeginning out_old out_new (header_text h.xd height) → WritesImageFront h height known known out_old out_new
+pub front_of_header : (h : Fields) (height : ℕ) (known out_old out_new : Option (List ℕ)) → AppendsBeginning out_old out_new (header_text h.xd height) →
+    WritesImageFront h height known known out_old out_new
 front_of_header h height known out_old out_new p = record {
   given = [];
   taken = Consumes-none known;
@@ -161,7 +171,8 @@ front_of_header h height known out_old out_new p = record {
   all rest None text o = subst (AppendsBeginning out_old out_new) (sym (o.2 ∙ pbm_of h height o.0 rest o.1)) (beginning_longer (flat_map packed_row o.0.rows) p)
   all rest (Some fault) text o = subst (AppendsBeginning out_old out_new) (sym o.2) (beginning_longer (flat_map packed_row o.0) p)
 
-pub decodes_unheaded : (h : Fields) (height : ℕ) (known : Option (List ℕ)) (reads writes writes_new : ℕ) (out_old out_new : Option (List ℕ)) → AppendsBeginning out_old out_new (header_text h.xd height) → writes_new ≡ one_more writes →
+pub decodes_unheaded : (h : Fields) (height : ℕ) (known : Option (List ℕ)) (reads writes writes_new : ℕ) (out_old out_new : Option (List ℕ)) →
+    AppendsBeginning out_old out_new (header_text h.xd height) → writes_new ≡ one_more writes →
     Decode h height (between known known reads reads) (between out_old out_new writes writes_new) (Err Write)
 decodes_unheaded h height known reads writes writes_new out_old out_new p counted = record {
   whole = tt;
@@ -174,7 +185,8 @@ decodes_unheaded h height known reads writes writes_new out_old out_new p counte
 }
 
 -- the devices as they are when their loans end
-pub decodes_at : {R W : Type 0} (remaining : R → Option (List ℕ)) (reads : R → ℕ) (contents : W → Option (List ℕ)) (writes : W → ℕ) (h : Fields) (height : ℕ) (first : R) (start : W) (input input' : R) (output output' : W) (r : Result (Unit {0}) Fault) →
+pub decodes_at : {R W : Type 0} (remaining : R → Option (List ℕ)) (reads : R → ℕ) (contents : W → Option (List ℕ)) (writes : W → ℕ) (h : Fields) (height : ℕ) (first : R) (start : W) (input input' : R)
+    (output output' : W) (r : Result (Unit {0}) Fault) →
     input ≡ input' → output ≡ output' →
     Decode h height (between (remaining first) (remaining input) (reads first) (reads input)) (between (contents start) (contents output) (writes start) (writes output)) r →
     Decode h height (between (remaining first) (remaining input') (reads first) (reads input')) (between (contents start) (contents output') (writes start) (writes output')) r

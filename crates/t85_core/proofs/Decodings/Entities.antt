@@ -48,7 +48,8 @@ module _ {T : Type 0} (standing : T → EntityView) (failed : T → ℕ) where
       record {
         mid = rest.mid;
         went = record {
-          taken = here.taken ∙ ap (λ z. stuffed (b ∷ []) ++ z) rest.went.taken ∙ sym (append_assoc (stuffed (b ∷ [])) (stuffed (bytes_of answers)) (standing rest.mid).left) ∙ ap (λ z. z ++ (standing rest.mid).left) (sym (stuffed_append (b ∷ []) (bytes_of answers)));
+          taken = here.taken ∙ ap (λ z. stuffed (b ∷ []) ++ z) rest.went.taken ∙ sym (append_assoc (stuffed (b ∷ [])) (stuffed (bytes_of answers)) (standing rest.mid).left)
+              ∙ ap (λ z. z ++ (standing rest.mid).left) (sym (stuffed_append (b ∷ []) (bytes_of answers)));
           marker = rest.went.marker;
           fault = rest.went.fault;
           begun = inl (omega arith, first_none (standing rest.mid).first (standing next).first rest.went.begun here.begun);

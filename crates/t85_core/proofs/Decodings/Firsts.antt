@@ -44,11 +44,13 @@ abbrev made : List Segment → List ℕ → Bool → Stripe
 made segments code reset = record { segments = segments; code = code; reset = reset }
 
 -- no byte decides no row
-none_enough : (coding : RowCoding) (r : ℕ) (b : RowStart) (rows : List (List Bool)) (flags : List Bool) (last : RowStart) → 1 ≤ coding.width → Run coding r b rows flags last → RunEnough 0 coding r b rows flags → rows ≡ []
+none_enough : (coding : RowCoding) (r : ℕ) (b : RowStart) (rows : List (List Bool)) (flags : List Bool) (last : RowStart) → 1 ≤ coding.width → Run coding r b rows flags last →
+    RunEnough 0 coding r b rows flags → rows ≡ []
 none_enough coding r b [] flags last some run enough = refl
 none_enough coding r b (row ∷ rows) [] last some run enough = absurd run
 none_enough coding r b (row ∷ rows) (flag ∷ flags) last some run enough =
-    absurd (short_code coding.mode.two_line coding.mode.typical (lines_with b row) (offset_at coding.move r b.offset) b.previous flag b.state 0 (let wide = run.0.wide in omega (arith, some, wide)) (omega arith) run.0.legal enough.0)
+    absurd (short_code coding.mode.two_line coding.mode.typical (lines_with b row) (offset_at coding.move r b.offset) b.previous flag b.state 0 (let wide = run.0.wide in omega (arith, some, wide))
+    (omega arith) run.0.legal enough.0)
 
 -- the image of a raster of this width and height
 pub pbm_of : (h : Fields) (height : ℕ) (raster : Raster) (body : List ℕ) → DenotesAt h height body raster → pbm_text raster ≡ pbm_rows h.xd height raster.rows
@@ -68,7 +70,8 @@ module _ (q : CoderLaws) (h : Fields) (height : ℕ) (u : IsInUse h height) (str
 
     lying : AreLying h (begun_stripes stripes segments (code ++ more)) (length stripes) (flagged (first ++ rows) (first_flags ++ flags))
     lying = went decides where
-      went : (RunEnough (length code) (stripe_coding h segments) 0 (first_row_start mid) rows flags) ⊎ (more ≡ []) → AreLying h (begun_stripes stripes segments (code ++ more)) (length stripes) (flagged (first ++ rows) (first_flags ++ flags))
+      went : (RunEnough (length code) (stripe_coding h segments) 0 (first_row_start mid) rows flags) ⊎ (more ≡ []) →
+          AreLying h (begun_stripes stripes segments (code ++ more)) (length stripes) (flagged (first ++ rows) (first_flags ++ flags))
       went (inl enough) = long_lying q u.accepted here (carried_decided h height u.accepted stripes segments code first rows first_flags flags mid fewer run front enough)
       went (inr none) =
           subst (λ z. AreLying h (begun_stripes stripes segments z) (length stripes) (flagged (first ++ rows) (first_flags ++ flags))) (sym (append-nil code) ∙ ap (λ z. code ++ z) (sym none))
@@ -88,12 +91,14 @@ module _ (q : CoderLaws) (h : Fields) (height : ℕ) (u : IsInUse h height) (str
   -- the stripe is the one that isn't whole
   in_broken : (segments : List Segment) (code more : List ℕ) (rows : List (List Bool)) (flags : List Bool) → IsBytes code → IsBytes more →
       FrontRun (open_stripe h mid segments) (min (height - length stripes * h.l0) h.l0) code rows flags → RunEnough (length code) (stripe_coding h segments) 0 (first_row_start mid) rows flags →
-      (body : List ℕ) (fault : Fault) (all : List (List Bool)) (x : Fixes h height body fault all) → x.broken.stripes ≡ stripes → segments ≡ x.broken.tail_has.segments → x.broken.tail_has.code ≡ code ++ more →
+      (body : List ℕ) (fault : Fault) (all : List (List Bool)) (x : Fixes h height body fault all) → x.broken.stripes ≡ stripes → segments ≡ x.broken.tail_has.segments → x.broken.tail_has.code ≡ code
+      ++ more →
       take (length (first ++ rows)) all ≡ first ++ rows
   in_broken segments code more rows flags bytes others front enough body fault all x s_is segments_is code_is =
       let d = carried_decided h height u.accepted stripes segments code first rows first_flags flags mid fewer run front enough in
       let l = decided_longer q u.accepted (record { stripes = stripes; segments = segments; code = code; more = more; bytes = bytes; others = others }) d in
-      let there = subst (λ (z : List Stripe × List Segment × List ℕ). AreDecided h height (begun_stripes z.0 z.1 z.2) (length z.0) z.2 (flagged (first ++ rows) (first_flags ++ flags))) (λ i. (sym s_is i, segments_is i, sym code_is i)) l in
+      let there = subst (λ (z : List Stripe × List Segment × List ℕ). AreDecided h height (begun_stripes z.0 z.1 z.2) (length z.0) z.2 (flagged (first ++ rows) (first_flags ++ flags)))
+      (λ i. (sym s_is i, segments_is i, sym code_is i)) l in
       decided_in_longest q u.accepted (begun_length x.broken.stripes x.broken.tail_has.segments x.broken.tail_has.code) there x.fixed.decided x.fixed.longest
 
   -- the stripe of another reading at this place
@@ -114,12 +119,14 @@ module _ (q : CoderLaws) (h : Fields) (height : ℕ) (u : IsInUse h height) (str
   no_rows segments rows flags f enough = none_enough (stripe_coding h segments) 0 (first_row_start mid) rows flags f.last u.accepted.width_from f.run enough
 
   no_front : (segments : List Segment) (rows : List (List Bool)) → rows ≡ [] → FrontRun (open_stripe h mid segments) (min (height - length stripes * h.l0) h.l0) [] rows []
-  no_front segments rows none = subst (λ z. FrontRun (open_stripe h mid segments) (min (height - length stripes * h.l0) h.l0) [] z []) (sym none) (record { last = first_row_start mid; run = refl; few = omega arith; lies = bytes_in_start [] tt })
+  no_front segments rows none = subst (λ z. FrontRun (open_stripe h mid segments) (min (height - length stripes * h.l0) h.l0) [] z []) (sym none)
+      (record { last = first_row_start mid; run = refl; few = omega arith; lies = bytes_in_start [] tt })
 
   nothing_enough : (segments : List Segment) (rows : List (List Bool)) → rows ≡ [] → RunEnough 0 (stripe_coding h segments) 0 (first_row_start mid) rows []
   nothing_enough segments rows none = subst (λ z. RunEnough 0 (stripe_coding h segments) 0 (first_row_start mid) z []) (sym none) tt
 
-  module _ (given rest : List ℕ) (rows : List (List Bool)) (flags : List Bool) (d : StripeDecides h (stripe_place (spot_after height stripes) mid (min (height - length stripes * h.l0) h.l0)) given (flagged rows flags)) where
+  module _ (given rest : List ℕ) (rows : List (List Bool)) (flags : List Bool)
+      (d : StripeDecides h (stripe_place (spot_after height stripes) mid (min (height - length stripes * h.l0) h.l0)) given (flagged rows flags)) where
     matched : (t : Stripe) (y : List ℕ) → IsBegun h t.segments t.code → given ++ rest ≡ stripe_bytes t ++ y → Matched rows t
     matched t y legal e = went d.code refl d.decides where
       went : (code : List ℕ) → d.code ≡ code →
@@ -139,7 +146,8 @@ module _ (q : CoderLaws) (h : Fields) (height : ℕ) (u : IsInUse h height) (str
             is = sym same.0 ∙ ap (λ (z : List ℕ). made d.segments z whole.0) (sym (append-nil d.code)) ∙ ap (made d.segments (d.code ++ [])) (ap (λ (s : Stripe). s.reset) same.0);
           }
       went [] is (inl part) =
-          let none : rows ≡ [] = no_rows d.segments rows flags (subst (λ z. FrontRun (open_stripe h mid d.segments) (min (height - length stripes * h.l0) h.l0) z rows flags) is d.front) (subst (λ z. RunEnough (length z) (stripe_coding h d.segments) 0 (first_row_start mid) rows flags) is part.1) in
+          let none : rows ≡ [] = no_rows d.segments rows flags (subst (λ z. FrontRun (open_stripe h mid d.segments) (min (height - length stripes * h.l0) h.l0) z rows flags) is d.front)
+          (subst (λ z. RunEnough (length z) (stripe_coding h d.segments) 0 (first_row_start mid) rows flags) is part.1) in
           record {
             segments = t.segments;
             code = [];
@@ -154,7 +162,8 @@ module _ (q : CoderLaws) (h : Fields) (height : ℕ) (u : IsInUse h height) (str
       went (b ∷ code) is (inl part) =
           let begun : IsBegun h d.segments (b ∷ code) = subst (IsBegun h d.segments) is d.begun in
           let at : flat_map segment_bytes d.segments ++ (stuffed (b ∷ code) ++ rest) ≡ stripe_bytes t ++ y =
-          sym (append_assoc (flat_map segment_bytes d.segments) (stuffed (b ∷ code)) rest) ∙ ap (λ z. (flat_map segment_bytes d.segments ++ stuffed z) ++ rest) (sym is) ∙ ap (λ z. z ++ rest) (sym part.0) ∙ e in
+          sym (append_assoc (flat_map segment_bytes d.segments) (stuffed (b ∷ code)) rest) ∙ ap (λ z. (flat_map segment_bytes d.segments ++ stuffed z) ++ rest) (sym is)
+          ∙ ap (λ z. z ++ rest) (sym part.0) ∙ e in
           let cut = begun_in_stripe u.accepted rest t y begun legal at in
           record {
             segments = d.segments;
@@ -172,7 +181,8 @@ module _ (q : CoderLaws) (h : Fields) (height : ℕ) (u : IsInUse h height) (str
     gives_there ss same = subst (λ (z : List Stripe). GiveOnly height (length (lengths (all_segments z))) d.segments) (sym same) d.gives
 
     -- the stripe that isn't whole in another reading
-    matched_fault : (body tail : List ℕ) (fault : Fault) (all : List (List Bool)) (x : Fixes h height body fault all) → x.broken.stripes ≡ stripes → given ++ rest ≡ x.broken.tail → take (length (first ++ rows)) all ≡ first ++ rows
+    matched_fault : (body tail : List ℕ) (fault : Fault) (all : List (List Bool)) (x : Fixes h height body fault all) → x.broken.stripes ≡ stripes → given ++ rest ≡ x.broken.tail →
+        take (length (first ++ rows)) all ≡ first ++ rows
     matched_fault body tail fault all x s_is e = went d.code refl d.decides where
       went : (code : List ℕ) → d.code ≡ code →
           ((given ≡ flat_map segment_bytes d.segments ++ stuffed d.code) × RunEnough (length d.code) (stripe_coding h d.segments) 0 (first_row_start mid) rows flags)
@@ -181,12 +191,15 @@ module _ (q : CoderLaws) (h : Fields) (height : ℕ) (u : IsInUse h height) (str
           absurd (stripe_in_fault u.accepted (length x.broken.stripes) (suits_in_use u (length x.broken.stripes) (omega (arith, x.broken.fewer)))
           (record { segments = d.segments; code = d.code; reset = whole.0 }) rest d.begun (gives_there x.broken.stripes s_is) x.broken.tail_has (ap (λ z. z ++ rest) (sym whole.1) ∙ e))
       went [] is (inl part) =
-          let none : rows ≡ [] = no_rows d.segments rows flags (subst (λ z. FrontRun (open_stripe h mid d.segments) (min (height - length stripes * h.l0) h.l0) z rows flags) is d.front) (subst (λ z. RunEnough (length z) (stripe_coding h d.segments) 0 (first_row_start mid) rows flags) is part.1) in
-          in_broken x.broken.tail_has.segments [] x.broken.tail_has.code rows [] tt x.broken.tail_has.begun.bytes (no_front x.broken.tail_has.segments rows none) (nothing_enough x.broken.tail_has.segments rows none) body fault all x s_is refl refl
+          let none : rows ≡ [] = no_rows d.segments rows flags (subst (λ z. FrontRun (open_stripe h mid d.segments) (min (height - length stripes * h.l0) h.l0) z rows flags) is d.front)
+          (subst (λ z. RunEnough (length z) (stripe_coding h d.segments) 0 (first_row_start mid) rows flags) is part.1) in
+          in_broken x.broken.tail_has.segments [] x.broken.tail_has.code rows [] tt x.broken.tail_has.begun.bytes (no_front x.broken.tail_has.segments rows none)
+          (nothing_enough x.broken.tail_has.segments rows none) body fault all x s_is refl refl
       went (b ∷ code) is (inl part) =
           let begun : IsBegun h d.segments (b ∷ code) = subst (IsBegun h d.segments) is d.begun in
           let at : flat_map segment_bytes d.segments ++ (stuffed (b ∷ code) ++ rest) ≡ x.broken.tail =
-          sym (append_assoc (flat_map segment_bytes d.segments) (stuffed (b ∷ code)) rest) ∙ ap (λ z. (flat_map segment_bytes d.segments ++ stuffed z) ++ rest) (sym is) ∙ ap (λ z. z ++ rest) (sym part.0) ∙ e in
+          sym (append_assoc (flat_map segment_bytes d.segments) (stuffed (b ∷ code)) rest) ∙ ap (λ z. (flat_map segment_bytes d.segments ++ stuffed z) ++ rest) (sym is)
+          ∙ ap (λ z. z ++ rest) (sym part.0) ∙ e in
           let cut = begun_in_fault u.accepted (length x.broken.stripes) (suits_in_use u (length x.broken.stripes) (omega (arith, x.broken.fewer)))
           rest begun (gives_there x.broken.stripes s_is) x.broken.tail_has at in
           in_broken d.segments (b ∷ code) cut.1 rows flags begun.bytes (all_right (λ z. z < 256) (b ∷ code) cut.1 (subst IsBytes cut.2 x.broken.tail_has.begun.bytes))
@@ -199,33 +212,42 @@ module _ (q : CoderLaws) (h : Fields) (height : ℕ) (u : IsInUse h height) (str
     body_is : (flat_map stripe_bytes stripes ++ given) ++ rest ≡ flat_map stripe_bytes stripes ++ (given ++ rest)
     body_is = append_assoc (flat_map stripe_bytes stripes) given rest
 
-    stripe_at : (t : Stripe) (later : List Stripe) (m : Matched rows t) (ss : List Stripe) → ss ≡ stripes ++ t ∷ later → ss ≡ stripes ++ record { segments = m.segments; code = m.code ++ m.more; reset = t.reset } ∷ later
+    stripe_at : (t : Stripe) (later : List Stripe) (m : Matched rows t) (ss : List Stripe) → ss ≡ stripes ++ t ∷ later → ss ≡ stripes
+        ++ record { segments = m.segments; code = m.code ++ m.more; reset = t.reset } ∷ later
     stripe_at t later m ss e = e ∙ ap (λ (z : Stripe). stripes ++ z ∷ later) m.is
 
     raster_first : (raster : Raster) → DenotesAt h height ((flat_map stripe_bytes stripes ++ given) ++ rest) raster → take (length (first ++ rows)) raster.rows ≡ first ++ rows
     raster_first raster p = went k.0 k.1 k.2 (subst (AreStripes h) k.1 p.parts.each) where
       k : (later : List Stripe) × (p.parts.stripes ≡ stripes ++ later) × (given ++ rest ≡ flat_map stripe_bytes later ++ p.parts.rest)
-      k = first_parts u.accepted height (stripe_count height h.l0) (suits_in_use u) stripes p.parts.stripes (given ++ rest) p.parts.rest each p.parts.each gives (omega (arith, p.parts.count)) (inl (omega (arith, fewer, p.parts.count))) (sym body_is ∙ p.parts.body_is)
+      k = first_parts u.accepted height (stripe_count height h.l0) (suits_in_use u) stripes p.parts.stripes (given ++ rest) p.parts.rest each p.parts.each gives (omega (arith, p.parts.count))
+          (inl (omega (arith, fewer, p.parts.count))) (sym body_is ∙ p.parts.body_is)
 
-      went : (later : List Stripe) → p.parts.stripes ≡ stripes ++ later → given ++ rest ≡ flat_map stripe_bytes later ++ p.parts.rest → AreStripes h (stripes ++ later) → take (length (first ++ rows)) raster.rows ≡ first ++ rows
+      went : (later : List Stripe) → p.parts.stripes ≡ stripes ++ later → given ++ rest ≡ flat_map stripe_bytes later ++ p.parts.rest → AreStripes h (stripes ++ later) →
+          take (length (first ++ rows)) raster.rows ≡ first ++ rows
       went [] e at legal = absurd (let n = ap length (e ∙ append-nil stripes) in omega (arith, n, fewer, p.parts.count))
       went (t ∷ later) e at legal =
-          let m = matched t (flat_map stripe_bytes later ++ p.parts.rest) (all_right (λ (s : Stripe). IsBegun h s.segments s.code) stripes (t ∷ later) legal).0 (at ∙ append_assoc (stripe_bytes t) (flat_map stripe_bytes later) p.parts.rest) in
+          let m = matched t (flat_map stripe_bytes later ++ p.parts.rest) (all_right (λ (s : Stripe). IsBegun h s.segments s.code) stripes (t ∷ later) legal).0
+          (at ∙ append_assoc (stripe_bytes t) (flat_map stripe_bytes later) p.parts.rest) in
           in_raster m.segments m.code m.more rows m.flags m.bytes m.others m.front m.decides t.reset later body raster p (stripe_at t later m p.parts.stripes e)
 
     rows_first : (fault : Fault) (all : List (List Bool)) → Fixes h height ((flat_map stripe_bytes stripes ++ given) ++ rest) fault all → take (length (first ++ rows)) all ≡ first ++ rows
     rows_first fault all x = went k.0 k.1 k.2 (subst (AreStripes h) k.1 x.broken.each) where
       k : (later : List Stripe) × (x.broken.stripes ≡ stripes ++ later) × (given ++ rest ≡ flat_map stripe_bytes later ++ x.broken.tail)
-      k = first_parts u.accepted height (stripe_count height h.l0) (suits_in_use u) stripes x.broken.stripes (given ++ rest) x.broken.tail each x.broken.each gives (omega (arith, x.broken.fewer)) (inr (fault, x.broken.tail_has)) (sym body_is ∙ x.broken.bytes_are)
+      k = first_parts u.accepted height (stripe_count height h.l0) (suits_in_use u) stripes x.broken.stripes (given ++ rest) x.broken.tail each x.broken.each gives (omega (arith, x.broken.fewer))
+          (inr (fault, x.broken.tail_has)) (sym body_is ∙ x.broken.bytes_are)
 
-      went : (later : List Stripe) → x.broken.stripes ≡ stripes ++ later → given ++ rest ≡ flat_map stripe_bytes later ++ x.broken.tail → AreStripes h (stripes ++ later) → take (length (first ++ rows)) all ≡ first ++ rows
+      went : (later : List Stripe) → x.broken.stripes ≡ stripes ++ later → given ++ rest ≡ flat_map stripe_bytes later ++ x.broken.tail → AreStripes h (stripes ++ later) →
+          take (length (first ++ rows)) all ≡ first ++ rows
       went [] e at legal = matched_fault body x.broken.tail fault all x (e ∙ append-nil stripes) at
       went (t ∷ later) e at legal =
-          let m = matched t (flat_map stripe_bytes later ++ x.broken.tail) (all_right (λ (s : Stripe). IsBegun h s.segments s.code) stripes (t ∷ later) legal).0 (at ∙ append_assoc (stripe_bytes t) (flat_map stripe_bytes later) x.broken.tail) in
+          let m = matched t (flat_map stripe_bytes later ++ x.broken.tail) (all_right (λ (s : Stripe). IsBegun h s.segments s.code) stripes (t ∷ later) legal).0
+          (at ∙ append_assoc (stripe_bytes t) (flat_map stripe_bytes later) x.broken.tail) in
           in_rows m.segments m.code m.more rows m.flags m.bytes m.others m.front m.decides t.reset later body fault all x (stripe_at t later m x.broken.stripes e)
 
   -- The bytes of the next stripe decide the first rows of the body's outcome.
-  pub are_first : (given : List ℕ) (rows : List (List Bool)) (flags : List Bool) → StripeDecides h (stripe_place (spot_after height stripes) mid (min (height - length stripes * h.l0) h.l0)) given (flagged rows flags) → AreFirst h height (flat_map stripe_bytes stripes ++ given) (first ++ rows)
+  pub are_first : (given : List ℕ) (rows : List (List Bool)) (flags : List Bool) →
+      StripeDecides h (stripe_place (spot_after height stripes) mid (min (height - length stripes * h.l0) h.l0)) given (flagged rows flags) →
+      AreFirst h height (flat_map stripe_bytes stripes ++ given) (first ++ rows)
   are_first given rows flags d rest None text o =
       let t = text_first h.xd height (first ++ rows) o.0.rows (raster_first given rest rows flags d o.0 o.1) in
       (t.0, o.2 ∙ pbm_of h height o.0 _ o.1 ∙ t.1)

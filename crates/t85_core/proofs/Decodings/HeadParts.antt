@@ -33,7 +33,8 @@ use Rattle.t85_core.proofs.Decodings.PieceSteps.{on_same, walk_at, walk_with, at
 abbrev pub code_started : Course → Held → List Estimate → Option move.Move → code_type.Code → WalkView
 code_started w rows learned at c = record (stage_view w stage.Done rows learned) { stage = kind.Code; at = at; comment = 0; row = 0; place = place_from None; first = Some c; marker = None }
 
-pub started_view : (w : Course) (rows : Held) (learned : List Estimate) {at : Option move.Move} {c : code_type.Code} {code : InCode} → StartsCode at c code → stage_view w (stage.Code code) rows learned ≡ code_started w rows learned at c
+pub started_view : (w : Course) (rows : Held) (learned : List Estimate) {at : Option move.Move} {c : code_type.Code} {code : InCode} → StartsCode at c code →
+    stage_view w (stage.Code code) rows learned ≡ code_started w rows learned at c
 started_view w rows learned s =
     λ i. record {
       carried = record { held = rows; kept = w.kept; learned = learned };
@@ -65,7 +66,8 @@ pub record HeadParts (h : Fields) (height entities : ℕ) (given : Bool) (carrie
   pub fewer : entities < stripe_count height h.l0
   pub behind : BehindStands h (head_at (record { height = height; entities = entities; given = given }) false before) b back
 
-pub parts_of : {h : Fields} {height entities : ℕ} {given : Bool} {carried : Carried} {at : Option move.Move} (comment : Option ℕ) {text out : List ℕ} → HeadHere h height entities given carried at comment text out →
+pub parts_of : {h : Fields} {height entities : ℕ} {given : Bool} {carried : Carried} {at : Option move.Move} (comment : Option ℕ) {text out : List ℕ} →
+    HeadHere h height entities given carried at comment text out →
     HeadParts h height entities given carried (record { at = at; comment = comment }) text out
 parts_of None s = record {
   before = s.before;
@@ -80,7 +82,8 @@ parts_of (Some left) s = record {
   before = s.head.before;
   first = s.head.front;
   back = s.head.back ++ (ESC ∷ COMMENT ∷ (big_bytes 4 (length s.part + left) ++ s.part));
-  text_is = s.text_is ∙ ap (λ z. z ++ (ESC ∷ COMMENT ∷ (big_bytes 4 (length s.part + left) ++ s.part))) s.head.text_is ∙ append_assoc s.head.front s.head.back (ESC ∷ COMMENT ∷ (big_bytes 4 (length s.part + left) ++ s.part));
+  text_is = s.text_is ∙ ap (λ z. z ++ (ESC ∷ COMMENT ∷ (big_bytes 4 (length s.part + left) ++ s.part))) s.head.text_is
+      ∙ append_assoc s.head.front s.head.back (ESC ∷ COMMENT ∷ (big_bytes 4 (length s.part + left) ++ s.part));
   stripes = s.head.stripes;
   fewer = s.head.fewer;
   behind = record { front = s.head.back; comments = s.head.comments; passed = s.head.passed; begun = (s.part, s.small, refl) };
@@ -105,7 +108,8 @@ module _ {h : Fields} {height entities : ℕ} {given : Bool} {carried : Carried}
       }
 
   -- more of them came
-  pub parts_on : {b' : Head} {p p' : List ℕ} → BehindOn h (head_at (record { height = height; entities = entities; given = given }) false s.before) b b' p p' → (more : List ℕ) × (p ≡ more ++ p') × HeadParts h height entities given carried b' (text ++ more) out
+  pub parts_on : {b' : Head} {p p' : List ℕ} → BehindOn h (head_at (record { height = height; entities = entities; given = given }) false s.before) b b' p p' → (more : List ℕ) × (p ≡ more ++ p') ×
+      HeadParts h height entities given carried b' (text ++ more) out
   parts_on on =
       let k = on s.back s.behind in (
         k.0,
@@ -122,10 +126,12 @@ module _ {h : Fields} {height entities : ℕ} {given : Bool} {carried : Carried}
       )
 
   -- they break, or the piece ends in them
-  pub parts_off : CoderLaws → IsInUse h height → (p : List ℕ) (f : Fault) → StopsBehind h (behind_at (record { height = height; entities = entities; given = given }) false) b p f → CutOff (sized h height) (text ++ p) out f
+  pub parts_off : CoderLaws → IsInUse h height → (p : List ℕ) (f : Fault) → StopsBehind h (behind_at (record { height = height; entities = entities; given = given }) false) b p f →
+      CutOff (sized h height) (text ++ p) out f
   parts_off q use_ p f stops = by b.comment here_of stops.breaks
     where
-      by : (c : Option ℕ) → HeadHere h height entities given carried b.at c text out → BreaksBehind h (behind_at (record { height = height; entities = entities; given = given }) false) b c p f → CutOff (sized h height) (text ++ p) out f
+      by : (c : Option ℕ) → HeadHere h height entities given carried b.at c text out → BreaksBehind h (behind_at (record { height = height; entities = entities; given = given }) false) b c p f →
+          CutOff (sized h height) (text ++ p) out f
       by None here (unread, ends) = head_cut here q use_ p unread f stops.counted ends
       by (Some left) here (short, ended) = subst (λ z. CutOff (sized h height) (text ++ p) out z) (sym ended) (comment_off here q use_ p short)
 
@@ -138,11 +144,13 @@ abbrev carried_with : Course → Held → List Estimate → Carried
 carried_with w rows learned = record { held = rows; kept = w.kept; learned = learned }
 
 module _ (h : Fields) (height : ℕ) (w : Course) (rows : Held) (learned : List Estimate) (text out : List ℕ) (at : Option move.Move) where
-  stage_here : (comment : Option ℕ) → StageStands (head_kind comment) (sized h height) (head_view w rows learned (record { at = at; comment = comment })) text out → HeadHere h height w.entities w.given (carried_with w rows learned) at comment text out
+  stage_here : (comment : Option ℕ) → StageStands (head_kind comment) (sized h height) (head_view w rows learned (record { at = at; comment = comment })) text out →
+      HeadHere h height w.entities w.given (carried_with w rows learned) at comment text out
   stage_here None s = s
   stage_here (Some left) s = s
 
-  here_stage : (comment : Option ℕ) → HeadHere h height w.entities w.given (carried_with w rows learned) at comment text out → StageStands (head_kind comment) (sized h height) (head_view w rows learned (record { at = at; comment = comment })) text out
+  here_stage : (comment : Option ℕ) → HeadHere h height w.entities w.given (carried_with w rows learned) at comment text out →
+      StageStands (head_kind comment) (sized h height) (head_view w rows learned (record { at = at; comment = comment })) text out
   here_stage None s = s
   here_stage (Some left) s = s
 
@@ -165,7 +173,8 @@ module _ {h : Fields} {height : ℕ} (w : Course) (rows : Held) (learned : List 
           stands = here_stage h height w rows learned (text ++ k.0) out b'.at b'.comment (here_of k.2);
         })
 
-    pub head_off : CoderLaws → IsInUse h height → (f : Fault) → StopsBehind h (behind_at (record { height = height; entities = w.entities; given = w.given }) false) b' p' f → StepsOff (sized h height) (head_view w rows learned b) p f
+    pub head_off : CoderLaws → IsInUse h height → (f : Fault) → StopsBehind h (behind_at (record { height = height; entities = w.entities; given = w.given }) false) b' p' f →
+        StepsOff (sized h height) (head_view w rows learned b) p f
     head_off q use_ f stops text out s =
         let k = parts_on (parts s) (on (parts s).before) in
         subst (λ z. CutOff (sized h height) z out f) (append_assoc text k.0 p' ∙ ap (λ z. text ++ z) (sym k.1)) (parts_off k.2 q use_ p' f stops)
@@ -173,21 +182,27 @@ module _ {h : Fields} {height : ℕ} (w : Course) (rows : Held) (learned : List 
   -- ---- what follows them comes
 
   module _ (between : b.comment ≡ None) where
-    at_head : {text out : List ℕ} → WalkStands (sized h height) (head_view w rows learned b) text out → HeadStands (sized h height) (head_place w.entities w.given b.at (carried_with w rows learned)) text out
+    at_head : {text out : List ℕ} → WalkStands (sized h height) (head_view w rows learned b) text out →
+        HeadStands (sized h height) (head_place w.entities w.given b.at (carried_with w rows learned)) text out
     at_head s = at_stage (ap head_kind between) s
 
     -- the height in use
-    pub head_height : {p p' : List ℕ} (n : ℕ) → w.given ≡ false → n ≡ height → IsLegal h (NewLength n) → p ≡ segment_bytes (NewLength n) ++ p' → StepsOn (sized h height) (head_view w rows learned b) (head_view (record w { given = true }) rows learned b) p p' []
+    pub head_height : {p p' : List ℕ} (n : ℕ) → w.given ≡ false → n ≡ height → IsLegal h (NewLength n) → p ≡ segment_bytes (NewLength n) ++ p' →
+        StepsOn (sized h height) (head_view w rows learned b) (head_view (record w { given = true }) rows learned b) p p' []
     head_height {p} {p'} n none same legal taken text out s =
         on_same h height (head_view (record w { given = true }) rows learned b) text out p p' (segment_bytes (NewLength n)) taken
-        (walk_at s tt tt (put_stage h height (head_view (record w { given = true }) rows learned b) (text ++ segment_bytes (NewLength n)) out _ (ap head_kind between) (head_length (at_head s) n none same legal)))
+        (walk_at s tt tt (put_stage h height (head_view (record w { given = true }) rows learned b) (text ++ segment_bytes (NewLength n)) out _ (ap head_kind between)
+        (head_length (at_head s) n none same legal)))
 
     -- another one
-    pub head_changes : {p p' : List ℕ} → CoderLaws → IsInUse h height → (n : ℕ) → w.given ≡ false → is_valid_length h w.entities n ≡ true → IsLegal h (NewLength n) → n ≢ height → p ≡ segment_bytes (NewLength n) ++ p' → StepsOff (sized h height) (head_view w rows learned b) p Changed
+    pub head_changes : {p p' : List ℕ} → CoderLaws → IsInUse h height → (n : ℕ) → w.given ≡ false → is_valid_length h w.entities n ≡ true → IsLegal h (NewLength n) → n ≢ height → p ≡
+        segment_bytes (NewLength n) ++ p' → StepsOff (sized h height) (head_view w rows learned b) p Changed
     head_changes {p} {p'} q use_ n none valid legal other taken text out s = head_other (at_head s) q use_ p p' n none valid legal other taken
 
     -- the code
-    pub head_begins : {p p' : List ℕ} (c : code_type.Code) → IsByteOrMarker c → (d : Decoder) → DecoderIsAt d start [] → (code : InCode) → StartsCode b.at c code → p ≡ code_bytes c ++ p' → StepsOn (sized h height) (head_view w rows learned b) (stage_view (record w { decoder = d }) (stage.Code code) rows learned) p p' []
+    pub head_begins : {p p' : List ℕ} (c : code_type.Code) → IsByteOrMarker c → (d : Decoder) → DecoderIsAt d start [] → (code : InCode) → StartsCode b.at c code → p ≡ code_bytes c ++ p' →
+        StepsOn (sized h height) (head_view w rows learned b) (stage_view (record w { decoder = d }) (stage.Code code) rows learned) p p' []
     head_begins {p} {p'} c is d stands code same taken =
         subst (λ z. StepsOn (sized h height) (head_view w rows learned b) z p p' []) (sym (started_view (record w { decoder = d }) rows learned same))
-        (λ text out s. on_same h height (code_started (record w { decoder = d }) rows learned b.at c) text out p p' (code_bytes c) taken (walk_with s is tt (omega (arith, s.within)) (head_code (at_head s) c is d stands)))
+        (λ text out s. on_same h height (code_started (record w { decoder = d }) rows learned b.at c) text out p p' (code_bytes c) taken
+        (walk_with s is tt (omega (arith, s.within)) (head_code (at_head s) c is d stands)))

@@ -42,22 +42,27 @@ module _ (h : Fields) (height : ℕ) (known known' known'' : Option (List ℕ)) 
   heights_is = omega (arith, r.gives_in.heights_are)
 
   -- a stripe more
-  pub stripes_next : (more : ℕ) → StripeRead h (stripe_place (record { height = height; entities = count; heights = heights }) r.next rows) more (passage known' known'' text' text'') carried' → StripesRead h height (passage known known'' text text'') (count + 1) more carried'
+  pub stripes_next : (more : ℕ) → StripeRead h (stripe_place (record { height = height; entities = count; heights = heights }) r.next rows) more (passage known' known'' text' text'') carried' →
+      StripesRead h height (passage known known'' text text'') (count + 1) more carried'
   stripes_next more s = record {
     stripes = r.stripes ++ s.stripe ∷ [];
     many = (let long = length-append r.stripes (s.stripe ∷ []) in omega (arith, long, r.many));
     gives_in = record {
       gives = subst (GiveOnly height 0) (sym (segments_push r.stripes s.stripe)) (gives_both height 0 s.stripe.segments r.gives_in.gives
           (subst (λ n. GiveOnly height n s.stripe.segments) r.gives_in.heights_are s.gives_in.gives));
-      heights_are = (let n = many_lengths (all_segments r.stripes) s.stripe.segments in let e = ap (λ z. length (lengths z)) (segments_push r.stripes s.stripe) in omega (arith, s.gives_in.heights_are, r.gives_in.heights_are, n, e));
+      heights_are = (let n = many_lengths (all_segments r.stripes) s.stripe.segments in let e = ap (λ z. length (lengths z)) (segments_push r.stripes s.stripe) in
+          omega (arith, s.gives_in.heights_are, r.gives_in.heights_are, n, e));
     };
-    taken = subst (Consumes known known'') (sym (flat_map_push stripe_bytes r.stripes s.stripe)) (Consumes-more known known' known'' (flat_map stripe_bytes r.stripes) (stripe_bytes s.stripe) r.taken s.taken);
+    taken = subst (Consumes known known'') (sym (flat_map_push stripe_bytes r.stripes s.stripe))
+        (Consumes-more known known' known'' (flat_map stripe_bytes r.stripes) (stripe_bytes s.stripe) r.taken s.taken);
     rows = r.rows ++ s.rows;
     flags = r.flags ++ s.flags;
     next = s.next;
-    run = stripes_push h height (image_start h.xd) r.stripes r.rows r.flags r.next s.stripe s.rows s.flags s.next r.run (subst (λ n. StripeRun h n r.next s.stripe (flagged s.rows s.flags) s.next) rows_is s.run);
+    run = stripes_push h height (image_start h.xd) r.stripes r.rows r.flags r.next s.stripe s.rows s.flags s.next r.run
+        (subst (λ n. StripeRun h n r.next s.stripe (flagged s.rows s.flags) s.next) rows_is s.run);
     is_carried = s.is_carried;
-    appended = subst (Appends text text'') (sym (flat_map-append packed_row r.rows s.rows)) (Appends-more text text' text'' (flat_map packed_row r.rows) (flat_map packed_row s.rows) r.appended s.appended);
+    appended = subst (Appends text text'') (sym (flat_map-append packed_row r.rows s.rows))
+        (Appends-more text text' text'' (flat_map packed_row r.rows) (flat_map packed_row s.rows) r.appended s.appended);
   }
 
   abbrev spot_with : ℕ → ℕ → Spot
@@ -67,35 +72,46 @@ module _ (h : Fields) (height : ℕ) (known known' known'' : Option (List ℕ)) 
   here = ap (λ k. spot_with k heights) (sym r.many) ∙ ap (spot_with (length r.stripes)) heights_is
 
   -- what is said of the stripe that breaks, where it stands
-  fixed : CoderLaws → IsInUse h height → count < stripe_count height h.l0 → (given : List ℕ) (why : Fault) (rows' : List (List Bool)) (flags' : List Bool) (at : Spot) → spot_with count heights ≡ at → DecidesRows h (stripe_place (spot_with count heights) r.next rows) (flagged rows' flags') given why →
-      ((e : StripeFault h at given why) → BegunRun (open_stripe h r.next e.segments) (min (height - length r.stripes * h.l0) h.l0) e.code rows' flags' → Fixes h height (flat_map stripe_bytes r.stripes ++ given) why (r.rows ++ rows')) → Fixes h height (flat_map stripe_bytes r.stripes ++ given) why (r.rows ++ rows')
+  fixed : CoderLaws → IsInUse h height → count < stripe_count height h.l0 → (given : List ℕ) (why : Fault) (rows' : List (List Bool)) (flags' : List Bool) (at : Spot) → spot_with count heights ≡ at →
+      DecidesRows h (stripe_place (spot_with count heights) r.next rows) (flagged rows' flags') given why →
+      ((e : StripeFault h at given why) → BegunRun (open_stripe h r.next e.segments) (min (height - length r.stripes * h.l0) h.l0) e.code rows' flags' →
+      Fixes h height (flat_map stripe_bytes r.stripes ++ given) why (r.rows ++ rows')) → Fixes h height (flat_map stripe_bytes r.stripes ++ given) why (r.rows ++ rows')
   fixed q use_ fewer given why rows' flags' at same d k =
       let both : DecidesRows h (stripe_place at r.next rows) (flagged rows' flags') given why = subst (λ u. DecidesRows h (stripe_place u r.next rows) (flagged rows' flags') given why) same d in
       k both.0 (subst (λ n. BegunRun (open_stripe h r.next both.0.segments) n both.0.code rows' flags') rows_is both.1)
 
   -- a stripe that breaks
-  pub image_cut : CoderLaws → IsInUse h height → count < stripe_count height h.l0 → (fault : Fault) → StripeCut h (stripe_place (record { height = height; entities = count; heights = heights }) r.next rows) (passage known' known'' text' text'') fault → ImageCut h height (passage known known'' text text'') fault
+  pub image_cut : CoderLaws → IsInUse h height → count < stripe_count height h.l0 → (fault : Fault) →
+      StripeCut h (stripe_place (record { height = height; entities = count; heights = heights }) r.next rows) (passage known' known'' text' text'') fault →
+      ImageCut h height (passage known known'' text text'') fault
   image_cut q use_ fewer fault s = record {
     rows = r.rows ++ s.rows;
     ends = Ends-after (flat_map stripe_bytes r.stripes) r.taken (λ given why d. fixed q use_ fewer given why s.rows s.flags (spot_after height r.stripes) here d (λ e b.
-        carried_fixes q h height (flat_map stripe_bytes r.stripes ++ given) given why r.stripes e r.rows s.rows r.flags s.flags r.next use_.accepted refl (subst (λ n. n < stripe_count height h.l0) (sym r.many) fewer) r.gives_in.gives r.run b)) s.ends;
-    appended = subst (Appends text text'') (sym (flat_map-append packed_row r.rows s.rows)) (Appends-more text text' text'' (flat_map packed_row r.rows) (flat_map packed_row s.rows) r.appended s.appended);
+        carried_fixes q h height (flat_map stripe_bytes r.stripes ++ given) given why r.stripes e r.rows s.rows r.flags s.flags r.next use_.accepted refl
+        (subst (λ n. n < stripe_count height h.l0) (sym r.many) fewer) r.gives_in.gives r.run b)) s.ends;
+    appended = subst (Appends text text'') (sym (flat_map-append packed_row r.rows s.rows))
+        (Appends-more text text' text'' (flat_map packed_row r.rows) (flat_map packed_row s.rows) r.appended s.appended);
   }
 
   -- a stripe of which not all was written
-  pub image_unset : CoderLaws → IsInUse h height → count < stripe_count height h.l0 → StripeUnwritten h (stripe_place (record { height = height; entities = count; heights = heights }) r.next rows) (passage known' known'' text' text'') → ImageUnwritten h height (passage known known'' text text'')
+  pub image_unset : CoderLaws → IsInUse h height → count < stripe_count height h.l0 →
+      StripeUnwritten h (stripe_place (record { height = height; entities = count; heights = heights }) r.next rows) (passage known' known'' text' text'') →
+      ImageUnwritten h height (passage known known'' text text'')
   image_unset q use_ fewer s = record {
     given = flat_map stripe_bytes r.stripes ++ s.given;
     ahead = s.ahead;
-    taken = subst (Consumes known known'') (sym (append_assoc (flat_map stripe_bytes r.stripes) s.given s.ahead)) (Consumes-more known known' known'' (flat_map stripe_bytes r.stripes) (s.given ++ s.ahead) r.taken s.taken);
+    taken = subst (Consumes known known'') (sym (append_assoc (flat_map stripe_bytes r.stripes) s.given s.ahead))
+        (Consumes-more known known' known'' (flat_map stripe_bytes r.stripes) (s.given ++ s.ahead) r.taken s.taken);
     rows = r.rows ++ s.rows;
     first = are_first q h height use_ r.stripes r.rows r.flags r.next (subst (λ n. n < stripe_count height h.l0) (sym r.many) fewer) r.gives_in.gives r.run s.given s.rows s.flags
-        (subst (λ (z : Spot). StripeDecides h (stripe_place z r.next (min (height - length r.stripes * h.l0) h.l0)) s.given (flagged s.rows s.flags)) here (subst (λ n. StripeDecides h (stripe_place (record { height = height; entities = count; heights = heights }) r.next n) s.given (flagged s.rows s.flags)) rows_is s.decides));
+        (subst (λ (z : Spot). StripeDecides h (stripe_place z r.next (min (height - length r.stripes * h.l0) h.l0)) s.given (flagged s.rows s.flags)) here
+        (subst (λ n. StripeDecides h (stripe_place (record { height = height; entities = count; heights = heights }) r.next n) s.given (flagged s.rows s.flags)) rows_is s.decides));
     appended = subst (AppendsBeginning text text'') (sym (flat_map-append packed_row r.rows s.rows)) (beginning_after (flat_map packed_row r.rows) r.appended s.appended);
   }
 
 -- no stripe
-pub stripes_start : (h : Fields) (height width : ℕ) (known text : Option (List ℕ)) (carried : Carried) → width ≡ h.xd → IsCarried (first_row_start (image_start width)) carried → StripesRead h height (passage known known text text) 0 0 carried
+pub stripes_start : (h : Fields) (height width : ℕ) (known text : Option (List ℕ)) (carried : Carried) → width ≡ h.xd → IsCarried (first_row_start (image_start width)) carried →
+    StripesRead h height (passage known known text text) 0 0 carried
 stripes_start h height width known text carried wide first = record {
   stripes = [];
   many = refl;
@@ -110,7 +126,8 @@ stripes_start h height width known text carried wide first = record {
 }
 
 -- all stripes
-pub image_read : (h : Fields) (height : ℕ) (known known' : Option (List ℕ)) (count heights : ℕ) (carried : Carried) (text text' : Option (List ℕ)) → StripesRead h height (passage known known' text text') count heights carried → IsInUse h height → count ≡ stripe_count height h.l0 → ImageRead h height (passage known known' text text')
+pub image_read : (h : Fields) (height : ℕ) (known known' : Option (List ℕ)) (count heights : ℕ) (carried : Carried) (text text' : Option (List ℕ)) →
+    StripesRead h height (passage known known' text text') count heights carried → IsInUse h height → count ≡ stripe_count height h.l0 → ImageRead h height (passage known known' text text')
 image_read h height known known' count heights carried text text' r use_ all = record {
   given = flat_map stripe_bytes r.stripes;
   taken = r.taken;

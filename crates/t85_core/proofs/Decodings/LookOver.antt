@@ -29,7 +29,8 @@ use Rattle.t85_core.proofs.Decodings.PieceStood.{own_height, waits_of, in_code_e
 use Rattle.t85_core.proofs.Decodings.PieceBehind.{comments_so_far}
 use Rattle.t85_core.proofs.Decodings.PieceLook.{comments_behind, in_last, fewer_here}
 
-module _ (d d' : PieceView) (p : List ℕ) (is_all : Bool) (q : CoderLaws) (late : d.is_open ≡ true) (waits : d.waits ≡ true) (last : last_behind (fields_of d.header) d.walk.stage d.walk.left ≡ true) (over : LookIsOver is_all d p) (ended : StripeLeft d d') where
+module _ (d d' : PieceView) (p : List ℕ) (is_all : Bool) (q : CoderLaws) (late : d.is_open ≡ true) (waits : d.waits ≡ true) (last : last_behind (fields_of d.header) d.walk.stage d.walk.left ≡ true)
+    (over : LookIsOver is_all d p) (ended : StripeLeft d d') where
   abbrev h : Fields
   h = fields_of d.header
 
@@ -41,7 +42,8 @@ module _ (d d' : PieceView) (p : List ℕ) (is_all : Bool) (q : CoderLaws) (late
     in_code = in_last h d.walk w.at last
 
     read : StripesRead h d.header.yd (passage (Some w.done) (Some []) (Some []) (Some out)) (d.walk.entities + 1) 0 d'.walk.carried
-    read = subst (λ g. StripesRead h d.header.yd (passage (Some w.done) (Some []) (Some []) (Some out)) (d.walk.entities + 1) (cond {A = ℕ} g 1 0) d'.walk.carried) w.ungiven (ended.read w.done out w.walk)
+    read = subst (λ g. StripesRead h d.header.yd (passage (Some w.done) (Some []) (Some []) (Some out)) (d.walk.entities + 1) (cond {A = ℕ} g 1 0) d'.walk.carried) w.ungiven
+        (ended.read w.done out w.walk)
 
     all : d.header.yd ≤ (d.walk.entities + 1) * d.header.l0
     all =

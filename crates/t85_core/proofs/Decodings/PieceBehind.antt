@@ -102,7 +102,8 @@ module _ {h : Fields} {here : BehindPlace} {b : Head} {back : List ℕ} (s : Beh
       record {
         front = s.front ++ segment_bytes (Comment (k.0 ++ more));
         comments = min (s.comments + 1) (2 ^ 64 - 1);
-        passed = passed_comment (passed_ext s.passed (segment_bytes (Comment (k.0 ++ more)))) (min (s.comments + 1) (2 ^ 64 - 1)) (k.0 ++ more) (whole_segment (Comment (k.0 ++ more)) (omega (arith, k.1, same))) refl;
+        passed = passed_comment (passed_ext s.passed (segment_bytes (Comment (k.0 ++ more)))) (min (s.comments + 1) (2 ^ 64 - 1)) (k.0 ++ more)
+            (whole_segment (Comment (k.0 ++ more)) (omega (arith, k.1, same))) refl;
         begun = part_more left k more ∙ ap (λ n. s.front ++ (ESC ∷ COMMENT ∷ (big_bytes 4 n ++ (k.0 ++ more)))) same;
       }
 
@@ -121,18 +122,22 @@ module _ {h : Fields} {here : BehindPlace} {b : Head} {back : List ℕ} (s : Beh
       begun = (
         [],
         (let z : length {A = ℕ} [] ≡ 0 = refl in omega (arith, small, z)),
-        ap (λ z. z ++ (ESC ∷ COMMENT ∷ big_bytes 4 n)) front_is ∙ (let z : 0 + n ≡ n = omega arith in ap (λ z. s.front ++ (ESC ∷ COMMENT ∷ z)) (sym (append-nil (big_bytes 4 n)) ∙ ap (λ m. big_bytes 4 m ++ []) (sym z))),
+        ap (λ z. z ++ (ESC ∷ COMMENT ∷ big_bytes 4 n)) front_is ∙ (let z : 0 + n ≡ n = omega arith in
+            ap (λ z. s.front ++ (ESC ∷ COMMENT ∷ z)) (sym (append-nil (big_bytes 4 n)) ∙ ap (λ m. big_bytes 4 m ++ []) (sym z))),
       );
     }
 
     -- a move
-    pub behind_move : (to : move.Move) → move_came here.last b.at ≡ false → IsLegal h (Move to.row to.offset) → BehindStands h here (record { at = Some to; comment = b.comment }) (back ++ segment_bytes (Move to.row to.offset))
+    pub behind_move : (to : move.Move) → move_came here.last b.at ≡ false → IsLegal h (Move to.row to.offset) →
+        BehindStands h here (record { at = Some to; comment = b.comment }) (back ++ segment_bytes (Move to.row to.offset))
     behind_move to none legal = record {
       front = s.front ++ segment_bytes (Move to.row to.offset);
       comments = s.comments;
-      passed = subst (λ m. HasPassed h (place_at_head here) here.last (Some (s.front ++ segment_bytes (Move to.row to.offset))) (Some []) (segments_so_far (Some to) m here.place.given s.comments)) (sym (or_true here.last))
+      passed = subst (λ m. HasPassed h (place_at_head here) here.last (Some (s.front ++ segment_bytes (Move to.row to.offset))) (Some []) (segments_so_far (Some to) m here.place.given s.comments))
+          (sym (or_true here.last))
           (passed_move (passed_ext s.passed (segment_bytes (Move to.row to.offset))) to none (whole_segment (Move to.row to.offset) legal));
-      begun = subst (λ z. CommentBegun z (s.front ++ segment_bytes (Move to.row to.offset)) (back ++ segment_bytes (Move to.row to.offset))) (sym between) (ap (λ z. z ++ segment_bytes (Move to.row to.offset)) front_is);
+      begun = subst (λ z. CommentBegun z (s.front ++ segment_bytes (Move to.row to.offset)) (back ++ segment_bytes (Move to.row to.offset))) (sym between)
+          (ap (λ z. z ++ segment_bytes (Move to.row to.offset)) front_is);
     }
 
     -- a comment

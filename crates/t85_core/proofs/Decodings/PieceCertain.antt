@@ -59,16 +59,19 @@ opened_some : (bytes text : List ℕ) → 1 ≤ length bytes → AllByRecursion 
 opened_some [] text some small is = absurd (omega (arith, some))
 opened_some (b ∷ bytes) text some small is = (b, bytes, small, is)
 
-pub entity_opened : (first : Option code_type.Code) (marker : Option Bool) (answers : List Pulled) (extra text : List ℕ) → CodeText first marker answers extra text → (Marked first marker → ⊥) → IsOpenCode text
+pub entity_opened : (first : Option code_type.Code) (marker : Option Bool) (answers : List Pulled) (extra text : List ℕ) → CodeText first marker answers extra text → (Marked first marker → ⊥) →
+    IsOpenCode text
 entity_opened first (Some reset) answers extra text o unmarked = absurd (unmarked (reset, inl refl))
 entity_opened None None answers extra text o unmarked =
     opened_some (bytes_of answers ++ extra) text (o.begun refl) (All-append (λ b. b < 256) (bytes_of answers) extra o.bytes o.small) (o.text_is ∙ append-nil (stuffed (bytes_of answers ++ extra)))
 entity_opened (Some (code.Byte b)) None answers extra text o unmarked =
     opened_some ((bytes_of answers ++ extra) ++ b ∷ []) text (let l = length-append (bytes_of answers ++ extra) (b ∷ []) in omega (arith, l))
-    (All-append (λ b. b < 256) (bytes_of answers ++ extra) (b ∷ []) (All-append (λ b. b < 256) (bytes_of answers) extra o.bytes o.small) (o.ahead, tt)) (o.text_is ∙ sym (stuffed_append (bytes_of answers ++ extra) (b ∷ [])))
+    (All-append (λ b. b < 256) (bytes_of answers ++ extra) (b ∷ []) (All-append (λ b. b < 256) (bytes_of answers) extra o.bytes o.small) (o.ahead, tt))
+    (o.text_is ∙ sym (stuffed_append (bytes_of answers ++ extra) (b ∷ [])))
 entity_opened (Some (code.Marker reset)) None answers extra text o unmarked = absurd (unmarked (reset, inr refl))
 
-pub entity_closed : (first : Option code_type.Code) (marker : Option Bool) (answers : List Pulled) (extra text : List ℕ) → CodeText first marker answers extra text → Marked first marker → IsWholeCode text
+pub entity_closed : (first : Option code_type.Code) (marker : Option Bool) (answers : List Pulled) (extra text : List ℕ) → CodeText first marker answers extra text → Marked first marker →
+    IsWholeCode text
 entity_closed first (Some reset) answers extra text o m = (bytes_of answers, reset, o.bytes, o.text_is)
 entity_closed first None answers extra text o (reset, inl e) = absurd (let bot : ⊥ = cc in bot)
 entity_closed None None answers extra text o (reset, inr e) = absurd (let bot : ⊥ = cc in bot)
@@ -108,11 +111,13 @@ pub record StripesCame (h : Fields) (count : ℕ) (text : List ℕ) : Type 0 whe
   pub none : lengths (all_segments stripes) ≡ []
   pub within : count ≤ stripe_count h.yd h.l0
 
-pub code_begins : {h : Fields} {entities : ℕ} {at : Option move.Move} {carried : Carried} {text out : List ℕ} → HeadStands (sized h h.yd) (head_place entities false at carried) text out → CodeBegins h entities text
+pub code_begins : {h : Fields} {entities : ℕ} {at : Option move.Move} {carried : Carried} {text out : List ℕ} → HeadStands (sized h h.yd) (head_place entities false at carried) text out →
+    CodeBegins h entities text
 code_begins {h} {entities} {at} {carried} {text} {out} s = record {
   stripes = s.stripes.stripes;
   segments = s.passed.segments;
-  text_is = s.text_is ∙ ap (λ z. z ++ s.back) (s.stripes.taken ∙ append-nil (flat_map stripe_bytes s.stripes.stripes)) ∙ ap (λ z. flat_map stripe_bytes s.stripes.stripes ++ z) (s.passed.taken ∙ append-nil (flat_map segment_bytes s.passed.segments));
+  text_is = s.text_is ∙ ap (λ z. z ++ s.back) (s.stripes.taken ∙ append-nil (flat_map stripe_bytes s.stripes.stripes))
+      ∙ ap (λ z. flat_map stripe_bytes s.stripes.stripes ++ z) (s.passed.taken ∙ append-nil (flat_map segment_bytes s.passed.segments));
   many = s.stripes.many;
   each = stripes_whole h h.yd (image_start h.xd) s.stripes.stripes s.stripes.rows s.stripes.flags s.stripes.next s.stripes.run;
   begun = s.passed.begun;
@@ -121,7 +126,8 @@ code_begins {h} {entities} {at} {carried} {text} {out} s = record {
   fewer = s.fewer;
 }
 
-pub begins_with : {h : Fields} {entities : ℕ} {at : Option move.Move} {carried : Carried} {text out : List ℕ} (s : HeadStands (sized h h.yd) (head_place entities false at carried) text out) → (code_begins s).segments ≡ s.passed.segments
+pub begins_with : {h : Fields} {entities : ℕ} {at : Option move.Move} {carried : Carried} {text out : List ℕ} (s : HeadStands (sized h h.yd) (head_place entities false at carried) text out) →
+    (code_begins s).segments ≡ s.passed.segments
 unfolding code_begins
 begins_with s = refl
 
@@ -152,14 +158,17 @@ module _ {h : Fields} {count : ℕ} {text : List ℕ} (ok : IsAccepted h) (s : S
   same_tail rest n g same = (one_front ok s.stripes g.stripes rest (tail_of n g) s.each g.each (s.many ∙ same) (ap (λ z. z ++ rest) (sym s.text_is) ∙ g.body_is)).1
 
   -- a height behind these segments
-  pub came_gives : IsTrue (is_variable h) → {at : Option move.Move} {moved last : Bool} {front : List ℕ} {comments : ℕ} (p : HasPassed h (record { height = h.yd; entities = count; given = false }) last (Some front) (Some []) (segments_so_far at moved false comments)) →
-      (count ≡ stripe_count h.yd h.l0 → AllByRecursion (λ s. IsTrue (is_comment s)) p.segments) → (n : ℕ) → is_valid_length h count n ≡ true → (rest : List ℕ) → GivesHeight h (text ++ (front ++ (segment_bytes (NewLength n) ++ rest))) n
+  pub came_gives : IsTrue (is_variable h) → {at : Option move.Move} {moved last : Bool} {front : List ℕ} {comments : ℕ}
+      (p : HasPassed h (record { height = h.yd; entities = count; given = false }) last (Some front) (Some []) (segments_so_far at moved false comments)) →
+      (count ≡ stripe_count h.yd h.l0 → AllByRecursion (λ s. IsTrue (is_comment s)) p.segments) → (n : ℕ) → is_valid_length h count n ≡ true → (rest : List ℕ) →
+      GivesHeight h (text ++ (front ++ (segment_bytes (NewLength n) ++ rest))) n
   came_gives variable {front = front} p comments n valid rest = record {
     variable = variable;
     stripes = s.stripes;
     segments = p.segments;
     rest = rest;
-    body_is = ap (λ z. z ++ (front ++ (segment_bytes (NewLength n) ++ rest))) s.text_is ∙ ap (λ z. flat_map stripe_bytes s.stripes ++ (z ++ (segment_bytes (NewLength n) ++ rest))) (p.taken ∙ append-nil (flat_map segment_bytes p.segments));
+    body_is = ap (λ z. z ++ (front ++ (segment_bytes (NewLength n) ++ rest))) s.text_is
+        ∙ ap (λ z. flat_map stripe_bytes s.stripes ++ (z ++ (segment_bytes (NewLength n) ++ rest))) (p.taken ∙ append-nil (flat_map segment_bytes p.segments));
     each = s.each;
     begun = p.begun;
     first = lengths_append (all_segments s.stripes) p.segments ∙ ap (λ z. z ++ lengths p.segments) s.none ∙ nil_of (lengths p.segments) (let e = p.given_is in omega (arith, e));
@@ -181,7 +190,8 @@ module _ {h : Fields} {entities : ℕ} {text : List ℕ} (ok : IsAccepted h) (s 
   pub whole_stripe : (bytes : List ℕ) (reset : Bool) → AllByRecursion (λ b. b < 256) bytes → StripesCame h (entities + 1) (text ++ (stuffed bytes ++ marker_bytes reset))
   whole_stripe bytes reset small = record {
     stripes = s.stripes ++ stripe ∷ [];
-    text_is = ap (λ z. z ++ (stuffed bytes ++ marker_bytes reset)) s.text_is ∙ append_assoc (flat_map stripe_bytes s.stripes) (flat_map segment_bytes s.segments) (stuffed bytes ++ marker_bytes reset) ∙ sym (flat_map_push stripe_bytes s.stripes stripe);
+    text_is = ap (λ z. z ++ (stuffed bytes ++ marker_bytes reset)) s.text_is ∙ append_assoc (flat_map stripe_bytes s.stripes) (flat_map segment_bytes s.segments) (stuffed bytes ++ marker_bytes reset)
+        ∙ sym (flat_map_push stripe_bytes s.stripes stripe);
     many = (let long = length-append s.stripes (stripe ∷ []) in let m = s.many in omega (arith, long, m));
     each = All-append (λ s. IsBegun h s.segments s.code) s.stripes (stripe ∷ []) s.each (record { legal = s.begun.legal; one_move = s.begun.one_move; bytes = small }, tt);
     none = ap lengths (segments_push s.stripes stripe) ∙ lengths_append (all_segments s.stripes) s.segments ∙ ap (λ z. z ++ lengths s.segments) s.none_before ∙ s.none_here;
@@ -190,18 +200,21 @@ module _ {h : Fields} {entities : ℕ} {text : List ℕ} (ok : IsAccepted h) (s 
     stripe : Stripe
     stripe = record { segments = s.segments; code = bytes; reset = reset }
 
-  closed_above : (bytes : List ℕ) (reset : Bool) → AllByRecursion (λ b. b < 256) bytes → (rest : List ℕ) (n : ℕ) → GivesHeight h ((text ++ (stuffed bytes ++ marker_bytes reset)) ++ rest) n → entities * h.l0 < n
+  closed_above : (bytes : List ℕ) (reset : Bool) → AllByRecursion (λ b. b < 256) bytes → (rest : List ℕ) (n : ℕ) → GivesHeight h ((text ++ (stuffed bytes ++ marker_bytes reset)) ++ rest) n →
+      entities * h.l0 < n
   closed_above bytes reset small rest n g = let le = came_before ok (whole_stripe bytes reset small) rest n g in after_more h n entities (length g.stripes) g.valid (omega (arith, le))
 
   newest_valid : is_valid_length h (entities + 1) (entities * h.l0 + 1) ≡ true
-  newest_valid = valid_in_use h (entities * h.l0 + 1) (entities + 1) ok.stripe_from (omega arith) (omega (arith, has_row)) (let e = stripes_of (entities * h.l0 + 1) h.l0 entities ok.stripe_from (omega arith) (let o = ok.stripe_from in omega (arith, o)) in omega (arith, e))
+  newest_valid = valid_in_use h (entities * h.l0 + 1) (entities + 1) ok.stripe_from (omega arith) (omega (arith, has_row))
+      (let e = stripes_of (entities * h.l0 + 1) h.l0 entities ok.stripe_from (omega arith) (let o = ok.stripe_from in omega (arith, o)) in omega (arith, e))
 
   -- ---- where bytes of the code came
 
   opened_above : (b : ℕ) (bytes : List ℕ) → AllByRecursion (λ b. b < 256) (b ∷ bytes) → (rest : List ℕ) (n : ℕ) → GivesHeight h ((text ++ stuffed (b ∷ bytes)) ++ rest) n → entities * h.l0 < n
   opened_above b bytes small rest n g = went (cases_lt entities (length here.stripes)) where
     body : (text ++ stuffed (b ∷ bytes)) ++ rest ≡ flat_map stripe_bytes s.stripes ++ (flat_map segment_bytes s.segments ++ (stuffed (b ∷ bytes) ++ rest))
-    body = append_assoc text (stuffed (b ∷ bytes)) rest ∙ ap (λ z. z ++ (stuffed (b ∷ bytes) ++ rest)) s.text_is ∙ append_assoc (flat_map stripe_bytes s.stripes) (flat_map segment_bytes s.segments) (stuffed (b ∷ bytes) ++ rest)
+    body = append_assoc text (stuffed (b ∷ bytes)) rest ∙ ap (λ z. z ++ (stuffed (b ∷ bytes) ++ rest)) s.text_is
+        ∙ append_assoc (flat_map stripe_bytes s.stripes) (flat_map segment_bytes s.segments) (stuffed (b ∷ bytes) ++ rest)
 
     here : GivesHeight h (flat_map stripe_bytes s.stripes ++ (flat_map segment_bytes s.segments ++ (stuffed (b ∷ bytes) ++ rest))) n
     here = subst (λ z. GivesHeight h z n) body g
@@ -215,7 +228,8 @@ module _ {h : Fields} {entities : ℕ} {text : List ℕ} (ok : IsAccepted h) (s 
         let none : length (lengths (all_segments here.stripes)) ≡ 0 = ap length (none_left (all_segments here.stripes) here.segments here.first) in
         let k = begun_in_fault ok (length here.stripes) (never_suits h (length here.stripes) (length here.stripes) (omega arith)) rest
         (record { legal = s.begun.legal; one_move = s.begun.one_move; bytes = small }) (gives_none 0 (length (lengths (all_segments here.stripes))) s.segments (omega (arith, none)) s.none_here)
-        (given_breaks ok (flat_map stripe_bytes s.stripes ++ (flat_map segment_bytes s.segments ++ (stuffed (b ∷ bytes) ++ rest))) n here) (same_tail ok before_it (flat_map segment_bytes s.segments ++ (stuffed (b ∷ bytes) ++ rest)) n here same) in
+        (given_breaks ok (flat_map stripe_bytes s.stripes ++ (flat_map segment_bytes s.segments ++ (stuffed (b ∷ bytes) ++ rest))) n here)
+        (same_tail ok before_it (flat_map segment_bytes s.segments ++ (stuffed (b ∷ bytes) ++ rest)) n here same) in
         nothing k.1 k.2
       where
         nothing : (more : List ℕ) → [] ≡ (b ∷ bytes) ++ more → ⊥
@@ -242,7 +256,8 @@ module _ {h : Fields} {entities : ℕ} {text : List ℕ} (ok : IsAccepted h) (s 
 
   -- the least one, after what came behind the end marker
   module _ (variable : IsTrue (is_variable h)) where
-    least_behind : (code back more : List ℕ) → IsWholeCode code → {at : Option move.Move} {moved last : Bool} {front : List ℕ} {comments : ℕ} (p : HasPassed h (record { height = h.yd; entities = entities + 1; given = false }) last (Some front) (Some []) (segments_so_far at moved false comments)) →
+    least_behind : (code back more : List ℕ) → IsWholeCode code → {at : Option move.Move} {moved last : Bool} {front : List ℕ} {comments : ℕ}
+        (p : HasPassed h (record { height = h.yd; entities = entities + 1; given = false }) last (Some front) (Some []) (segments_so_far at moved false comments)) →
         back ++ more ≡ front → (entities + 1 ≡ stripe_count h.yd h.l0 → AllByRecursion (λ s. IsTrue (is_comment s)) p.segments) → IsLeastHeight h ((text ++ code) ++ back) (entities * h.l0 + 1)
     least_behind code back more (bytes, reset, small, is) {front = front} p whole comments = record {
       below = λ rest n i. least_below code (inr (bytes, reset, small, is)) (back ++ rest) n (subst (λ z. IsHeight h z n) (append_assoc (text ++ code) back rest) i);
@@ -267,14 +282,16 @@ module _ {h : Fields} {entities : ℕ} {text : List ℕ} (ok : IsAccepted h) (s 
 
       by : (more : List ℕ) × IsWholeCode (code ++ more) → (rest : List ℕ) × IsHeight h ((text ++ code) ++ rest) (entities * h.l0 + 1)
       by (more, closed_) =
-          let k = least_behind (code ++ more) [] [] closed_ none refl (λ _. only_comments none.segments (let e = none.counted in omega (arith, e)) (nil_of (lengths none.segments) (let e = none.given_is in omega (arith, e)))) in
+          let k = least_behind (code ++ more) [] [] closed_ none refl (λ _. only_comments none.segments (let e = none.counted in omega (arith, e))
+          (nil_of (lengths none.segments) (let e = none.given_is in omega (arith, e)))) in
           let text_is : (text ++ (code ++ more)) ++ [] ≡ (text ++ code) ++ more = append-nil (text ++ (code ++ more)) ∙ sym (append_assoc text code more) in
           (more ++ k.reached.0, subst (λ z. IsHeight h z (entities * h.l0 + 1)) (ap (λ z. z ++ k.reached.0) text_is ∙ append_assoc (text ++ code) more k.reached.0) k.reached.1)
 
 -- ---- a decoder
 
 -- what is left of a comment
-comment_ends : {h : Fields} {place : Place} {last : Bool} (b : Head) (back : List ℕ) → BehindStands h (behind_at place last) b back → (more : List ℕ) × (ends : Head) × (ends.comment ≡ None) × BehindStands h (behind_at place last) ends (back ++ more)
+comment_ends : {h : Fields} {place : Place} {last : Bool} (b : Head) (back : List ℕ) → BehindStands h (behind_at place last) b back → (more : List ℕ) × (ends : Head) × (ends.comment ≡ None) ×
+    BehindStands h (behind_at place last) ends (back ++ more)
 comment_ends {h} {place} {last} b back s = by b.comment refl where
   by : (o : Option ℕ) → b.comment ≡ o → (more : List ℕ) × (ends : Head) × (ends.comment ≡ None) × BehindStands h (behind_at place last) ends (back ++ more)
   by None between = ([], b, between, subst (BehindStands h (behind_at place last) b) (sym (append-nil back)) s)
@@ -286,11 +303,15 @@ module _ (h : Fields) (ok : IsAccepted h) (variable : IsTrue (is_variable h)) (w
   in_code text out c = by c.in_code where
     by : IsInCode w.stage → IsLeastHeight h text (w.entities * h.l0 + 1)
     by (inl e) =
-        let s : CodeStands (sized h h.yd) (head_place w.entities false w.at w.carried) (code_place w.row w.first w.marker w.decoder) text out = subst (λ g. CodeStands (sized h h.yd) (head_place w.entities g w.at w.carried) (code_place w.row w.first w.marker w.decoder) text out) c.ungiven (at_stage e c.walk) in
-        subst (λ z. IsLeastHeight h z (w.entities * h.l0 + 1)) (sym s.text_is) (least_within ok (code_begins s.head) variable s.code (entity_begun w.first w.marker s.read.answers s.extra s.code s.code_is))
+        let s : CodeStands (sized h h.yd) (head_place w.entities false w.at w.carried) (code_place w.row w.first w.marker w.decoder) text out =
+        subst (λ g. CodeStands (sized h h.yd) (head_place w.entities g w.at w.carried) (code_place w.row w.first w.marker w.decoder) text out) c.ungiven (at_stage e c.walk) in
+        subst (λ z. IsLeastHeight h z (w.entities * h.l0 + 1)) (sym s.text_is)
+        (least_within ok (code_begins s.head) variable s.code (entity_begun w.first w.marker s.read.answers s.extra s.code s.code_is))
     by (inr e) =
-        let s : InRowStands (sized h h.yd) (head_place w.entities false w.at w.carried) (code_place w.row w.first w.marker w.decoder) w.place text out = subst (λ g. InRowStands (sized h h.yd) (head_place w.entities g w.at w.carried) (code_place w.row w.first w.marker w.decoder) w.place text out) c.ungiven (at_stage e c.walk) in
-        subst (λ z. IsLeastHeight h z (w.entities * h.l0 + 1)) (sym s.text_is) (least_within ok (code_begins s.head) variable s.code (entity_begun w.first w.marker (s.begun.read.answers ++ s.begun.since) [] s.code s.code_is))
+        let s : InRowStands (sized h h.yd) (head_place w.entities false w.at w.carried) (code_place w.row w.first w.marker w.decoder) w.place text out =
+        subst (λ g. InRowStands (sized h h.yd) (head_place w.entities g w.at w.carried) (code_place w.row w.first w.marker w.decoder) w.place text out) c.ungiven (at_stage e c.walk) in
+        subst (λ z. IsLeastHeight h z (w.entities * h.l0 + 1)) (sym s.text_is)
+        (least_within ok (code_begins s.head) variable s.code (entity_begun w.first w.marker (s.begun.read.answers ++ s.begun.since) [] s.code s.code_is))
 
   module _ (b : Head) (text out : List ℕ) (s : WalkWaits h w b text out) where
     ends : (more : List ℕ) × (ends : Head) × (ends.comment ≡ None) × BehindStands h (behind_at (place_behind h w.stage w.entities) (last_behind h w.stage w.left)) ends (s.back ++ more)
@@ -318,7 +339,8 @@ module _ (h : Fields) (ok : IsAccepted h) (variable : IsTrue (is_variable h)) (w
       there = subst (λ l. BehindStands h (behind_at (place_behind h w.stage w.entities) l) ends.1 (s.back ++ ends.0)) (ap (λ k. is_last k (nat_le w.left h.l0)) is) ends.3
 
       head : HeadStands (sized h h.yd) (head_place w.entities false ends.1.at w.carried) (s.done ++ (s.back ++ ends.0)) out
-      head = subst (λ z. HeadStands (sized h h.yd) (head_place w.entities false ends.1.at w.carried) (s.done ++ z) out) (sym (front_is there ends.2)) (head_segments h w ends.1 (place_behind h w.stage w.entities) s.done (s.back ++ ends.0) out s.walk is none s.ungiven place_is there)
+      head = subst (λ z. HeadStands (sized h h.yd) (head_place w.entities false ends.1.at w.carried) (s.done ++ z) out) (sym (front_is there ends.2))
+          (head_segments h w ends.1 (place_behind h w.stage w.entities) s.done (s.back ++ ends.0) out s.walk is none s.ungiven place_is there)
 
       valid : is_valid_length h w.entities (w.entities * h.l0 + 1) ≡ true
       valid = valid_in_use h (w.entities * h.l0 + 1) w.entities ok.stripe_from (omega arith) (let y = ok.height_from in omega (arith, zero, y)) (omega (arith, first))
@@ -326,7 +348,8 @@ module _ (h : Fields) (ok : IsAccepted h) (variable : IsTrue (is_variable h)) (w
       text_is : ((s.done ++ (s.back ++ ends.0)) ++ segment_bytes (NewLength (w.entities * h.l0 + 1))) ++ [] ≡ (s.done ++ s.back) ++ (ends.0 ++ segment_bytes (NewLength (w.entities * h.l0 + 1)))
       text_is =
           append-nil ((s.done ++ (s.back ++ ends.0)) ++ segment_bytes (NewLength (w.entities * h.l0 + 1)))
-          ∙ ap (λ z. z ++ segment_bytes (NewLength (w.entities * h.l0 + 1))) (sym (append_assoc s.done s.back ends.0)) ∙ append_assoc (s.done ++ s.back) ends.0 (segment_bytes (NewLength (w.entities * h.l0 + 1)))
+          ∙ ap (λ z. z ++ segment_bytes (NewLength (w.entities * h.l0 + 1))) (sym (append_assoc s.done s.back ends.0))
+          ∙ append_assoc (s.done ++ s.back) ends.0 (segment_bytes (NewLength (w.entities * h.l0 + 1)))
 
     -- behind the end marker of a stripe
     at_marker : IsInCode w.stage → HasMarker w → IsLeastHeight h text (w.entities * h.l0 + 1)
@@ -344,10 +367,12 @@ module _ (h : Fields) (ok : IsAccepted h) (variable : IsTrue (is_variable h)) (w
 
       by : IsInCode w.stage → IsLeastHeight h (s.done ++ s.back) (w.entities * h.l0 + 1)
       by (inl e) =
-          let k : CodeStands (sized h h.yd) (head_place w.entities false w.at w.carried) (code_place w.row w.first w.marker w.decoder) s.done out = subst (λ g. CodeStands (sized h h.yd) (head_place w.entities g w.at w.carried) (code_place w.row w.first w.marker w.decoder) s.done out) s.ungiven (at_stage e s.walk) in
+          let k : CodeStands (sized h h.yd) (head_place w.entities false w.at w.carried) (code_place w.row w.first w.marker w.decoder) s.done out =
+          subst (λ g. CodeStands (sized h h.yd) (head_place w.entities g w.at w.carried) (code_place w.row w.first w.marker w.decoder) s.done out) s.ungiven (at_stage e s.walk) in
           behind k.before k.code (code_begins k.head) (entity_closed w.first w.marker k.read.answers k.extra k.code k.code_is marked) k.text_is
       by (inr e) =
-          let k : InRowStands (sized h h.yd) (head_place w.entities false w.at w.carried) (code_place w.row w.first w.marker w.decoder) w.place s.done out = subst (λ g. InRowStands (sized h h.yd) (head_place w.entities g w.at w.carried) (code_place w.row w.first w.marker w.decoder) w.place s.done out) s.ungiven (at_stage e s.walk) in
+          let k : InRowStands (sized h h.yd) (head_place w.entities false w.at w.carried) (code_place w.row w.first w.marker w.decoder) w.place s.done out =
+          subst (λ g. InRowStands (sized h h.yd) (head_place w.entities g w.at w.carried) (code_place w.row w.first w.marker w.decoder) w.place s.done out) s.ungiven (at_stage e s.walk) in
           behind k.before k.code (code_begins k.head) (entity_closed w.first w.marker (k.begun.read.answers ++ k.begun.since) [] k.code k.code_is marked) k.text_is
 
     waiting : IsLeastHeight h text (w.entities * h.l0 + 1)
@@ -365,7 +390,11 @@ module _ (d : PieceView) (text out : List ℕ) (s : DecoderStands d text out) wh
 
   -- the height is known
   pub least_known : d.is_open ≡ false → IsLeastHeight (fields_of d.header) text d.height
-  least_known known = record { below = λ rest n i. let e = height_known (fields_of d.header) d.height text rest (own_height d.header).accepted at_false n i in omega (arith, e); reached = ([], by (is_variable (fields_of d.header)) refl) } where
+  least_known known = record {
+    below = λ rest n i. let e = height_known (fields_of d.header) d.height text rest (own_height d.header).accepted at_false n i in omega (arith, e);
+    reached =
+        ([], by (is_variable (fields_of d.header)) refl);
+  } where
     at_false : HeightKnown (fields_of d.header) d.height false text
     at_false = subst (λ b. HeightKnown (fields_of d.header) d.height b text) known s.height
 

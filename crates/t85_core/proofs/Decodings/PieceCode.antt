@@ -64,7 +64,8 @@ taken_bytes (Some c) (b ∷ bs) tail p p1 some e =
       same = sym (append_assoc (code_bytes c) (stuffed bs) tail) ∙ ap (λ z. z ++ tail) k.1;
     }
 
-taken_marker : (first : Option Code) (bs : List ℕ) (reset : Bool) (p p1 : List ℕ) → ahead_bytes first ++ p ≡ stuffed bs ++ (marker_bytes reset ++ p1) → Taken first p p1 (stuffed bs ++ marker_bytes reset)
+taken_marker : (first : Option Code) (bs : List ℕ) (reset : Bool) (p p1 : List ℕ) → ahead_bytes first ++ p ≡ stuffed bs ++ (marker_bytes reset ++ p1) →
+    Taken first p p1 (stuffed bs ++ marker_bytes reset)
 taken_marker None bs reset p p1 e = taken_bytes None bs (marker_bytes reset) p p1 (inl refl) e
 taken_marker (Some c) [] reset p p1 e = let k = marker_taken c reset p p1 e in record { given = []; taken = k.0; same = append-nil (code_bytes c) ∙ k.1 }
 taken_marker (Some c) (b ∷ bs) reset p p1 e = taken_bytes (Some c) (b ∷ bs) (marker_bytes reset) p p1 (inr (omega arith)) e
@@ -109,7 +110,8 @@ again_right xs ys h = absurd (let bot : ⊥ = cc in bot)
 
 module _ {T : Type 0} (standing : T → EntityView) (failed : T → ℕ) (s t : T) (first first1 : Option Code) (marker marker1 : Option Bool) (p p1 : List ℕ)
     (left_s : (standing s).left ≡ ahead_bytes first ++ p) (left_t : (standing t).left ≡ ahead_bytes first1 ++ p1)
-    (first_s : (standing s).first ≡ first) (first_t : (standing t).first ≡ first1) (marker_s : (standing s).marker ≡ marker) (marker_t : (standing t).marker ≡ marker1) (fault_s : (standing s).fault ≡ None)
+    (first_s : (standing s).first ≡ first) (first_t : (standing t).first ≡ first1) (marker_s : (standing s).marker ≡ marker) (marker_t : (standing t).marker ≡ marker1)
+    (fault_s : (standing s).fault ≡ None)
     (answers more : List Pulled) (text : List ℕ) (closed : IsClosed (answers ++ more)) (small : IsBytes (bytes_of (answers ++ more))) (gives : Gives (Pull standing failed) s more t) where
   abbrev A : List ℕ
   A = bytes_of answers
@@ -165,7 +167,8 @@ module _ {T : Type 0} (standing : T → EntityView) (failed : T → ℕ) (s t : 
     -- what was read ahead at the last byte
     mid_ahead : ((1 ≤ length B) × ((standing part.mid).first ≡ None)) ⊎ ((B ≡ []) × ((standing part.mid).first ≡ first))
     mid_ahead = by part.went.begun where
-      by : ((1 ≤ length B) × ((standing part.mid).first ≡ None)) ⊎ ((B ≡ []) × ((standing part.mid).first ≡ (standing s).first)) → ((1 ≤ length B) × ((standing part.mid).first ≡ None)) ⊎ ((B ≡ []) × ((standing part.mid).first ≡ first))
+      by : ((1 ≤ length B) × ((standing part.mid).first ≡ None)) ⊎ ((B ≡ []) × ((standing part.mid).first ≡ (standing s).first)) → ((1 ≤ length B) × ((standing part.mid).first ≡ None)) ⊎
+          ((B ≡ []) × ((standing part.mid).first ≡ first))
       by (inl b) = inl b
       by (inr b) = inr (b.0, b.1 ∙ first_s)
 
@@ -216,7 +219,8 @@ module _ {T : Type 0} (standing : T → EntityView) (failed : T → ℕ) (s t : 
       by_begun (inr b) =
           let same : first1 ≡ first = sym mid_first ∙ b.1 in
           let all : ahead_bytes first ++ p ≡ ahead_bytes first ++ p1 = taken ∙ ap (λ z. stuffed z ++ (ahead_bytes first1 ++ p1)) b.0 ∙ ap (λ z. ahead_bytes z ++ p1) same in
-          made [] (append_cancel_left (ahead_bytes first) p p1 all) (append-nil (ahead_bytes first) ∙ ap ahead_bytes (sym same) ∙ ap (λ z. stuffed z ++ ahead_bytes first1) (sym b.0)) (subst (λ z. IfSome z IsByteOrMarker) (sym same) o.ahead)
+          made [] (append_cancel_left (ahead_bytes first) p p1 all) (append-nil (ahead_bytes first) ∙ ap ahead_bytes (sym same) ∙ ap (λ z. stuffed z ++ ahead_bytes first1) (sym b.0))
+          (subst (λ z. IfSome z IsByteOrMarker) (sym same) o.ahead)
           (λ n. some_bytes (mid_first ∙ n))
 
     went_end : heard_of more ≡ Ended → GivesEnd (standing part.mid) (standing t) → Went
@@ -261,7 +265,8 @@ module _ {T : Type 0} (standing : T → EntityView) (failed : T → ℕ) (s t : 
     last_stopped : heard_of (answers ++ more) ≡ Stopped → GivesFault (standing part.mid) (standing t) ⊎ StopsAtMarker (standing part.mid) (standing t)
     last_stopped stopped = subst (λ k. LastIs standing part.mid k t) (sym going ∙ stopped) part.last
 
-    fault_open : heard_of (answers ++ more) ≡ Stopped → (f : fault.Fault) → (standing t).fault ≡ Some f → GivesFault (standing part.mid) (standing t) × ((g : GivesFault (standing part.mid) (standing t)) → g.why ≡ f)
+    fault_open : heard_of (answers ++ more) ≡ Stopped → (f : fault.Fault) → (standing t).fault ≡ Some f → GivesFault (standing part.mid) (standing t) ×
+        ((g : GivesFault (standing part.mid) (standing t)) → g.why ≡ f)
     fault_open stopped f is = (by (last_stopped stopped), λ g. some_is g.why f (sym g.fault ∙ is)) where
       some_is : (a b : fault.Fault) → Some a ≡ Some b → a ≡ b
       some_is a b e = cc
@@ -312,7 +317,8 @@ module _ {T : Type 0} (standing : T → EntityView) (failed : T → ℕ) (s t : 
               small = tt;
               ahead = subst (λ z. IfSome z IsByteOrMarker) (sym behind) tt;
               begun = λ _. subst (λ z. 1 ≤ length z) (sym (append-nil (bytes_of (before_fault (answers ++ more))) ∙ same_bytes ∙ both_are)) (some_bytes g.begun);
-              text_is = grown k.given [] o.text_is k.same ∙ ap (λ z. stuffed z ++ []) (sym same_bytes ∙ sym (append-nil (bytes_of (before_fault (answers ++ more))))) ∙ ap (λ z. stuffed (bytes_of (before_fault (answers ++ more)) ++ []) ++ ahead_bytes z) (sym behind);
+              text_is = grown k.given [] o.text_is k.same ∙ ap (λ z. stuffed z ++ []) (sym same_bytes ∙ sym (append-nil (bytes_of (before_fault (answers ++ more)))))
+                  ∙ ap (λ z. stuffed (bytes_of (before_fault (answers ++ more)) ++ []) ++ ahead_bytes z) (sym behind);
             },
           ),
         )
@@ -341,7 +347,8 @@ module _ {T : Type 0} (standing : T → EntityView) (failed : T → ℕ) (s t : 
             small = tt;
             ahead = subst (λ z. IfSome z IsByteOrMarker) (sym ahead) tt;
             begun = λ e. absurd (let z : None ≡ Some (code.Marker m.reset) = sym e ∙ ahead in let bot : ⊥ = cc in bot);
-            text_is = sym (append_assoc text k.given (marker_bytes m.reset)) ∙ ap (λ z. z ++ marker_bytes m.reset) front_is ∙ ap (λ z. stuffed z ++ marker_bytes m.reset) (sym same_bytes ∙ sym (append-nil (bytes_of (before_fault (answers ++ more)))))
+            text_is = sym (append_assoc text k.given (marker_bytes m.reset)) ∙ ap (λ z. z ++ marker_bytes m.reset) front_is
+                ∙ ap (λ z. stuffed z ++ marker_bytes m.reset) (sym same_bytes ∙ sym (append-nil (bytes_of (before_fault (answers ++ more)))))
                 ∙ ap (λ z. stuffed (bytes_of (before_fault (answers ++ more)) ++ []) ++ ahead_bytes z) (sym ahead);
           },
         );
@@ -363,7 +370,8 @@ module _ {T : Type 0} (standing : T → EntityView) (failed : T → ℕ) (s t : 
       } where
         nothing : (standing part.mid).first ≡ None
         nothing = none_of m.begun mid_ahead where
-          none_of : ((standing part.mid).first ≡ None) ⊎ ((standing part.mid).first ≡ Some (code.Marker m.reset)) → ((1 ≤ length B) × ((standing part.mid).first ≡ None)) ⊎ ((B ≡ []) × ((standing part.mid).first ≡ first)) → (standing part.mid).first ≡ None
+          none_of : ((standing part.mid).first ≡ None) ⊎ ((standing part.mid).first ≡ Some (code.Marker m.reset)) → ((1 ≤ length B) × ((standing part.mid).first ≡ None)) ⊎
+              ((B ≡ []) × ((standing part.mid).first ≡ first)) → (standing part.mid).first ≡ None
           none_of (inl e) b = e
           none_of (inr e) (inl b) = b.1
           none_of (inr e) (inr b) = absurd (unread (m.reset, inr (sym b.1 ∙ e)))
@@ -407,7 +415,8 @@ module _ {T : Type 0} (standing : T → EntityView) (failed : T → ℕ) (s t : 
       absurd (let both : Stopped ≡ Ended = sym stopped ∙ ap (λ z. heard_of (answers ++ z)) none ∙ ap heard_of (append-nil answers) ∙ o.ended in let bot : ⊥ = cc in bot)
 
   -- one that has not ended, or one that has
-  by_marker : {Leaves : Type 0} → CodeText first marker answers [] text → (CodeOpen first answers [] text → marker ≡ None → Leaves) → ((reset : Bool) → EntityEnded first reset answers [] text → marker ≡ Some reset → Leaves) → Leaves
+  by_marker : {Leaves : Type 0} → CodeText first marker answers [] text → (CodeOpen first answers [] text → marker ≡ None → Leaves) →
+      ((reset : Bool) → EntityEnded first reset answers [] text → marker ≡ Some reset → Leaves) → Leaves
   by_marker {Leaves} o going_ ended = by marker refl o where
     by : (m : Option Bool) → marker ≡ m → CodeText first m answers [] text → Leaves
     by None e o = going_ o e
@@ -425,5 +434,6 @@ module _ {T : Type 0} (standing : T → EntityView) (failed : T → ℕ) (s t : 
   pub code_waits : CodeText first marker answers [] text → heard_of (answers ++ more) ≡ Stopped → (standing t).fault ≡ Some Truncated → (first1 ≡ None) × (marker1 ≡ None) × Waits
   code_waits o stopped is = by_marker o (λ o e. waits_open o e stopped is) (λ reset o e. unstopped_ended reset o e stopped)
 
-  pub code_at_marker : CodeText first marker answers [] text → heard_of (answers ++ more) ≡ Stopped → (standing t).fault ≡ None → ((standing s).waits ≡ true) × ((MarkerRead marker first → ⊥) → WaitsAtMarker)
+  pub code_at_marker : CodeText first marker answers [] text → heard_of (answers ++ more) ≡ Stopped → (standing t).fault ≡ None → ((standing s).waits ≡ true) ×
+      ((MarkerRead marker first → ⊥) → WaitsAtMarker)
   code_at_marker o stopped is = by_marker o (λ o e. marker_open o e stopped is) (λ reset o e. unstopped_ended reset o e stopped)

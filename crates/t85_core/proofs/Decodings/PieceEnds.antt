@@ -55,13 +55,15 @@ nothing_no_code b z e = went (stuff_cases b) where
   went (inr p) = let k : [] ≡ b ∷ z = e ∙ ap (λ u. u ++ z) p.1 in cc
 
 no_marker_left : (bytes all given : List ℕ) (reset : Bool) → (stuffed bytes ++ marker_bytes reset) ++ given ≡ stuffed all ++ [] → ⊥
-no_marker_left bytes all given reset e = empty reset (one_code bytes all (marker_bytes reset ++ given) [] (sym (append_assoc (stuffed bytes) (marker_bytes reset) given) ∙ e) (marker_no_code reset given) nothing_no_code).1 where
-  empty : (r : Bool) → marker_bytes r ++ given ≡ [] → ⊥
-  empty true k = cc
-  empty false k = cc
+no_marker_left bytes all given reset e = empty reset (one_code bytes all (marker_bytes reset ++ given) [] (sym (append_assoc (stuffed bytes) (marker_bytes reset) given) ∙ e)
+    (marker_no_code reset given) nothing_no_code).1 where
+      empty : (r : Bool) → marker_bytes r ++ given ≡ [] → ⊥
+      empty true k = cc
+      empty false k = cc
 
 -- the marker stays known
-pub stays_marked : (text given : List ℕ) → WholeText text → (first : Option Code) (marker : Option Bool) (answers : List Pulled) (extra : List ℕ) → CodeText first marker answers extra (text ++ given) → Marked first marker
+pub stays_marked : (text given : List ℕ) → WholeText text → (first : Option Code) (marker : Option Bool) (answers : List Pulled) (extra : List ℕ) →
+    CodeText first marker answers extra (text ++ given) → Marked first marker
 stays_marked text given w first (Some reset) answers extra o = (reset, inl refl)
 stays_marked text given w None None answers extra o = absurd (no_marker_left w.0 (bytes_of answers ++ extra) given w.1 (ap (λ z. z ++ given) (sym w.2) ∙ o.text_is))
 stays_marked text given w (Some (code.Byte b)) None answers extra o =

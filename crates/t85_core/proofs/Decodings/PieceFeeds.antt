@@ -34,7 +34,8 @@ pub settled_all : (bytes left : List ℕ) (count taken : ℕ) → left ≡ drop 
 settled_all bytes left count taken e = ap (λ z. left ++ z) (drop_all (length bytes - count) (drop count bytes) (let long = length-drop count bytes in omega (arith, long))) ∙ append-nil left ∙ e
 
 -- of the first bytes what it left is held
-pub settled_first : (bytes left : List ℕ) (count taken : ℕ) → count ≤ length bytes → left ≡ drop (min taken count) (take count bytes) → left ++ drop (taken - count) (drop count bytes) ≡ drop taken bytes
+pub settled_first : (bytes left : List ℕ) (count taken : ℕ) → count ≤ length bytes → left ≡ drop (min taken count) (take count bytes) → left ++ drop (taken - count) (drop count bytes) ≡
+    drop taken bytes
 settled_first bytes left count taken within e = went (cases_lt taken count) where
   long : length (take count bytes) ≡ count
   long = length-take-le count bytes within
@@ -56,7 +57,8 @@ settled_first bytes left count taken within e = went (cases_lt taken count) wher
       ∙ ap (λ n. drop n bytes) sum
 
 -- of the first bytes nothing is held if a byte behind them was taken
-pub settled_earlier : (bytes left : List ℕ) (count taken told : ℕ) → count ≤ length bytes → left ≡ drop (min taken count) (take count bytes) → told ≡ taken - count → (left ≡ []) ⊎ ((told ≡ 0) × (length left ≤ count))
+pub settled_earlier : (bytes left : List ℕ) (count taken told : ℕ) → count ≤ length bytes → left ≡ drop (min taken count) (take count bytes) → told ≡ taken - count → (left ≡ []) ⊎
+    ((told ≡ 0) × (length left ≤ count))
 settled_earlier bytes left count taken told within e minus = went (cases_lt taken count) where
   long : length (take count bytes) ≡ count
   long = length-take-le count bytes within
@@ -83,7 +85,8 @@ cut_same held front left read taken e =
     ∙ sym (append_assoc (take read (held ++ front)) left (drop taken front)))
 
 -- A call with the stored bytes, and the front of a piece behind them: all of the piece, if more is needed.
-module _ (old new : PieceView) (held left front back joined : List ℕ) (is_end is_all : Bool) (call told : Progress) (joined_is : joined ≡ held ++ front) (is : IsCall old (call_of joined is_end call new)) (settled : Settles joined (length held) call told left)
+module _ (old new : PieceView) (held left front back joined : List ℕ) (is_end is_all : Bool) (call told : Progress) (joined_is : joined ≡ held ++ front)
+    (is : IsCall old (call_of joined is_end call new)) (settled : Settles joined (length held) call told left)
     (only : is_end ≡ true → (is_all ≡ true) × (back ≡ [])) (no : is_end ≡ false → is_all ≡ true → back ≡ [] → ⊥) (whole : call.outcome ≡ outcome.More → back ≡ []) where
   long : length joined ≡ length held + length front
   long = ap length joined_is ∙ length-append held front
@@ -153,14 +156,19 @@ module _ (old new : PieceView) (held left front back joined : List ℕ) (is_end 
       ended = is.ended ∙ ap end_in (sym settled.outcome_is);
       again = λ end at. let a = is.again end at in (settled.outcome_is ∙ a.0, (none end at).1, a.2);
       row = λ e text out k. fed k (is.row (told_by e) k.decoded out k.has);
-      waits = λ e open_ marked text out more n k f i. is.waits (told_by e) open_ marked k.decoded out (back ++ more) n k.has (follows f) (subst (λ z. IsHeight (stream_of old) z n) (sym (all_text k more)) i);
+      waits = λ e open_ marked text out more n k f i. is.waits (told_by e) open_ marked k.decoded out (back ++ more) n k.has (follows f)
+          (subst (λ z. IsHeight (stream_of old) z n) (sym (all_text k more)) i);
       more = λ e text out k.
           let m = is.more (told_by e) k.decoded out k.has in (
             fed k m.0,
             (λ w. subst (λ z. HandsOut (stream_of old) z new.height Truncated out) (part k ∙ ap (λ z. text ++ z) (sym (ap (λ z. front ++ z) (whole (told_by e)) ∙ append-nil front))) (m.1 w)),
             (λ w. subst (λ z. AwaitsHeight (stream_of old) z (stripes_ended new) out) (part k ∙ ap (λ z. text ++ z) (sym (ap (λ z. front ++ z) (whole (told_by e)) ∙ append-nil front))) (m.2 w)),
           );
-      done = λ n e. let w = is.done n (told_by e) in (w.0, (λ text out more k f. subst (λ z. HoldsImage (stream_of old) z n out) (all_text k more) (w.1 k.decoded out (back ++ more) k.has (follows f))));
+      done = λ n e. let w = is.done n (told_by e) in (
+        w.0,
+        (λ text out more k f. subst (λ z. HoldsImage (stream_of old) z n out) (all_text k more)
+            (w.1 k.decoded out (back ++ more) k.has (follows f))),
+      );
       consumed = λ n e text out more k f.
           let w = is.consumed n (told_by e) k.decoded out (back ++ more) k.has (follows f) in (
             w.0,
@@ -175,7 +183,8 @@ module _ (old new : PieceView) (held left front back joined : List ℕ) (is_end 
   }
 
 -- A call with the stored bytes, and the front of a piece behind them, which needed more, and then one with the rest.
-module _ (old mid new : PieceView) (held left front back joined rest : List ℕ) (is_end is_all : Bool) (call last : Progress) (joined_is : joined ≡ held ++ front) (is : IsCall old (call_of joined is_end call mid)) (wants : call.outcome ≡ outcome.More) (over : length held ≤ call.taken)
+module _ (old mid new : PieceView) (held left front back joined rest : List ℕ) (is_end is_all : Bool) (call last : Progress) (joined_is : joined ≡ held ++ front)
+    (is : IsCall old (call_of joined is_end call mid)) (wants : call.outcome ≡ outcome.More) (over : length held ≤ call.taken)
     (rest_is : rest ≡ drop (call.taken - length held) (front ++ back)) (next : IsFeed mid [] left (call_of rest is_all last new)) where
   abbrev piece : List ℕ
   piece = front ++ back
@@ -252,21 +261,28 @@ module _ (old mid new : PieceView) (held left front back joined rest : List ℕ)
       again = λ end at. absurd (never end at);
       row = λ e text out k. subst (λ z. HasFed new left z (out ++ row_held new)) (taken_text k) (next.fed.row e (decoded k) out (mid_fed k));
       waits = λ e open_ marked text out more n k f i.
-          next.fed.waits e open_ marked (decoded k) out more n (mid_fed k) f (subst (λ h. IsHeight h ((decoded k ++ rest) ++ more) n) (sym is.same) (subst (λ z. IsHeight (stream_of old) (z ++ more) n) (sym (whole_text k)) i));
+          next.fed.waits e open_ marked (decoded k) out more n (mid_fed k) f
+          (subst (λ h. IsHeight h ((decoded k ++ rest) ++ more) n) (sym is.same) (subst (λ z. IsHeight (stream_of old) (z ++ more) n) (sym (whole_text k)) i));
       more = λ e text out k.
           let m = next.fed.more e (decoded k) out (mid_fed k) in (
             subst (λ z. HasFed new left z out) (taken_text k) m.0,
             (λ w. subst (λ h. HandsOut h (text ++ piece) new.height Truncated out) is.same (subst (λ z. HandsOut (stream_of mid) z new.height Truncated out) (whole_text k) (m.1 w))),
             (λ w. subst (λ h. AwaitsHeight h (text ++ piece) (stripes_ended new) out) is.same (subst (λ z. AwaitsHeight (stream_of mid) z (stripes_ended new) out) (whole_text k) (m.2 w))),
           );
-      done = λ n e. let w = next.fed.done n e in (w.0, (λ text out more k f. subst (λ h. HoldsImage h ((text ++ piece) ++ more) n out) is.same (subst (λ z. HoldsImage (stream_of mid) (z ++ more) n out) (whole_text k) (w.1 (decoded k) out more (mid_fed k) f))));
+      done = λ n e. let w = next.fed.done n e in (
+        w.0,
+        (λ text out more k f. subst (λ h. HoldsImage h ((text ++ piece) ++ more) n out) is.same
+            (subst (λ z. HoldsImage (stream_of mid) (z ++ more) n out) (whole_text k) (w.1 (decoded k) out more (mid_fed k) f))),
+      );
       consumed = λ n e text out more k f.
           let w = next.fed.consumed n e (decoded k) out more (mid_fed k) f in (
             w.0,
             sym (taken_text k) ∙ w.1,
-            subst (λ h. ConsumesImage h (waits_behind new) n w.0 ((text ++ piece) ++ more)) is.same (subst (λ z. ConsumesImage (stream_of mid) (waits_behind new) n w.0 (z ++ more)) (whole_text k) w.2),
+            subst (λ h. ConsumesImage h (waits_behind new) n w.0 ((text ++ piece) ++ more)) is.same
+                (subst (λ z. ConsumesImage (stream_of mid) (waits_behind new) n w.0 (z ++ more)) (whole_text k) w.2),
           );
-      broken = λ fault e text out more k f. subst (λ h. HandsOut h ((text ++ piece) ++ more) new.height fault out) is.same (subst (λ z. HandsOut (stream_of mid) (z ++ more) new.height fault out) (whole_text k) (next.fed.broken fault e (decoded k) out more (mid_fed k) f));
+      broken = λ fault e text out more k f. subst (λ h. HandsOut h ((text ++ piece) ++ more) new.height fault out) is.same
+          (subst (λ z. HandsOut (stream_of mid) (z ++ more) new.height fault out) (whole_text k) (next.fed.broken fault e (decoded k) out more (mid_fed k) f));
     };
     all = λ e. (let all = next.all e in omega (arith, few, sum, left_long, all));
     earlier = λ e. inl (emptied (next.earlier e));

@@ -26,7 +26,8 @@ some_fields : Fields
 some_fields = record { xd = 0; yd = 0; l0 = 0; mx = 0; options = 0 }
 
 pub ends_few : (p : List ℕ) (f : Fault) → CodeEnds p f → f ≡ Truncated → length p ≤ 1
-ends_few p f k cut = subst (λ z. length z ≤ 1) (sym (k.bytes_are ∙ ap (λ z. k.rest ++ z) (k.at_end cut) ∙ append-nil k.rest)) (code_few some_fields before_all k.rest (subst (λ g. rest_fault some_fields before_all 0 true k.rest ≡ Some g) cut (k.broken some_fields before_all 0)))
+ends_few p f k cut = subst (λ z. length z ≤ 1) (sym (k.bytes_are ∙ ap (λ z. k.rest ++ z) (k.at_end cut) ∙ append-nil k.rest))
+    (code_few some_fields before_all k.rest (subst (λ g. rest_fault some_fields before_all 0 true k.rest ≡ Some g) cut (k.broken some_fields before_all 0)))
 
 pub skip_few : (p p' : List ℕ) (r : Result Bool Fault) → IfErr r (SkipBreaks p p') → IsErrOf r Truncated → length p' ≤ 1
 skip_few p p' (Ok x) k e = absurd (let bot : ⊥ = cc in bot)
@@ -44,8 +45,11 @@ tests a b c d e f g h l m k is = absurd (let bot : ⊥ = cc in bot)
 
 escape_few : (h : Fields) (spot : Spot) (moves escape : ℕ) (bytes : List ℕ) → escape_fault h spot moves false escape bytes ≡ Some Truncated → escape ≢ 7 → length bytes ≤ 5
 escape_few h spot moves escape bytes is other =
-    went (tests (escape == 0) (escape == 2) (escape == 3) (escape == 4) (escape == 1) (nat_le 8 escape) (escape == 5) (escape == 6) (length_fault h spot bytes) (move_fault h moves bytes) (comment_fault bytes) is) where
-      went : (length_fault h spot bytes ≡ Some Truncated) ⊎ ((move_fault h moves bytes ≡ Some Truncated) ⊎ (((escape == 0) ≡ false) × ((escape == 2) ≡ false) × ((escape == 3) ≡ false) × ((escape == 4) ≡ false) × ((escape == 1) ≡ false) × (nat_le 8 escape ≡ false) × ((escape == 5) ≡ false) × ((escape == 6) ≡ false))) → length bytes ≤ 5
+    went (tests (escape == 0) (escape == 2) (escape == 3) (escape == 4) (escape == 1) (nat_le 8 escape) (escape == 5) (escape == 6) (length_fault h spot bytes) (move_fault h moves bytes)
+    (comment_fault bytes) is) where
+      went : (length_fault h spot bytes ≡ Some Truncated) ⊎ ((move_fault h moves bytes ≡ Some Truncated) ⊎
+          (((escape == 0) ≡ false) × ((escape == 2) ≡ false) × ((escape == 3) ≡ false) × ((escape == 4) ≡ false) × ((escape == 1) ≡ false) × (nat_le 8 escape ≡ false) × ((escape == 5) ≡ false) ×
+          ((escape == 6) ≡ false))) → length bytes ≤ 5
       went (inl e) = let short : length bytes < 4 = grind (arith, nat_tests) in omega (arith, short)
       went (inr (inl e)) = let short : length bytes < 6 = grind (arith, nat_tests) in omega (arith, short)
       went (inr (inr (a, b, c, d, e, f, g, i))) = let seven : escape ≡ 7 = grind (arith, nat_tests) in absurd (other seven)
@@ -62,14 +66,17 @@ rest_few h spot moves (b ∷ escape ∷ bytes) is other = went (b == 255) refl i
   went false t e = absurd (let bot : ⊥ = cc in bot)
 
 -- no segment is whole, and no comment has begun
-pub piece_few : (h : Fields) (place : Place) (moved : Bool) (p p' : List ℕ) (f : Fault) → Ends Truncated (Some p) (Some p') (PieceFault h place moved) f → ((more : List ℕ) → p ≡ 255 ∷ 7 ∷ more → ⊥) → f ≡ Truncated → length p ≤ 7
+pub piece_few : (h : Fields) (place : Place) (moved : Bool) (p p' : List ℕ) (f : Fault) → Ends Truncated (Some p) (Some p') (PieceFault h place moved) f → ((more : List ℕ) → p ≡ 255 ∷ 7 ∷ more → ⊥) →
+    f ≡ Truncated → length p ≤ 7
 piece_few h place moved p p' f ends other is =
     let all : p ≡ ends.given = ends.taken ∙ ap (λ z. ends.given ++ z) (ends.at_end is) ∙ append-nil ends.given in
     let has : PieceFault h place moved ends.given Truncated = subst (λ g. PieceFault h place moved ends.given (counted_as Truncated g)) is ends.has_fault in
-    rest_few h (record { height = 0; entities = place.entities; heights = cond place.given 1 0 }) (cond moved 1 0) p (subst (λ z. rest_fault h (record { height = 0; entities = place.entities; heights = cond place.given 1 0 }) (cond moved 1 0) false z ≡ Some Truncated) (sym all) (has 0)) other
+    rest_few h (record { height = 0; entities = place.entities; heights = cond place.given 1 0 }) (cond moved 1 0) p
+    (subst (λ z. rest_fault h (record { height = 0; entities = place.entities; heights = cond place.given 1 0 }) (cond moved 1 0) false z ≡ Some Truncated) (sym all) (has 0)) other
 
 -- the length of a comment has begun
-pub comment_few : (p rest p' : List ℕ) (f : Fault) → p ≡ 255 ∷ 7 ∷ rest → Ends Truncated (Some rest) (Some p') (λ given fault. (length given < 4) × (fault ≡ Truncated)) f → f ≡ Truncated → length p ≤ 7
+pub comment_few : (p rest p' : List ℕ) (f : Fault) → p ≡ 255 ∷ 7 ∷ rest → Ends Truncated (Some rest) (Some p') (λ given fault. (length given < 4) × (fault ≡ Truncated)) f → f ≡ Truncated →
+    length p ≤ 7
 comment_few p rest p' f begins ends is =
     let all : rest ≡ ends.given = ends.taken ∙ ap (λ z. ends.given ++ z) (ends.at_end is) ∙ append-nil ends.given in
     let short : length rest < 4 = subst (λ z. length z < 4) (sym all) ends.has_fault.0 in

@@ -72,7 +72,8 @@ height_broken h body f use_ b other n (inl g) = went (cases_eq n h.yd) where
   went : (n ≡ h.yd) ⊎ (n ≢ h.yd) → n ≡ h.yd
   went (inl e) = e
   went (inr different) = absurd (other (one_broken use_.accepted h.yd (stripe_count h.yd h.l0) (suits_in_use use_) b.stripes g.stripes
-      (record { each = b.each; gives = b.gives }) (record { each = g.each; gives = gives_none h.yd 0 (all_segments g.stripes) (omega arith) none_before }) (let less = b.fewer in omega (arith, less)) g.within b.tail_has (changed different) (sym b.bytes_are ∙ g.body_is)).broken.fault)
+      (record { each = b.each; gives = b.gives }) (record { each = g.each; gives = gives_none h.yd 0 (all_segments g.stripes) (omega arith) none_before })
+      (let less = b.fewer in omega (arith, less)) g.within b.tail_has (changed different) (sym b.bytes_are ∙ g.body_is)).broken.fault)
 
 -- what breaks before a code breaks so at each height, so a height is no such fault
 module _ (h : Fields) (place : Place) (moved : Bool) (fresh : place.given ≡ false) where
@@ -81,23 +82,25 @@ module _ (h : Fields) (place : Place) (moved : Bool) (fresh : place.given ≡ fa
   by_escape a b c d e f g x y z p q r k = grind (arith, nat_tests)
 
   pub piece_other : (rest : List ℕ) (f : Fault) → PieceFault h place moved rest f → f ≢ Changed
-  piece_other rest f broken is = went rest (λ height. subst (λ z. rest_fault h (record { height = height; entities = place.entities; heights = cond place.given 1 0 }) (cond moved 1 0) false rest ≡ Some z) is (broken height)) where
-    went : (rest : List ℕ) → ((height : ℕ) → rest_fault h (record { height = height; entities = place.entities; heights = cond place.given 1 0 }) (cond moved 1 0) false rest ≡ Some Changed) → ⊥
-    went [] k = let e = k 0 in cc
-    went (b ∷ []) k = let e = k 0 in grind (arith, nat_tests)
-    went (b ∷ escape ∷ bytes) k =
-        let same : nat_eq (big_number 4 bytes) (big_number 4 bytes) ≡ true = grind (arith, nat_tests) in
-        by_escape (b == 255) ((escape == 0) || (escape == 2) || (escape == 3)) (escape == 4) (escape == 1) (nat_le 8 escape) (escape == 5) (escape == 6)
-        (length_fault h (record { height = big_number 4 bytes; entities = place.entities; heights = cond place.given 1 0 }) bytes) (move_fault h (cond moved 1 0) bytes) (comment_fault bytes)
-        (λ e. let bot : ⊥ = grind (arith, nat_tests) in bot) (λ e. let bot : ⊥ = grind (arith, nat_tests) in bot) (λ e. let bot : ⊥ = grind (arith, nat_tests) in bot)
-        (k (big_number 4 bytes))
+  piece_other rest f broken is = went rest (λ height. subst (λ z. rest_fault h (record { height = height; entities = place.entities; heights = cond place.given 1 0 }) (cond moved 1 0) false rest ≡
+      Some z) is (broken height)) where
+        went : (rest : List ℕ) → ((height : ℕ) → rest_fault h (record { height = height; entities = place.entities; heights = cond place.given 1 0 }) (cond moved 1 0) false rest ≡ Some Changed) → ⊥
+        went [] k = let e = k 0 in cc
+        went (b ∷ []) k = let e = k 0 in grind (arith, nat_tests)
+        went (b ∷ escape ∷ bytes) k =
+            let same : nat_eq (big_number 4 bytes) (big_number 4 bytes) ≡ true = grind (arith, nat_tests) in
+            by_escape (b == 255) ((escape == 0) || (escape == 2) || (escape == 3)) (escape == 4) (escape == 1) (nat_le 8 escape) (escape == 5) (escape == 6)
+            (length_fault h (record { height = big_number 4 bytes; entities = place.entities; heights = cond place.given 1 0 }) bytes) (move_fault h (cond moved 1 0) bytes) (comment_fault bytes)
+            (λ e. let bot : ⊥ = grind (arith, nat_tests) in bot) (λ e. let bot : ⊥ = grind (arith, nat_tests) in bot) (λ e. let bot : ⊥ = grind (arith, nat_tests) in bot)
+            (k (big_number 4 bytes))
 
 -- ---- the ends
 
 -- what bytes fix that are broken or end too early, whatever follows
 pub cut_fixes : (h : Fields) (height : ℕ) (text out rest : List ℕ) (f : Fault) → (c : CutOff (sized h height) text out f) → (f ≡ Truncated → rest ≡ []) → Fixes h height (text ++ rest) f c.cut.rows
 cut_fixes h height text out rest f c nothing =
-    subst (λ z. Fixes h height z f c.cut.rows) (sym all) (longer_or_all (λ z. Fixes h height z f c.cut.rows) c.cut.ends.given (c.unread ++ rest) has (λ ended. ap (λ z. z ++ rest) (c.cut.ends.at_end ended) ∙ nothing ended) (fixes_more h height c.cut.ends.given (c.unread ++ rest) f c.cut.rows has))
+    subst (λ z. Fixes h height z f c.cut.rows) (sym all) (longer_or_all (λ z. Fixes h height z f c.cut.rows) c.cut.ends.given (c.unread ++ rest) has
+    (λ ended. ap (λ z. z ++ rest) (c.cut.ends.at_end ended) ∙ nothing ended) (fixes_more h height c.cut.ends.given (c.unread ++ rest) f c.cut.rows has))
   where
     has : Fixes h height c.cut.ends.given f c.cut.rows
     has = subst (λ z. Fixes h height c.cut.ends.given z c.cut.rows) c.counted c.cut.ends.has_fault
@@ -105,15 +108,18 @@ cut_fixes h height text out rest f c nothing =
     all : text ++ rest ≡ c.cut.ends.given ++ (c.unread ++ rest)
     all = ap (λ z. z ++ rest) c.cut.ends.taken ∙ append_assoc c.cut.ends.given c.unread rest
 
-pub cut_hands : (h : Fields) (height : ℕ) (text out rest : List ℕ) (f : Fault) → HasHeight h (text ++ rest) height → (f ≡ Truncated → rest ≡ []) → CutOff (sized h height) text out f → HandsOut h (text ++ rest) height f out
+pub cut_hands : (h : Fields) (height : ℕ) (text out rest : List ℕ) (f : Fault) → HasHeight h (text ++ rest) height → (f ≡ Truncated → rest ≡ []) → CutOff (sized h height) text out f →
+    HandsOut h (text ++ rest) height f out
 cut_hands h height text out rest f is nothing c = record { height_is = is; rows = c.cut.rows; fixes = cut_fixes h height text out rest f c nothing; out_is = c.cut.appended }
 
 -- where no height came before it
-pub cut_hands_first : (h : Fields) (text out rest : List ℕ) (f : Fault) → IsInUse h h.yd → f ≢ Changed → (f ≡ Truncated → rest ≡ []) → CutOff (sized h h.yd) text out f → HandsOut h (text ++ rest) h.yd f out
+pub cut_hands_first : (h : Fields) (text out rest : List ℕ) (f : Fault) → IsInUse h h.yd → f ≢ Changed → (f ≡ Truncated → rest ≡ []) → CutOff (sized h h.yd) text out f →
+    HandsOut h (text ++ rest) h.yd f out
 cut_hands_first h text out rest f use_ other nothing c = cut_hands h h.yd text out rest f (height_broken h (text ++ rest) f use_ (cut_fixes h h.yd text out rest f c nothing).broken other) nothing c
 
 -- what a whole body holds
-pub read_holds : (h : Fields) (height : ℕ) (text out rest : List ℕ) → HasHeight h (text ++ rest) height → ImageRead h height (passage (Some text) (Some []) (Some []) (Some out)) → HoldsImage h (text ++ rest) height out
+pub read_holds : (h : Fields) (height : ℕ) (text out rest : List ℕ) → HasHeight h (text ++ rest) height → ImageRead h height (passage (Some text) (Some []) (Some []) (Some out)) →
+    HoldsImage h (text ++ rest) height out
 read_holds h height text out rest is i = record {
   height_is = is;
   rows = i.rows;
@@ -160,7 +166,8 @@ module _ (h : Fields) (height : ℕ) (text : List ℕ) (ok : IsAccepted h) (part
   given_in g = one_length height (lengths (all_segments parts.stripes)) (let one = parts.gives.one in omega (arith, one)) parts.gives.this (never g)
 
 -- the bytes that are consumed, where no height is behind the stripes
-pub read_consumes : (h : Fields) (height : ℕ) (text out rest : List ℕ) → IsAccepted h → HeightKnown h height false text → ImageRead h height (passage (Some text) (Some []) (Some []) (Some out)) → ConsumesImage h false height text (text ++ rest)
+pub read_consumes : (h : Fields) (height : ℕ) (text out rest : List ℕ) → IsAccepted h → HeightKnown h height false text → ImageRead h height (passage (Some text) (Some []) (Some []) (Some out)) →
+    ConsumesImage h false height text (text ++ rest)
 read_consumes h height text out rest ok k i = record {
   stripes = i.parts.stripes;
   bytes = [];
@@ -175,4 +182,5 @@ read_consumes h height text out rest ok k i = record {
   given : (n : ℕ) → GivesHeight h (text ++ rest) n → lengths (all_segments i.parts.stripes) ≡ n ∷ []
   given n g =
       let here : n ≡ height = one_given ok (text ++ rest) g (k.came refl g.variable rest) in
-      subst (λ m. lengths (all_segments i.parts.stripes) ≡ m ∷ []) (sym here) (given_in h height i.given ok i.parts i.only (subst (λ z. GivesHeight h (z ++ []) height) same (k.came refl g.variable [])))
+      subst (λ m. lengths (all_segments i.parts.stripes) ≡ m ∷ []) (sym here)
+      (given_in h height i.given ok i.parts i.only (subst (λ z. GivesHeight h (z ++ []) height) same (k.came refl g.variable [])))

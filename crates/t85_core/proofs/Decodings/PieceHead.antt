@@ -40,7 +40,8 @@ use Rattle.t85_core.proofs.Decodings.StripePut.{stripe_head}
 
 -- ---- with what comes after them
 
-abbrev pub stripes_ext : {h : Fields} {height : ℕ} {front : List ℕ} {count heights : ℕ} {carried : Carried} {text text' : Option (List ℕ)} → StripesRead h height (passage (Some front) (Some []) text text') count heights carried → (p : List ℕ) →
+abbrev pub stripes_ext : {h : Fields} {height : ℕ} {front : List ℕ} {count heights : ℕ} {carried : Carried} {text text' : Option (List ℕ)} →
+    StripesRead h height (passage (Some front) (Some []) text text') count heights carried → (p : List ℕ) →
     StripesRead h height (passage (Some (front ++ p)) (Some p) text text') count heights carried
 stripes_ext r p = record {
   stripes = r.stripes;
@@ -55,7 +56,8 @@ stripes_ext r p = record {
   appended = r.appended;
 }
 
-abbrev pub passed_ext : {h : Fields} {place : Place} {before : Bool} {back : List ℕ} {at : Option move.Move} {moved given : Bool} {comments : ℕ} → HasPassed h place before (Some back) (Some []) (segments_so_far at moved given comments) → (p : List ℕ) →
+abbrev pub passed_ext : {h : Fields} {place : Place} {before : Bool} {back : List ℕ} {at : Option move.Move} {moved given : Bool} {comments : ℕ} →
+    HasPassed h place before (Some back) (Some []) (segments_so_far at moved given comments) → (p : List ℕ) →
     HasPassed h place before (Some (back ++ p)) (Some p) (segments_so_far at moved given comments)
 passed_ext r p = record {
   segments = r.segments;
@@ -83,7 +85,8 @@ shape_is h shape is = ap (λ w. made w (shape_mode shape)) is.width_is ∙ ap (m
 abbrev pub whole_segment : {h : Fields} (s : _) → IsLegal h s → PassesSegment h (Some (segment_bytes s)) (Some []) s
 whole_segment s legal = record { legal = legal; taken = sym (append-nil (segment_bytes s)) }
 
-module _ {h : Fields} {height entities : ℕ} {given : Bool} {at : Option move.Move} {carried : Carried} {text out : List ℕ} (s : HeadStands (sized h height) (head_place entities given at carried) text out) where
+module _ {h : Fields} {height entities : ℕ} {given : Bool} {at : Option move.Move} {carried : Carried} {text out : List ℕ}
+    (s : HeadStands (sized h height) (head_place entities given at carried) text out) where
   abbrev pub place : Place
   place = record { height = height; entities = entities; given = s.before }
 
@@ -125,20 +128,24 @@ module _ {h : Fields} {height entities : ℕ} {given : Bool} {at : Option move.M
   -- ---- faults
 
   module _ (q : CoderLaws) (use_ : IsInUse h height) where
-    pub head_breaks : (out' p p' : List ℕ) (f : Fault) → counted_as Truncated f ≡ f → StripeCut h (stripe_place (spot_at place) s.stripes.next (rows_in h height entities)) (passage (Some (s.back ++ p)) (Some p') (Some out) (Some out')) f →
+    pub head_breaks : (out' p p' : List ℕ) (f : Fault) → counted_as Truncated f ≡ f →
+        StripeCut h (stripe_place (spot_at place) s.stripes.next (rows_in h height entities)) (passage (Some (s.back ++ p)) (Some p') (Some out) (Some out')) f →
         CutOff (sized h height) (text ++ p) out' f
     head_breaks out' p p' f counted cut = record {
       counted = counted;
       unread = p';
       cut = subst (λ z. ImageCut h height (passage (Some z) (Some p') (Some []) (Some out')) f) (all_text p)
-          (image_cut h height (Some (s.front ++ (s.back ++ p))) (Some (s.back ++ p)) (Some p') entities (cond s.before 1 0) (rows_in h height entities) carried carried (Some []) (Some out) (Some out') (stripes_ext s.stripes (s.back ++ p)) refl q use_ s.fewer f cut);
+          (image_cut h height (Some (s.front ++ (s.back ++ p))) (Some (s.back ++ p)) (Some p') entities (cond s.before 1 0) (rows_in h height entities) carried carried (Some []) (Some out) (Some out')
+          (stripes_ext s.stripes (s.back ++ p)) refl q use_ s.fewer f cut);
     }
 
     head_fault : (p p' : List ℕ) (f : Fault) → counted_as Truncated f ≡ f → Ends Truncated (Some (s.back ++ p)) (Some p') (HeadFault h (spot_at place)) f → CutOff (sized h height) (text ++ p) out f
-    head_fault p p' f counted ends = head_breaks out p p' f counted (stripe_head h (spot_at place) s.stripes.next (Some (s.back ++ p)) (Some p') (rows_in h height entities) (Some out) f use_.accepted.width_from ends)
+    head_fault p p' f counted ends = head_breaks out p p' f counted (stripe_head h (spot_at place) s.stripes.next (Some (s.back ++ p)) (Some p') (rows_in h height entities)
+        (Some out) f use_.accepted.width_from ends)
 
     -- a segment breaks
-    pub head_cut : (p p' : List ℕ) (f : Fault) → counted_as Truncated f ≡ f → Ends Truncated (Some p) (Some p') (PieceFault h (record { height = height; entities = entities; given = given }) (is_some at)) f →
+    pub head_cut : (p p' : List ℕ) (f : Fault) → counted_as Truncated f ≡ f →
+        Ends Truncated (Some p) (Some p') (PieceFault h (record { height = height; entities = entities; given = given }) (is_some at)) f →
         CutOff (sized h height) (text ++ p) out f
     head_cut p p' f counted ends = head_fault p p' f counted (cut_head (cut_segments (passed_ext s.passed p) ends))
 
@@ -170,12 +177,15 @@ short_comment h spot moves given short =
     let t : nat_lt (length given) 4 ≡ true = grind (arith, nat_tests) in
     ap (λ b. cond b (Some Truncated) (cond (nat_lt (length given) (4 + big_number 4 given)) (Some Truncated) None)) t
 
-pub length_breaks : (h : Fields) (place : Place) (moved : Bool) (p rest p' : List ℕ) (f : Fault) → p ≡ 255 ∷ 7 ∷ rest → Ends Truncated (Some rest) (Some p') (λ given fault. (length given < 4) × (fault ≡ Truncated)) f →
+pub length_breaks : (h : Fields) (place : Place) (moved : Bool) (p rest p' : List ℕ) (f : Fault) → p ≡ 255 ∷ 7 ∷ rest →
+    Ends Truncated (Some rest) (Some p') (λ given fault. (length given < 4) × (fault ≡ Truncated)) f →
     Ends Truncated (Some p) (Some p') (PieceFault h place moved) f
 length_breaks h place moved p rest p' f is ends =
-    Ends-after (255 ∷ 7 ∷ []) is (λ given fault k other. short_comment h (record { height = other; entities = place.entities; heights = cond place.given 1 0 }) (cond moved 1 0) given k.0 ∙ ap Some (sym k.1)) ends
+    Ends-after (255 ∷ 7 ∷ []) is (λ given fault k other. short_comment h (record { height = other; entities = place.entities; heights = cond place.given 1 0 }) (cond moved 1 0) given k.0
+    ∙ ap Some (sym k.1)) ends
 
-module _ {h : Fields} {height entities : ℕ} {given : Bool} {at : Option move.Move} {carried : Carried} {left : ℕ} {text out : List ℕ} (s : CommentStands (sized h height) (head_place entities given at carried) left text out) where
+module _ {h : Fields} {height entities : ℕ} {given : Bool} {at : Option move.Move} {carried : Carried} {left : ℕ} {text out : List ℕ}
+    (s : CommentStands (sized h height) (head_place entities given at carried) left text out) where
   comment_text : (more : List ℕ) → text ++ more ≡ s.before ++ (ESC ∷ COMMENT ∷ (big_bytes 4 (length s.part + left) ++ (s.part ++ more)))
   comment_text more =
       ap (λ z. z ++ more) s.text_is

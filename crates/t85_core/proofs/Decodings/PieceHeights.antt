@@ -28,7 +28,8 @@ pub stripes_of : (n l e : ℕ) → 1 ≤ l → e * l < n → n ≤ e * l + l →
 stripes_of n l e one over all = last_stripe n l e one (more_stripes n l e one over) (omega (arith, all))
 
 -- stripes that have all their rows have the same at each height that has all of these
-pub other_run : (h : Fields) (left n : ℕ) (c : StripeStart) (stripes : List Stripe) (rows : List (List Bool)) (flags : List Bool) (next : StripeStart) → length stripes * h.l0 ≤ n → length stripes * h.l0 ≤ left →
+pub other_run : (h : Fields) (left n : ℕ) (c : StripeStart) (stripes : List Stripe) (rows : List (List Bool)) (flags : List Bool) (next : StripeStart) → length stripes * h.l0 ≤ n →
+    length stripes * h.l0 ≤ left →
     StripesRun h left c stripes (flagged rows flags) next → StripesRun h n c stripes (flagged rows flags) next
 other_run h left n c [] rows flags next all all' run = run
 other_run h left n c (s ∷ stripes) rows flags next all all' run =
@@ -71,7 +72,8 @@ moves_none (Move row offset ∷ segments) more none = absurd (let e = sum_by-app
 moves_none (Comment text ∷ segments) more none = moves_none segments more (let e = sum_by-append (λ y. cond (is_move y) 1 0) (Comment text ∷ []) segments in omega (arith, none, e))
 
 -- segments without a height and a move, and more without a height
-module _ {h : Fields} {place : Place} {front back : List ℕ} {at : Option move.Move} {comments comments' : ℕ} (fresh : place.given ≡ false) (p : HasPassed h place false (Some front) (Some []) (segments_so_far None false false comments))
+module _ {h : Fields} {place : Place} {front back : List ℕ} {at : Option move.Move} {comments comments' : ℕ} (fresh : place.given ≡ false)
+    (p : HasPassed h place false (Some front) (Some []) (segments_so_far None false false comments))
     (q : HasPassed h place false (Some back) (Some []) (segments_so_far at (is_some at) false comments')) where
   zero : cond {A = ℕ} place.given 1 0 ≡ 0
   zero = ap (λ (t : Bool). cond {A = ℕ} t 1 0) fresh
@@ -101,13 +103,16 @@ module _ {h : Fields} {place : Place} {front back : List ℕ} {at : Option move.
     counted = (let e = q.counted in omega (arith, e, moves));
     found = q.found ∙ sym moves;
     told = refl;
-    taken = ap (λ z. z ++ back) (p.taken ∙ append-nil (flat_map segment_bytes p.segments)) ∙ ap (λ z. flat_map segment_bytes p.segments ++ z) (q.taken ∙ append-nil (flat_map segment_bytes q.segments)) ∙ sym (flat_map-append segment_bytes p.segments q.segments)
+    taken = ap (λ z. z ++ back) (p.taken ∙ append-nil (flat_map segment_bytes p.segments)) ∙ ap (λ z. flat_map segment_bytes p.segments ++ z) (q.taken ∙ append-nil (flat_map segment_bytes q.segments))
+        ∙ sym (flat_map-append segment_bytes p.segments q.segments)
         ∙ sym (append-nil (flat_map segment_bytes (p.segments ++ q.segments)));
   }
 
 -- the head of a stripe, and what came of it behind the marker before it
-pub head_behind : {h : Fields} {height entities : ℕ} {carried : Carried} {done back out : List ℕ} {at : Option move.Move} {place : Place} {comments : ℕ} → place ≡ record { height = height; entities = entities; given = false } →
-    HeadStands (sized h height) (head_place entities false None carried) done out → HasPassed h place false (Some back) (Some []) (segments_so_far at (is_some at) false comments) → HeadStands (sized h height) (head_place entities false at carried) (done ++ back) out
+pub head_behind : {h : Fields} {height entities : ℕ} {carried : Carried} {done back out : List ℕ} {at : Option move.Move} {place : Place} {comments : ℕ} → place ≡
+    record { height = height; entities = entities; given = false } →
+    HeadStands (sized h height) (head_place entities false None carried) done out → HasPassed h place false (Some back) (Some []) (segments_so_far at (is_some at) false comments) →
+    HeadStands (sized h height) (head_place entities false at carried) (done ++ back) out
 head_behind {h} {height} {entities} {carried} {done} {back} {out} {at} {place} {comments} place_is s q = went s.before refl where
   went : (b : Bool) → s.before ≡ b → HeadStands (sized h height) (head_place entities false at carried) (done ++ back) out
   went true e = absurd (let k = s.passed.given_is in let z : cond {A = ℕ} s.before 1 0 ≡ 1 = ap (λ (t : Bool). cond {A = ℕ} t 1 0) e in omega (arith, k, z))
@@ -129,7 +134,8 @@ head_behind {h} {height} {entities} {carried} {done} {back} {out} {at} {place} {
 
 -- ---- a height comes in the head of a stripe
 
-module _ {h : Fields} {entities : ℕ} {at : Option move.Move} {carried : Carried} {text out : List ℕ} (s : HeadStands (sized h h.yd) (head_place entities false at carried) text out) (n : ℕ) (variable : IsTrue (is_variable h)) (valid : is_valid_length h entities n ≡ true) where
+module _ {h : Fields} {entities : ℕ} {at : Option move.Move} {carried : Carried} {text out : List ℕ} (s : HeadStands (sized h h.yd) (head_place entities false at carried) text out) (n : ℕ)
+    (variable : IsTrue (is_variable h)) (valid : is_valid_length h entities n ≡ true) where
   given_before : s.before ≡ false
   given_before = went s.before refl where
     went : (b : Bool) → s.before ≡ b → s.before ≡ false
@@ -153,7 +159,8 @@ module _ {h : Fields} {entities : ℕ} {at : Option move.Move} {carried : Carrie
     segments = s.passed.segments;
     rest = rest;
     body_is =
-        ap (λ z. (z ++ segment_bytes (NewLength n)) ++ rest) s.text_is ∙ append_assoc (s.front ++ s.back) (segment_bytes (NewLength n)) rest ∙ append_assoc s.front s.back (segment_bytes (NewLength n) ++ rest)
+        ap (λ z. (z ++ segment_bytes (NewLength n)) ++ rest) s.text_is ∙ append_assoc (s.front ++ s.back) (segment_bytes (NewLength n)) rest
+        ∙ append_assoc s.front s.back (segment_bytes (NewLength n) ++ rest)
         ∙ ap (λ z. z ++ (s.back ++ (segment_bytes (NewLength n) ++ rest))) (s.stripes.taken ∙ append-nil (flat_map stripe_bytes s.stripes.stripes))
         ∙ ap (λ z. flat_map stripe_bytes s.stripes.stripes ++ (z ++ (segment_bytes (NewLength n) ++ rest))) (s.passed.taken ∙ append-nil (flat_map segment_bytes s.passed.segments));
     each = stripes_whole h h.yd (image_start h.xd) s.stripes.stripes s.stripes.rows s.stripes.flags s.stripes.next s.stripes.run;

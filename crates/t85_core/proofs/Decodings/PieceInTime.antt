@@ -60,17 +60,21 @@ in_time_here {image} {text} {out} reset cut = record {
 }
 
 -- a stripe whose code is empty
-pub in_time_empty : {h : Fields} {entities : ℕ} {given : Bool} {at : Option move.Move} {carried : Carried} {text out : List ℕ} → CoderLaws → IsInUse h h.yd → HeadStands (sized h h.yd) (head_place entities given at carried) text out → (c : code_type.Code) → MarkerRead None (Some c) →
+pub in_time_empty : {h : Fields} {entities : ℕ} {given : Bool} {at : Option move.Move} {carried : Carried} {text out : List ℕ} → CoderLaws → IsInUse h h.yd →
+    HeadStands (sized h h.yd) (head_place entities given at carried) text out → (c : code_type.Code) → MarkerRead None (Some c) →
     MarkerAfterRows (sized h h.yd) (text ++ code_bytes c) (out ++ [])
 in_time_empty q use_ s (code.Byte b) (reset, inl e) = absurd (let bot : ⊥ = cc in bot)
 in_time_empty q use_ s (code.Byte b) (reset, inr e) = absurd (let bot : ⊥ = cc in bot)
 in_time_empty {h} {text = text} {out = out} q use_ s (code.Marker reset) marked =
     in_time_here reset
-    (subst (λ z. CutOff (sized h h.yd) z out Truncated) (append-nil text) (head_cut s q use_ [] [] Truncated refl (record { given = []; taken = refl; has_fault = λ height. refl; at_end = λ _. refl })))
+    (subst (λ z. CutOff (sized h h.yd) z out Truncated) (append-nil text)
+    (head_cut s q use_ [] [] Truncated refl (record { given = []; taken = refl; has_fault = λ height. refl; at_end = λ _. refl })))
 
 -- after the last row of a stripe
-pub in_time_found : {h : Fields} {height entities : ℕ} {given : Bool} {at : Option move.Move} {row : ℕ} {first : Option code_type.Code} {marker : Option Bool} {carried : Carried} {d : Decoder} {text out : List ℕ}
-    (s : CodeStands (sized h height) (head_place entities given at carried) (code_place row first marker d) text out) → CoderLaws → IsInUse h height → row ≡ rows_in h height entities → (MarkerRead marker first → ⊥) → (p p' : List ℕ) (reset : Bool) →
+pub in_time_found : {h : Fields} {height entities : ℕ} {given : Bool} {at : Option move.Move} {row : ℕ} {first : Option code_type.Code} {marker : Option Bool} {carried : Carried} {d : Decoder}
+    {text out : List ℕ}
+    (s : CodeStands (sized h height) (head_place entities given at carried) (code_place row first marker d) text out) → CoderLaws → IsInUse h height → row ≡ rows_in h height entities →
+    (MarkerRead marker first → ⊥) → (p p' : List ℕ) (reset : Bool) →
     (m : MarkerFound s.read.answers s.code p p' reset) → MarkerAfterRows (sized h height) (text ++ m.given) out
 in_time_found {h} {height} {entities} {row = row} {first = first} {marker = marker} {d = d} {text = text} {out = out} s q use_ all none p p' reset m = record {
   front = s.before ++ stuffed m.code;
@@ -96,10 +100,12 @@ in_time_found {h} {height} {entities} {row = row} {first = first} {marker = mark
 
   begun : BegunRun (open_stripe h s.head.stripes.next s.head.passed.segments) (rows_in h height entities) m.code s.read.rows s.read.flags
   begun = subst (λ z. BegunRun (open_stripe h s.head.stripes.next s.head.passed.segments) (rows_in h height entities) z s.read.rows s.read.flags) (sym m.agrees.is)
-      (rows_full h s.head.stripes.next s.head.passed.segments s.read.answers s.read.rows s.read.flags s.read.last s.read.so_far q (rows_in h height entities) m.agrees.rest d (s.read.many ∙ all) s.read.stands was_open.going m.agrees.bytes)
+      (rows_full h s.head.stripes.next s.head.passed.segments s.read.answers s.read.rows s.read.flags s.read.last s.read.so_far q (rows_in h height entities) m.agrees.rest d
+      (s.read.many ∙ all) s.read.stands was_open.going m.agrees.bytes)
 
 -- in a row that waits at the end marker
-pub in_time_row : {h : Fields} {height entities : ℕ} {given : Bool} {at : Option move.Move} {row : ℕ} {first : Option code_type.Code} {marker : Option Bool} {carried : Carried} {d : Decoder} {place : RowPlace} {text out : List ℕ}
+pub in_time_row : {h : Fields} {height entities : ℕ} {given : Bool} {at : Option move.Move} {row : ℕ} {first : Option code_type.Code} {marker : Option Bool} {carried : Carried} {d : Decoder}
+    {place : RowPlace} {text out : List ℕ}
     (s : InRowStands (sized h height) (head_place entities given at carried) (code_place row first marker d) place text out) → CoderLaws → IsInUse h height → {left : RowState} {p : List ℕ} →
     (m : RowAtMarker (open_stripe h s.head.stripes.next s.head.passed.segments) s.shape row left (handed s.began out s.code) p) → MarkerAfterRows (sized h height) (text ++ m.waits.given) out
 in_time_row {h} {height} {entities} {text = text} {out = out} s q use_ m = record {
@@ -114,7 +120,8 @@ in_time_row {h} {height} {entities} {text = text} {out = out} s q use_ m = recor
 
 -- ---- the rows that were returned
 
-pub fixed_rows : {h : Fields} {text out : List ℕ} {stripes : List Stripe} → IsInUse h h.yd → text ≡ flat_map stripe_bytes stripes → MarkerAfterRows (sized h h.yd) text out → HoldsFixedRows h stripes out
+pub fixed_rows : {h : Fields} {text out : List ℕ} {stripes : List Stripe} → IsInUse h h.yd → text ≡ flat_map stripe_bytes stripes → MarkerAfterRows (sized h h.yd) text out →
+    HoldsFixedRows h stripes out
 fixed_rows {h} {text} {out} {stripes} use_ text_is k = record {
   front = k.front;
   reset = k.reset;

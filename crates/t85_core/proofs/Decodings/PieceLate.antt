@@ -65,7 +65,8 @@ pub record RowsHeld (h : Fields) (entities row : ℕ) (text out : List ℕ) : Ty
   pub out_is : out ≡ began ++ flat_map packed_row rows
 
 -- the code of its text
-marker_found : (first : Option code_type.Code) (marker : Option Bool) (answers : List Pulled) (extra text : List ℕ) → CodeText first marker answers extra text → Marked first marker → (reset : Bool) × MarkerFound answers text [] [] reset
+marker_found : (first : Option code_type.Code) (marker : Option Bool) (answers : List Pulled) (extra text : List ℕ) → CodeText first marker answers extra text → Marked first marker → (reset : Bool) ×
+    MarkerFound answers text [] [] reset
 marker_found first (Some reset) answers extra text o m = (reset, found_before first (Some reset) [] reset refl answers extra text o)
 marker_found first None answers extra text o (reset, inl e) = absurd (let bot : ⊥ = cc in bot)
 marker_found first None answers extra text o (reset, inr e) = (reset, found_ahead first None [] reset refl e answers extra text o)
@@ -76,7 +77,8 @@ whole_of {answers} {text} {reset} m = sym (append-nil text) ∙ ap (λ z. text +
   none = sym (append-nil m.given) ∙ sym m.taken
 
 marked_rows : {h : Fields} {entities row : ℕ} {at : Option move.Move} {start carried : Carried} {shape : Shape} {d : Decoder} {before began text out code : List ℕ} {answers : List Pulled}
-    (head : HeadStands (sized h h.yd) (head_place entities false at start) before began) (read : RowsKnown (open_stripe h head.stripes.next head.passed.segments) shape (rows_done row carried d) began out) (m : (reset : Bool) × MarkerFound answers code [] [] reset) →
+    (head : HeadStands (sized h h.yd) (head_place entities false at start) before began)
+    (read : RowsKnown (open_stripe h head.stripes.next head.passed.segments) shape (rows_done row carried d) began out) (m : (reset : Bool) × MarkerFound answers code [] [] reset) →
     Lies m.1.code read.last.state.place → text ≡ before ++ code → RowsHeld h entities row text out
 marked_rows {at = at} {start = start} {before = before} {began = began} head read m lies text_is = record {
   at = at;
@@ -120,11 +122,13 @@ first_answers xs ys c closed small a = record {
       ∙ a.ended (ap (λ z. heard_of (xs ++ z)) none ∙ ap heard_of (append-nil xs) ∙ e)
 
 -- in a row
-pub in_row_held : CoderLaws → {h : Fields} {entities : ℕ} {at : Option move.Move} {row : ℕ} {first : Option code_type.Code} {marker : Option Bool} {carried : Carried} {d : Decoder} {in_row : RowPlace} {text out : List ℕ} →
+pub in_row_held : CoderLaws → {h : Fields} {entities : ℕ} {at : Option move.Move} {row : ℕ} {first : Option code_type.Code} {marker : Option Bool} {carried : Carried} {d : Decoder} {in_row : RowPlace}
+    {text out : List ℕ} →
     InRowStands (sized h h.yd) (head_place entities false at carried) (code_place row first marker d) in_row text out → Marked first marker → RowsHeld h entities row text out
 in_row_held q {h} {entities} {at} {row} {first} {marker} {carried} {d} {in_row} {text} {out} s marked =
     let m = marker_found first marker (s.begun.read.answers ++ s.begun.since) [] s.code s.code_is marked in
-    marked_rows s.head s.begun.read m (q.answers_lie s.begun.decoder s.begun.read.last.state.place s.begun.read.answers m.1.code s.begun.read.stands (first_answers s.begun.read.answers s.begun.since m.1.code closed m.1.small m.1.agrees)) s.text_is
+    marked_rows s.head s.begun.read m (q.answers_lie s.begun.decoder s.begun.read.last.state.place s.begun.read.answers m.1.code s.begun.read.stands
+    (first_answers s.begun.read.answers s.begun.since m.1.code closed m.1.small m.1.agrees)) s.text_is
   where
     by : (b : Bool) → in_row.is_begun ≡ b → IsClosed (s.begun.read.answers ++ s.begun.since)
     by true e = (s.begun.stands.in_it e).stands.closed
@@ -134,7 +138,8 @@ in_row_held q {h} {entities} {at} {row} {first} {marker} {carried} {d} {in_row} 
     closed = by in_row.is_begun refl
 
 -- A height that has k rows of the stripe: the image is the first rows of those that were given.
-module _ {h : Fields} {entities row : ℕ} {text out : List ℕ} (q : CoderLaws) (ok : IsAccepted h) (r : RowsHeld h entities row text out) (n k : ℕ) (n_is : n ≡ entities * h.l0 + k) (few : k ≤ row) (some : 1 ≤ k) (fits : k ≤ h.l0) (within : n ≤ h.yd) where
+module _ {h : Fields} {entities row : ℕ} {text out : List ℕ} (q : CoderLaws) (ok : IsAccepted h) (r : RowsHeld h entities row text out) (n k : ℕ) (n_is : n ≡ entities * h.l0 + k) (few : k ≤ row)
+    (some : 1 ≤ k) (fits : k ≤ h.l0) (within : n ≤ h.yd) where
   abbrev stripe : Stripe
   stripe = record { segments = r.head.passed.segments; code = r.code; reset = r.reset }
 
@@ -174,7 +179,8 @@ module _ {h : Fields} {entities row : ℕ} {text out : List ℕ} (q : CoderLaws)
 
   all_run : StripesRun h n (image_start h.xd) (S ++ stripe ∷ []) (flagged (R ++ take k r.rows) (r.head.stripes.flags ++ front.flags)) (next_stripe_start h.xd r.reset front.last)
   all_run = stripes_push h n (image_start h.xd) S R r.head.stripes.flags r.head.stripes.next stripe (take k r.rows) front.flags (next_stripe_start h.xd r.reset front.last) before_run
-      (subst (λ m. StripeRun h m r.head.stripes.next stripe (flagged (take k r.rows) front.flags) (next_stripe_start h.xd r.reset front.last)) (let e : k ≡ min (n - length S * h.l0) h.l0 = omega (arith, counted, n_is, fits) in e) stripe_run)
+      (subst (λ m. StripeRun h m r.head.stripes.next stripe (flagged (take k r.rows) front.flags) (next_stripe_start h.xd r.reset front.last))
+      (let e : k ≡ min (n - length S * h.l0) h.l0 = omega (arith, counted, n_is, fits) in e) stripe_run)
 
   text_is : text ≡ flat_map stripe_bytes (S ++ stripe ∷ [])
   text_is =
@@ -200,24 +206,30 @@ module _ {h : Fields} {entities row : ℕ} {text out : List ℕ} (q : CoderLaws)
   late_denotes rest =
       subst (λ z. DenotesAt h n (text ++ rest) (record { width = h.xd; rows = z }))
       (sym (ap (λ m. take m (R ++ r.rows)) (n_is ∙ ap (λ m. m + k) (sym before_many)) ∙ take-append-add R r.rows k))
-      (carried_denotes h n (text ++ rest) rest (S ++ stripe ∷ []) (R ++ take k r.rows) (r.head.stripes.flags ++ front.flags) (next_stripe_start h.xd r.reset front.last) ok (omega (arith, n_is, some)) within (ap (λ z. z ++ rest) text_is) all_here
+      (carried_denotes h n (text ++ rest) rest (S ++ stripe ∷ []) (R ++ take k r.rows) (r.head.stripes.flags ++ front.flags) (next_stripe_start h.xd r.reset front.last) ok
+      (omega (arith, n_is, some)) within (ap (λ z. z ++ rest) text_is) all_here
       (gives_none n 0 (all_segments (S ++ stripe ∷ [])) (omega arith) none_so_far) all_run)
 
   pub late_out : out ≡ flat_map packed_row (R ++ r.rows)
   late_out = r.out_is ∙ ap (λ z. z ++ flat_map packed_row r.rows) r.head.stripes.appended ∙ sym (flat_map-append packed_row R r.rows)
 
-  none_with : {at : Option move.Move} {moved : Bool} {last : Bool} {back : List ℕ} {comments : ℕ} (p : HasPassed h (record { height = h.yd; entities = entities + 1; given = false }) last (Some back) (Some []) (segments_so_far at moved false comments)) → lengths (all_segments (S ++ stripe ∷ []) ++ p.segments) ≡ []
+  none_with : {at : Option move.Move} {moved : Bool} {last : Bool} {back : List ℕ} {comments : ℕ}
+      (p : HasPassed h (record { height = h.yd; entities = entities + 1; given = false }) last (Some back) (Some []) (segments_so_far at moved false comments)) →
+      lengths (all_segments (S ++ stripe ∷ []) ++ p.segments) ≡ []
   none_with p = lengths_append (all_segments (S ++ stripe ∷ [])) p.segments ∙ ap (λ z. z ++ lengths p.segments) none_so_far ∙ nil_of (lengths p.segments) (let e = p.given_is in omega (arith, e))
 
   -- it is the body's height
-  pub late_gives : IsTrue (is_variable h) → is_valid_length h (entities + 1) n ≡ true → {at : Option move.Move} {moved : Bool} {last : Bool} {back : List ℕ} {comments : ℕ} (p : HasPassed h (record { height = h.yd; entities = entities + 1; given = false }) last (Some back) (Some []) (segments_so_far at moved false comments)) →
+  pub late_gives : IsTrue (is_variable h) → is_valid_length h (entities + 1) n ≡ true →
+      {at : Option move.Move} {moved : Bool} {last : Bool} {back : List ℕ} {comments : ℕ}
+      (p : HasPassed h (record { height = h.yd; entities = entities + 1; given = false }) last (Some back) (Some []) (segments_so_far at moved false comments)) →
       (entities + 1 ≡ stripe_count h.yd h.l0 → AllByRecursion (λ s. IsTrue (is_comment s)) p.segments) → (rest : List ℕ) → GivesHeight h (text ++ (back ++ (segment_bytes (NewLength n) ++ rest))) n
   late_gives variable valid {back = back} p comments rest = record {
     variable = variable;
     stripes = S ++ stripe ∷ [];
     segments = p.segments;
     rest = rest;
-    body_is = ap (λ z. z ++ (back ++ (segment_bytes (NewLength n) ++ rest))) text_is ∙ ap (λ z. flat_map stripe_bytes (S ++ stripe ∷ []) ++ (z ++ (segment_bytes (NewLength n) ++ rest))) (p.taken ∙ append-nil (flat_map segment_bytes p.segments));
+    body_is = ap (λ z. z ++ (back ++ (segment_bytes (NewLength n) ++ rest))) text_is
+        ∙ ap (λ z. flat_map stripe_bytes (S ++ stripe ∷ []) ++ (z ++ (segment_bytes (NewLength n) ++ rest))) (p.taken ∙ append-nil (flat_map segment_bytes p.segments));
     each = each_here;
     begun = p.begun;
     first = none_with p;
@@ -227,7 +239,8 @@ module _ {h : Fields} {entities row : ℕ} {text out : List ℕ} (q : CoderLaws)
   }
 
   -- the bytes up to it are the image's
-  pub late_consumes : {at : Option move.Move} {moved : Bool} {last : Bool} {back : List ℕ} {comments : ℕ} (p : HasPassed h (record { height = h.yd; entities = entities + 1; given = false }) last (Some back) (Some []) (segments_so_far at moved false comments)) →
+  pub late_consumes : {at : Option move.Move} {moved : Bool} {last : Bool} {back : List ℕ} {comments : ℕ}
+      (p : HasPassed h (record { height = h.yd; entities = entities + 1; given = false }) last (Some back) (Some []) (segments_so_far at moved false comments)) →
       (whole : List ℕ) → ConsumesImage h true n (text ++ (back ++ segment_bytes (NewLength n))) whole
   late_consumes {back = back} p whole = record {
     stripes = S ++ stripe ∷ [];

@@ -51,7 +51,8 @@ only_comments (Comment text ∷ segments) none empty = (refl, only_comments segm
 
 module _ {h : Fields} {place : Place} {b : Head} {back : List ℕ} (fresh : place.given ≡ false) (s : BehindStands h (behind_at place true) b back) where
   pub are_comments : AllByRecursion (λ s. IsTrue (is_comment s)) s.passed.segments
-  are_comments = only_comments s.passed.segments (let e = s.passed.counted in omega (arith, e)) (nil_of (lengths s.passed.segments) (let e = s.passed.given_is in let z : cond {A = ℕ} place.given 1 0 ≡ 0 = ap (λ (t : Bool). cond {A = ℕ} t 1 0) fresh in omega (arith, e, z)))
+  are_comments = only_comments s.passed.segments (let e = s.passed.counted in omega (arith, e))
+      (nil_of (lengths s.passed.segments) (let e = s.passed.given_is in let z : cond {A = ℕ} place.given 1 0 ≡ 0 = ap (λ (t : Bool). cond {A = ℕ} t 1 0) fresh in omega (arith, e, z)))
 
   has_looked : (more : List ℕ) → HasLooked h (Some (s.front ++ more)) (Some more)
   has_looked more = record { segments = s.passed.segments; are = record { comments = are_comments; legal = s.passed.begun.legal }; taken = (passed_ext s.passed more).taken }
@@ -71,13 +72,16 @@ module _ {h : Fields} {place : Place} {b : Head} {back : List ℕ} (fresh : plac
     at_end = λ e. ap (λ z. z ++ more) (ends.at_end e) ∙ nothing e;
   }
 
-  comment_text : (p more part : List ℕ) (left : ℕ) → more ≡ [] → back ≡ s.front ++ (ESC ∷ COMMENT ∷ (big_bytes 4 (length part + left) ++ part)) → s.front ++ (ESC ∷ COMMENT ∷ (big_bytes 4 (length part + left) ++ (part ++ p))) ≡ (back ++ p) ++ more
+  comment_text : (p more part : List ℕ) (left : ℕ) → more ≡ [] → back ≡ s.front ++ (ESC ∷ COMMENT ∷ (big_bytes 4 (length part + left) ++ part)) → s.front
+      ++ (ESC ∷ COMMENT ∷ (big_bytes 4 (length part + left) ++ (part ++ p))) ≡ (back ++ p) ++ more
   comment_text p more part left nothing is =
-      ap (λ z. s.front ++ (ESC ∷ COMMENT ∷ z)) (sym (append_assoc (big_bytes 4 (length part + left)) part p)) ∙ sym (append_assoc s.front (ESC ∷ COMMENT ∷ (big_bytes 4 (length part + left) ++ part)) p)
+      ap (λ z. s.front ++ (ESC ∷ COMMENT ∷ z)) (sym (append_assoc (big_bytes 4 (length part + left)) part p))
+      ∙ sym (append_assoc s.front (ESC ∷ COMMENT ∷ (big_bytes 4 (length part + left) ++ part)) p)
       ∙ ap (λ z. z ++ p) (sym is) ∙ sym (append-nil (back ++ p)) ∙ ap (λ z. (back ++ p) ++ z) (sym nothing)
 
   -- a fault, or the end
-  pub look_fault : (p more : List ℕ) (f : Fault) → h.yd < 2 ^ 32 → is_variable h ≡ true → StopsBehind h (behind_at place true) b p f → (f ≡ Truncated → more ≡ []) → LookEnds h place.entities ((back ++ p) ++ more)
+  pub look_fault : (p more : List ℕ) (f : Fault) → h.yd < 2 ^ 32 → is_variable h ≡ true → StopsBehind h (behind_at place true) b p f → (f ≡ Truncated → more ≡ []) →
+      LookEnds h place.entities ((back ++ p) ++ more)
   look_fault p more f small variable stops nothing = by b.comment refl stops.breaks where
     readable : f ≢ Read
     readable e = let k : counted_as Truncated Read ≡ Read = ap (counted_as Truncated) (sym e) ∙ stops.counted ∙ e in let z : Truncated ≡ Read = k in cc
@@ -93,7 +97,8 @@ module _ {h : Fields} {place : Place} {b : Head} {back : List ℕ} (fresh : plac
         (looked_fault {c = Some []} (has_looked (ESC ∷ COMMENT ∷ (big_bytes 4 (length k.0 + left) ++ (k.0 ++ p)))) place.entities f small variable readable (record {
           given = ESC ∷ COMMENT ∷ (big_bytes 4 (length k.0 + left) ++ (k.0 ++ p));
           taken = sym (append-nil (ESC ∷ COMMENT ∷ (big_bytes 4 (length k.0 + left) ++ (k.0 ++ p))));
-          has_fault = subst (λ z. PieceFault h (record { height = 0; entities = place.entities; given = false }) true (ESC ∷ COMMENT ∷ (big_bytes 4 (length k.0 + left) ++ (k.0 ++ p))) z) (sym (stops.counted ∙ ended)) (λ other. comment_cut (length k.0 + left) (k.0 ++ p) k.1 (omega (arith, long, short)));
+          has_fault = subst (λ z. PieceFault h (record { height = 0; entities = place.entities; given = false }) true (ESC ∷ COMMENT ∷ (big_bytes 4 (length k.0 + left) ++ (k.0 ++ p))) z)
+              (sym (stops.counted ∙ ended)) (λ other. comment_cut (length k.0 + left) (k.0 ++ p) k.1 (omega (arith, long, short)));
           at_end = λ _. refl;
         }))
 
@@ -109,8 +114,10 @@ module _ (h : Fields) (w : WalkView) (b : Head) (text out : List ℕ) (q : Coder
   pub rows_held : RowsHeld h w.entities w.row s.done out
   rows_held = by in_code where
     by : IsInCode w.stage → RowsHeld h w.entities w.row s.done out
-    by (inl e) = code_held q (subst (λ g. CodeStands (sized h h.yd) (head_place w.entities g w.at w.carried) (code_place w.row w.first w.marker w.decoder) s.done out) s.ungiven (at_stage e s.walk)) (marker_of w s.at in_code)
-    by (inr e) = in_row_held q (subst (λ g. InRowStands (sized h h.yd) (head_place w.entities g w.at w.carried) (code_place w.row w.first w.marker w.decoder) w.place s.done out) s.ungiven (at_stage e s.walk)) (marker_of w s.at in_code)
+    by (inl e) = code_held q (subst (λ g. CodeStands (sized h h.yd) (head_place w.entities g w.at w.carried) (code_place w.row w.first w.marker w.decoder) s.done out) s.ungiven (at_stage e s.walk))
+        (marker_of w s.at in_code)
+    by (inr e) = in_row_held q (subst (λ g. InRowStands (sized h h.yd) (head_place w.entities g w.at w.carried) (code_place w.row w.first w.marker w.decoder) w.place s.done out) s.ungiven
+        (at_stage e s.walk)) (marker_of w s.at in_code)
 
   pub fewer_here : w.entities < stripe_count h.yd h.l0
   fewer_here = rows_held.head.fewer
@@ -120,25 +127,28 @@ module _ (h : Fields) (w : WalkView) (b : Head) (text out : List ℕ) (q : Coder
 
 -- behind the last stripe only comments came
 pub comments_behind : (h : Fields) (w : WalkView) → 1 ≤ h.l0 → IsInCode w.stage → w.left ≡ h.yd - w.entities * h.l0 → {place : Place} {front : List ℕ} {at : Option move.Move} {comments : ℕ}
-    (p : HasPassed h place (last_behind h w.stage w.left) (Some front) (Some []) (segments_so_far at (move_came (last_behind h w.stage w.left) at) false comments)) → w.entities + 1 ≡ stripe_count h.yd h.l0 → AllByRecursion (λ s. IsTrue (is_comment s)) p.segments
-comments_behind h w some in_code left {at = at} p last = only_comments p.segments (zero_moves (last_behind h w.stage w.left) is_last_here p.counted) (nil_of (lengths p.segments) (let e = p.given_is in omega (arith, e))) where
-  all : h.yd ≤ (w.entities + 1) * h.l0
-  all = let t = div_ceil_times h.yd h.l0 some in let e = ap (λ (m : ℕ). m * h.l0) last in omega (arith, t.0, e)
+    (p : HasPassed h place (last_behind h w.stage w.left) (Some front) (Some []) (segments_so_far at (move_came (last_behind h w.stage w.left) at) false comments)) → w.entities + 1 ≡
+    stripe_count h.yd h.l0 → AllByRecursion (λ s. IsTrue (is_comment s)) p.segments
+comments_behind h w some in_code left {at = at} p last = only_comments p.segments (zero_moves (last_behind h w.stage w.left) is_last_here p.counted)
+    (nil_of (lengths p.segments) (let e = p.given_is in omega (arith, e))) where
+      all : h.yd ≤ (w.entities + 1) * h.l0
+      all = let t = div_ceil_times h.yd h.l0 some in let e = ap (λ (m : ℕ). m * h.l0) last in omega (arith, t.0, e)
 
-  is_last_here : last_behind h w.stage w.left ≡ true
-  is_last_here =
-      let times : (w.entities + 1) * h.l0 ≡ w.entities * h.l0 + h.l0 = omega arith in
-      let le : w.left ≤ h.l0 = omega (arith, left, all, times) in
-      let t : nat_le w.left h.l0 ≡ true = grind (arith, nat_tests) in
-      in_code_last w.stage (nat_le w.left h.l0) in_code ∙ t
+      is_last_here : last_behind h w.stage w.left ≡ true
+      is_last_here =
+          let times : (w.entities + 1) * h.l0 ≡ w.entities * h.l0 + h.l0 = omega arith in
+          let le : w.left ≤ h.l0 = omega (arith, left, all, times) in
+          let t : nat_le w.left h.l0 ≡ true = grind (arith, nat_tests) in
+          in_code_last w.stage (nat_le w.left h.l0) in_code ∙ t
 
-  zero_moves : (l : Bool) → l ≡ true → cond {A = ℕ} (move_came l at) 1 0 ≡ cond {A = ℕ} l 1 0 + count_by is_move p.segments → count_by is_move p.segments ≡ 0
-  zero_moves true e c = omega (arith, c)
-  zero_moves false e c = absurd (true≢false (sym e))
+      zero_moves : (l : Bool) → l ≡ true → cond {A = ℕ} (move_came l at) 1 0 ≡ cond {A = ℕ} l 1 0 + count_by is_move p.segments → count_by is_move p.segments ≡ 0
+      zero_moves true e c = omega (arith, c)
+      zero_moves false e c = absurd (true≢false (sym e))
 
 -- ---- the image ends in the stripe before
 
-module _ (d : PieceView) (q : CoderLaws) (n : ℕ) (p rest : List ℕ) (late : d.is_open ≡ true) (waits : d.waits ≡ true) (between : d.behind.comment ≡ None) (in_code : IsInCode d.walk.stage) (comes : HeightComes (fields_of d.header) d.walk n p rest)
+module _ (d : PieceView) (q : CoderLaws) (n : ℕ) (p rest : List ℕ) (late : d.is_open ≡ true) (waits : d.waits ≡ true) (between : d.behind.comment ≡ None) (in_code : IsInCode d.walk.stage)
+    (comes : HeightComes (fields_of d.header) d.walk n p rest)
     (fits : d.walk.left - (d.header.yd - n) ≤ d.header.l0) (few : d.walk.left - (d.header.yd - n) ≤ d.walk.row) where
   abbrev h : Fields
   h = fields_of d.header
@@ -151,7 +161,8 @@ module _ (d : PieceView) (q : CoderLaws) (n : ℕ) (p rest : List ℕ) (late : d
   valid = subst (λ z. is_valid_length h z n ≡ true) (in_code_entities d.walk.stage d.walk.entities in_code) comes.valid
 
   over : d.walk.entities * d.header.l0 < n
-  over = let o = valid_over h (d.walk.entities + 1) n valid in let e : (d.walk.entities + 1 - 1) * d.header.l0 ≡ d.walk.entities * d.header.l0 = ap (λ (m : ℕ). m * d.header.l0) (let z : d.walk.entities + 1 - 1 ≡ d.walk.entities = omega arith in z) in omega (arith, o, e)
+  over = let o = valid_over h (d.walk.entities + 1) n valid in let e : (d.walk.entities + 1 - 1) * d.header.l0 ≡ d.walk.entities * d.header.l0 =
+      ap (λ (m : ℕ). m * d.header.l0) (let z : d.walk.entities + 1 - 1 ≡ d.walk.entities = omega arith in z) in omega (arith, o, e)
 
   within : n ≤ d.header.yd
   within = comes.legal.2
@@ -169,8 +180,10 @@ module _ (d : PieceView) (q : CoderLaws) (n : ℕ) (p rest : List ℕ) (late : d
     some : 1 ≤ k
     some = let is = n_is in let low = over in omega (arith, is, low)
 
-    passed : HasPassed h (record { height = d.header.yd; entities = d.walk.entities + 1; given = false }) (last_behind h d.walk.stage d.walk.left) (Some w.behind.front) (Some []) (segments_so_far d.behind.at (move_came (last_behind h d.walk.stage d.walk.left) d.behind.at) false w.behind.comments)
-    passed = subst (λ z. HasPassed h z (last_behind h d.walk.stage d.walk.left) (Some w.behind.front) (Some []) (segments_so_far d.behind.at (move_came (last_behind h d.walk.stage d.walk.left) d.behind.at) false w.behind.comments)) (place_here h d.walk d.behind text out q w in_code) w.behind.passed
+    passed : HasPassed h (record { height = d.header.yd; entities = d.walk.entities + 1; given = false }) (last_behind h d.walk.stage d.walk.left) (Some w.behind.front) (Some [])
+        (segments_so_far d.behind.at (move_came (last_behind h d.walk.stage d.walk.left) d.behind.at) false w.behind.comments)
+    passed = subst (λ z. HasPassed h z (last_behind h d.walk.stage d.walk.left) (Some w.behind.front) (Some [])
+        (segments_so_far d.behind.at (move_came (last_behind h d.walk.stage d.walk.left) d.behind.at) false w.behind.comments)) (place_here h d.walk d.behind text out q w in_code) w.behind.passed
 
     comments : d.walk.entities + 1 ≡ stripe_count d.header.yd d.header.l0 → AllByRecursion (λ s. IsTrue (is_comment s)) passed.segments
     comments = comments_behind h d.walk d.header.some_rows in_code w.walk.left_is passed
@@ -184,7 +197,8 @@ module _ (d : PieceView) (q : CoderLaws) (n : ℕ) (p rest : List ℕ) (late : d
   pub late_whole : (is_all : Bool) → EndsWhole is_all d p n
   late_whole is_all text out more s follows = record {
     height_is = λ m is. one_height_of ((text ++ p) ++ more) m n (own_height d.header).accepted is
-        (inl (subst (λ z. GivesHeight h z n) (sym (body s more)) (late_gives q (own_height d.header).accepted (r s) n k (n_is s) few (some s) fits within (s.height.variable late) valid (passed s) (comments s) (rest ++ more))));
+        (inl (subst (λ z. GivesHeight h z n) (sym (body s more)) (late_gives q (own_height d.header).accepted (r s) n k (n_is s) few (some s) fits within (s.height.variable late) valid (passed s)
+        (comments s) (rest ++ more))));
     rows = (r s).head.stripes.rows ++ (r s).rows;
     denotes = subst (λ z. DenotesAt h n z (record { width = d.header.xd; rows = take n ((r s).head.stripes.rows ++ (r s).rows) })) (sym (body s more))
         (late_denotes q (own_height d.header).accepted (r s) n k (n_is s) few (some s) fits within ((w s).behind.front ++ (segment_bytes (NewLength n) ++ (rest ++ more))));
@@ -202,7 +216,8 @@ module _ (d : PieceView) (q : CoderLaws) (n : ℕ) (p rest : List ℕ) (late : d
 
 -- ---- the height is raised
 
-pub height_over : (d e : PieceView) (n : ℕ) (p rest : List ℕ) → d.is_open ≡ true → d.waits ≡ true → SomeStand d → HeadEntered d e → HeightComes (fields_of d.header) d.walk n p rest → (IsInCode d.walk.stage → d.header.l0 < d.walk.left - (d.header.yd - n)) →
+pub height_over : (d e : PieceView) (n : ℕ) (p rest : List ℕ) → d.is_open ≡ true → d.waits ≡ true → SomeStand d → HeadEntered d e → HeightComes (fields_of d.header) d.walk n p rest →
+    (IsInCode d.walk.stage → d.header.l0 < d.walk.left - (d.header.yd - n)) →
     e.walk.entities * d.header.l0 < n
 height_over d e n p rest late waits some head comes beyond = by w.at where
   w : WalkWaits (fields_of d.header) d.walk d.behind some.0 some.1
@@ -222,16 +237,21 @@ height_over d e n p rest late waits some head comes beyond = by w.at where
       let more = beyond k.0 in
       omega (arith, times, one, left, more, comes.legal.2)
 
-pub raised_on : (d e d' : PieceView) (n : ℕ) (p rest : List ℕ) → d.is_open ≡ true → d.waits ≡ true → HeadEntered d e → d.behind.comment ≡ None → HeightComes (fields_of d.header) d.walk n p rest → e.walk.entities * d.header.l0 < n →
+pub raised_on : (d e d' : PieceView) (n : ℕ) (p rest : List ℕ) → d.is_open ≡ true → d.waits ≡ true → HeadEntered d e → d.behind.comment ≡ None → HeightComes (fields_of d.header) d.walk n p rest →
+    e.walk.entities * d.header.l0 < n →
     d'.header ≡ e.header → d'.height ≡ n → d'.is_open ≡ false → d'.walk ≡ record e.walk { left = e.walk.left - (d.header.yd - n); given = true } → DecoderOn d d' p rest []
 raised_on d e d' n p rest late waits head between comes over header height closed walk text out s = (
   segment_bytes (NewLength n),
   comes.piece_is,
   put_walks d' (text ++ segment_bytes (NewLength n)) (out ++ []) closed
-      (subst (λ z. HeightKnown (fields_of z) d'.height d'.is_open (text ++ segment_bytes (NewLength n))) (sym (header ∙ head.keeps.header)) (subst (λ m. HeightKnown (fields_of d.header) m d'.is_open (text ++ segment_bytes (NewLength n))) (sym height)
+      (subst (λ z. HeightKnown (fields_of z) d'.height d'.is_open (text ++ segment_bytes (NewLength n))) (sym (header ∙ head.keeps.header))
+      (subst (λ m. HeightKnown (fields_of d.header) m d'.is_open (text ++ segment_bytes (NewLength n))) (sym height)
       (subst (λ b. HeightKnown (fields_of d.header) n b (text ++ segment_bytes (NewLength n))) (sym closed) known)))
-      (subst (λ z. WalkStands (sized (fields_of z) d'.height) d'.walk (text ++ segment_bytes (NewLength n)) (out ++ [])) (sym (header ∙ head.keeps.header)) (subst (λ m. WalkStands (sized (fields_of d.header) m) d'.walk (text ++ segment_bytes (NewLength n)) (out ++ [])) (sym height)
-      (subst (λ z. WalkStands (sized (fields_of d.header) n) z (text ++ segment_bytes (NewLength n)) (out ++ [])) (sym walk) (subst (WalkStands (sized (fields_of d.header) n) (record e.walk { left = e.walk.left - (d.header.yd - n); given = true }) (text ++ segment_bytes (NewLength n))) (sym (append-nil out)) now)))),
+      (subst (λ z. WalkStands (sized (fields_of z) d'.height) d'.walk (text ++ segment_bytes (NewLength n)) (out ++ [])) (sym (header ∙ head.keeps.header))
+      (subst (λ m. WalkStands (sized (fields_of d.header) m) d'.walk (text ++ segment_bytes (NewLength n)) (out ++ [])) (sym height)
+      (subst (λ z. WalkStands (sized (fields_of d.header) n) z (text ++ segment_bytes (NewLength n)) (out ++ [])) (sym walk)
+      (subst (WalkStands (sized (fields_of d.header) n) (record e.walk { left = e.walk.left - (d.header.yd - n); given = true }) (text ++ segment_bytes (NewLength n)))
+      (sym (append-nil out)) now)))),
 ) where
   there : WalkStands (sized (fields_of d.header) d.header.yd) e.walk text out
   there = head.stands text out (waits_of d text out late waits s)
@@ -263,13 +283,16 @@ raised_on d e d' n p rest late waits head between comes over header height close
     code_is = there.code_is;
     behind = there.behind;
     within = there.within;
-    stands = put_stage (fields_of d.header) n (record e.walk { left = e.walk.left - (d.header.yd - n); given = true }) (text ++ segment_bytes (NewLength n)) out stage.Head is_head (head_raised in_head n variable valid d.header.some_rows comes.legal over);
+    stands = put_stage (fields_of d.header) n (record e.walk { left = e.walk.left - (d.header.yd - n); given = true }) (text ++ segment_bytes (NewLength n)) out stage.Head is_head
+        (head_raised in_head n variable valid d.header.some_rows comes.legal over);
   }
 
 -- ---- what came behind the marker
 
-pub passed_on : (d d1 : PieceView) (b : Head) (p p1 : List ℕ) → d.is_open ≡ true → d.waits ≡ true → d1.header ≡ d.header → d1.height ≡ d.height → d1.is_open ≡ d.is_open → d1.waits ≡ d.waits → d1.walk ≡ d.walk → d1.behind ≡ b →
-    BehindOn (fields_of d.header) (behind_at (place_behind (fields_of d.header) d.walk.stage d.walk.entities) (last_behind (fields_of d.header) d.walk.stage d.walk.left)) d.behind b p p1 → DecoderOn d d1 p p1 []
+pub passed_on : (d d1 : PieceView) (b : Head) (p p1 : List ℕ) → d.is_open ≡ true → d.waits ≡ true → d1.header ≡ d.header → d1.height ≡ d.height → d1.is_open ≡ d.is_open → d1.waits ≡ d.waits →
+    d1.walk ≡ d.walk → d1.behind ≡ b →
+    BehindOn (fields_of d.header) (behind_at (place_behind (fields_of d.header) d.walk.stage d.walk.entities) (last_behind (fields_of d.header) d.walk.stage d.walk.left)) d.behind b p p1 →
+    DecoderOn d d1 p p1 []
 passed_on d d1 b p p1 late waits header height is_open same_waits walk behind on text out s =
     let w = waits_of d text out late waits s in
     let k = on w.back w.behind in (
@@ -292,12 +315,16 @@ passed_on d d1 b p p1 late waits header height is_open same_waits walk behind on
     )
 
 -- the same, where a struct keeps what came
-pub passed_behind : (d d1 : PieceView) (a b : Head) (p p1 : List ℕ) (place : Place) (last : Bool) → d.is_open ≡ true → d.waits ≡ true → d.behind ≡ a → d1.header ≡ d.header → d1.height ≡ d.height → d1.is_open ≡ true → d1.waits ≡ true → d1.walk ≡ d.walk → d1.behind ≡ b →
-    place ≡ place_behind (fields_of d.header) d.walk.stage d.walk.entities → last ≡ last_behind (fields_of d.header) d.walk.stage d.walk.left → BehindOn (fields_of d.header) (behind_at place last) a b p p1 → DecoderOn d d1 p p1 []
+pub passed_behind : (d d1 : PieceView) (a b : Head) (p p1 : List ℕ) (place : Place) (last : Bool) → d.is_open ≡ true → d.waits ≡ true → d.behind ≡ a → d1.header ≡ d.header → d1.height ≡ d.height →
+    d1.is_open ≡ true → d1.waits ≡ true → d1.walk ≡ d.walk → d1.behind ≡ b →
+    place ≡ place_behind (fields_of d.header) d.walk.stage d.walk.entities → last ≡ last_behind (fields_of d.header) d.walk.stage d.walk.left →
+    BehindOn (fields_of d.header) (behind_at place last) a b p p1 → DecoderOn d d1 p p1 []
 passed_behind d d1 a b p p1 place last late waits behind header height late' waits' walk now place_is last_is on =
     passed_on d d1 b p p1 late waits header height (late' ∙ sym late) (waits' ∙ sym waits) walk now
-    (subst (λ z. BehindOn (fields_of d.header) (behind_at (place_behind (fields_of d.header) d.walk.stage d.walk.entities) (last_behind (fields_of d.header) d.walk.stage d.walk.left)) z b p p1) (sym behind)
-    (subst (λ z. BehindOn (fields_of d.header) (behind_at z (last_behind (fields_of d.header) d.walk.stage d.walk.left)) a b p p1) place_is (subst (λ l. BehindOn (fields_of d.header) (behind_at place l) a b p p1) last_is on)))
+    (subst (λ z. BehindOn (fields_of d.header) (behind_at (place_behind (fields_of d.header) d.walk.stage d.walk.entities) (last_behind (fields_of d.header) d.walk.stage d.walk.left)) z b p p1)
+    (sym behind)
+    (subst (λ z. BehindOn (fields_of d.header) (behind_at z (last_behind (fields_of d.header) d.walk.stage d.walk.left)) a b p p1) place_is
+    (subst (λ l. BehindOn (fields_of d.header) (behind_at place l) a b p p1) last_is on)))
 
 pub own_first : (d : PieceView) → d.is_open ≡ true → SomeStand d → d.height ≡ d.header.yd
 own_first d late some = some.2.height.first late

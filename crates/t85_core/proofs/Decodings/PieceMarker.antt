@@ -131,7 +131,8 @@ module _ (first : Option Code) (a : Ahead first) (answers : List Pulled) (extra 
       small = All-append (λ b. b < 256) A (all_extra s.code) o.bytes (all_small s.code s.small);
       rest = s.ends.rest;
       unread = s.ends.unread;
-      text_is = ap (λ z. text ++ z) (s.taken ∙ ap (λ z. stuffed s.code ++ z) s.ends.bytes_are) ∙ all_text s.code (s.ends.rest ++ s.ends.unread) ∙ sym (append_assoc (stuffed (A ++ all_extra s.code)) s.ends.rest s.ends.unread);
+      text_is = ap (λ z. text ++ z) (s.taken ∙ ap (λ z. stuffed s.code ++ z) s.ends.bytes_are) ∙ all_text s.code (s.ends.rest ++ s.ends.unread)
+          ∙ sym (append_assoc (stuffed (A ++ all_extra s.code)) s.ends.rest s.ends.unread);
       broken = s.ends.broken;
       counted = s.ends.counted;
       at_end = s.ends.at_end;

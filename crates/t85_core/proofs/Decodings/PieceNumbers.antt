@@ -120,7 +120,8 @@ code_in other (stage_type.Head head) = other
 code_in other (stage_type.Code code) = code
 code_in other stage_type.Done = other
 
-pub code_phase_of : (n : PieceNumbers) (p : Phase) (c : InCode) (r : Option Phase) → (n.is_open ≡ 0 → ⊥) → ArePhaseNumbers n p → stage_type.Code c ≡ phase_stage p → (n.waits ≡ 0 → r ≡ Some (phase.Code c)) → ((head : Head) → n.waits ≡ 1 → AreHeadNumbers n.behind head → r ≡ Some (phase.Behind (record { code = c; head = head }))) → r ≡ Some p
+pub code_phase_of : (n : PieceNumbers) (p : Phase) (c : InCode) (r : Option Phase) → (n.is_open ≡ 0 → ⊥) → ArePhaseNumbers n p → stage_type.Code c ≡ phase_stage p →
+    (n.waits ≡ 0 → r ≡ Some (phase.Code c)) → ((head : Head) → n.waits ≡ 1 → AreHeadNumbers n.behind head → r ≡ Some (phase.Behind (record { code = c; head = head }))) → r ≡ Some p
 code_phase_of n (phase.Known t) c r some k e zero one = absurd (some (flag_clear n.is_open k))
 code_phase_of n (phase.First head) c r some k e zero one = absurd (let bot : ⊥ = cc in bot)
 code_phase_of n (phase.Code code) c r some k e zero one = zero k.1 ∙ ap (λ d. Some (phase.Code d)) (ap (code_in c) e)
@@ -144,7 +145,8 @@ pub some_is : {A : Type 0} {a b : A} → Some a ≡ Some b → a ≡ b
 some_is {A} {a} e = ap (λ o. unwrap_or o a) e
 
 -- a course of these numbers
-pub course_numbers : (c : Course) {n : PieceNumbers} {kept : Kept} {decoder going : Decoder} → AreCourseNumbers n c → kept.offset ≡ n.offset → kept.previous_typical ≡ is_set n.is_previous_typical → decoder ≡ going → (has_stopped c.decoder ≡ false → going ≡ c.decoder) → (few : n.entities + n.left < 2 ^ 32) → (some : 1 ≤ n.left) →
+pub course_numbers : (c : Course) {n : PieceNumbers} {kept : Kept} {decoder going : Decoder} → AreCourseNumbers n c → kept.offset ≡ n.offset → kept.previous_typical ≡ is_set n.is_previous_typical →
+    decoder ≡ going → (has_stopped c.decoder ≡ false → going ≡ c.decoder) → (few : n.entities + n.left < 2 ^ 32) → (some : 1 ≤ n.left) →
     IsCourseAs c (record { kept = kept; decoder = decoder; entities = n.entities; left = n.left; given = is_set n.is_given; few = few; some = some })
 course_numbers c {n} {kept} {decoder} k offset typical is same few some = record {
   decoder_is = λ going. is ∙ same going;
@@ -170,12 +172,15 @@ module _ {w w' : Course} (k : IsCourseAs w w') (stage_at : Stage) (rows : Held) 
   there = stage_view (record w { decoder = w'.decoder }) stage_at rows learned
 
   code_as : {h : Fields} {height entities : ℕ} {given : Bool} {at : Option move.Move} {row : ℕ} {first : Option code_type.Code} {marker : Option Bool} {text out : List ℕ} →
-      CodeStands (sized h height) (head_place entities given at before.carried) (code_place row first marker w.decoder) text out → CodeStands (sized h height) (head_place entities given at before.carried) (code_place row first marker w'.decoder) text out
+      CodeStands (sized h height) (head_place entities given at before.carried) (code_place row first marker w.decoder) text out →
+      CodeStands (sized h height) (head_place entities given at before.carried) (code_place row first marker w'.decoder) text out
   code_as {h} {height} {entities} {given} {at} {row} {first} {marker} {text} {out} s =
-      subst (λ z. CodeStands (sized h height) (head_place entities given at before.carried) (code_place row first marker z) text out) (sym (k.decoder_is (ap is_stopped s.read.stands.heard ∙ going _ s.read.unstopped))) s
+      subst (λ z. CodeStands (sized h height) (head_place entities given at before.carried) (code_place row first marker z) text out)
+      (sym (k.decoder_is (ap is_stopped s.read.stands.heard ∙ going _ s.read.unstopped))) s
 
   in_row_as : {h : Fields} {height entities : ℕ} {given : Bool} {at : Option move.Move} {row : ℕ} {first : Option code_type.Code} {marker : Option Bool} {place : RowPlace} {text out : List ℕ} →
-      InRowStands (sized h height) (head_place entities given at before.carried) (code_place row first marker w.decoder) place text out → InRowStands (sized h height) (head_place entities given at before.carried) (code_place row first marker w'.decoder) place text out
+      InRowStands (sized h height) (head_place entities given at before.carried) (code_place row first marker w.decoder) place text out →
+      InRowStands (sized h height) (head_place entities given at before.carried) (code_place row first marker w'.decoder) place text out
   in_row_as {h} {height} {entities} {given} {at} {row} {first} {marker} {place} {text} {out} s =
       subst (λ z. InRowStands (sized h height) (head_place entities given at before.carried) (code_place row first marker z) place text out) (sym (k.decoder_is (in_row_going s))) s
 
@@ -192,22 +197,28 @@ module _ {w w' : Course} (k : IsCourseAs w w') (stage_at : Stage) (rows : Held) 
 
   code_walk_as : {h : Fields} {text out : List ℕ} → CodeWalks h before text out → CodeWalks h (stage_view w' stage_at rows learned) text out
   code_walk_as {h} {text} {out} s =
-      subst (λ z. CodeWalks h (stage_view z stage_at rows learned) text out) (sym k.same) (let t : CodeWalks h there text out = record { walk = walk_there s.walk; in_code = s.in_code; ungiven = s.ungiven; in_time = s.in_time } in t)
+      subst (λ z. CodeWalks h (stage_view z stage_at rows learned) text out) (sym k.same)
+      (let t : CodeWalks h there text out = record { walk = walk_there s.walk; in_code = s.in_code; ungiven = s.ungiven; in_time = s.in_time } in t)
 
 -- the decoder stands where the other one does
-pub stands_as : (d : PieceDecoder) (d' : PieceView) (c' : Course) (rows : Held) (learned : List Estimate) (text out : List ℕ) → d'.walk ≡ stage_view c' (phase_stage d.phase) rows learned → fields_of d'.header ≡ fields_of d.image.header → d'.height ≡ d.image.height → d'.is_open ≡ (phase_is_open d.phase) → d'.waits ≡ (phase_waits d.phase) → d'.behind ≡ (phase_behind d.phase) → IsCourseAs d.course c' →
+pub stands_as : (d : PieceDecoder) (d' : PieceView) (c' : Course) (rows : Held) (learned : List Estimate) (text out : List ℕ) → d'.walk ≡ stage_view c' (phase_stage d.phase) rows learned →
+    fields_of d'.header ≡ fields_of d.image.header → d'.height ≡ d.image.height → d'.is_open ≡ (phase_is_open d.phase) → d'.waits ≡ (phase_waits d.phase) → d'.behind ≡ (phase_behind d.phase) →
+    IsCourseAs d.course c' →
     DecoderStands (decoder_view d rows learned) text out → DecoderStands d' text out
 stands_as d d' c' rows learned text out walk header height is_open waits behind k s = by (phase_is_open d.phase) (phase_waits d.phase) refl refl where
   known : HeightKnown (fields_of d'.header) d'.height d'.is_open text
-  known = subst (λ h. HeightKnown h d'.height d'.is_open text) (sym header) (subst (λ n. HeightKnown (fields_of d.image.header) n d'.is_open text) (sym height) (subst (λ b. HeightKnown (fields_of d.image.header) d.image.height b text) (sym is_open) s.height))
+  known = subst (λ h. HeightKnown h d'.height d'.is_open text) (sym header)
+      (subst (λ n. HeightKnown (fields_of d.image.header) n d'.is_open text) (sym height) (subst (λ b. HeightKnown (fields_of d.image.header) d.image.height b text) (sym is_open) s.height))
 
   by : (a b : Bool) → (phase_is_open d.phase) ≡ a → (phase_waits d.phase) ≡ b → DecoderStands d' text out
   by false b e f = put_walks d' text out (is_open ∙ e) known
       (subst (λ h. WalkStands (sized h d'.height) d'.walk text out) (sym header)
       (subst (λ n. WalkStands (sized (fields_of d.image.header) n) d'.walk text out) (sym height)
-      (subst (λ z. WalkStands (sized (fields_of d.image.header) d.image.height) z text out) (sym walk) (walk_as k (phase_stage d.phase) rows learned (walks_of (decoder_view d rows learned) text out e s)))))
+      (subst (λ z. WalkStands (sized (fields_of d.image.header) d.image.height) z text out) (sym walk)
+      (walk_as k (phase_stage d.phase) rows learned (walks_of (decoder_view d rows learned) text out e s)))))
   by true false e f = put_code d' text out (is_open ∙ e) (waits ∙ f) known
-      (subst (λ h. CodeWalks h d'.walk text out) (sym header) (subst (λ z. CodeWalks (fields_of d.image.header) z text out) (sym walk) (code_walk_as k (phase_stage d.phase) rows learned (code_of (decoder_view d rows learned) text out e f s))))
+      (subst (λ h. CodeWalks h d'.walk text out) (sym header) (subst (λ z. CodeWalks (fields_of d.image.header) z text out) (sym walk)
+      (code_walk_as k (phase_stage d.phase) rows learned (code_of (decoder_view d rows learned) text out e f s))))
   by true true e f =
       let w = waits_of (decoder_view d rows learned) text out e f s in
       let t : WalkWaits (fields_of d.image.header) (stage_view (record d.course { decoder = c'.decoder }) (phase_stage d.phase) rows learned) (phase_behind d.phase) text out = record {

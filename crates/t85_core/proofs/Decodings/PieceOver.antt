@@ -25,13 +25,27 @@ last_in k left l0 code few = in_code_last k (nat_le left l0) code ∙ grind (ari
 pub not_last_in : (k : Kind) (left l0 : ℕ) → IsInCode k → l0 < left → is_last k (nat_le left l0) ≡ false
 not_last_in k left l0 code over = in_code_last k (nat_le left l0) code ∙ grind (arith, nat_tests)
 
-module _ {d : PieceView} {w : WalkView} {reset : Bool} (late : d.is_open ≡ true) (waits : d.waits ≡ true) (some : SomeStand d) (code : IsInCode d.walk.stage) (all : min d.walk.left d.header.l0 ≤ d.walk.row) (resets : (r : Bool) → MarkerIs r d.walk.marker d.walk.first → r ≡ reset) (ends : EndsAtMarker (sized (fields_of d.header) d.header.yd) reset d.walk w) where
+module _ {d : PieceView} {w : WalkView} {reset : Bool} (late : d.is_open ≡ true) (waits : d.waits ≡ true) (some : SomeStand d) (code : IsInCode d.walk.stage)
+    (all : min d.walk.left d.header.l0 ≤ d.walk.row) (resets : (r : Bool) → MarkerIs r d.walk.marker d.walk.first → r ≡ reset)
+    (ends : EndsAtMarker (sized (fields_of d.header) d.header.yd) reset d.walk w) where
   pub stripe_over : StripeLeft d (record d { walk = w })
   stripe_over =
       let m = marker_of d.walk (waits_of d some.0 some.1 late waits some.2).at code in
       let keeps : KeepsDecoder d (record d { walk = w }) = record { header = refl; height = refl; is_open = refl; waits = refl; behind = refl; going = refl } in
       stripe_ended late waits some keeps (ends code all (subst (λ r. MarkerIs r d.walk.marker d.walk.first) (resets m.0 m.1) m.1))
 
-  pub head_over : last_behind (fields_of d.header) d.walk.stage d.walk.left ≡ false → HeadEntered d (record d { walk = record w { stage = head_kind d.behind.comment; at = d.behind.at; comment = comment_left d.behind.comment; row = 0; place = place_from None; first = None; marker = None } })
+  pub head_over : last_behind (fields_of d.header) d.walk.stage d.walk.left ≡ false →
+      HeadEntered d (record d {
+        walk = record w {
+          stage = head_kind d.behind.comment;
+          at = d.behind.at;
+          comment = comment_left d.behind.comment;
+          row = 0;
+          place = place_from None;
+          first = None;
+          marker = None;
+        };
+      })
   head_over more =
-      entered d (record d { walk = w }) _ (closed_ended d _ late waits some code more stripe_over) (record { header = refl; height = refl; is_open = refl; waits = refl; behind = refl; going = refl }) more refl
+      entered d (record d { walk = w }) _ (closed_ended d _ late waits some code more stripe_over)
+      (record { header = refl; height = refl; is_open = refl; waits = refl; behind = refl; going = refl }) more refl

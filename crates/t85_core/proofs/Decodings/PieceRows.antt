@@ -43,7 +43,8 @@ is_err e = refl
 
 module _ {S : Type 0} (standing : S → EntityView) (failed : S → ℕ) (s t : S) (first first1 : Option Code) (marker marker1 : Option Bool) (p p1 : List ℕ)
     (left_s : (standing s).left ≡ ahead_bytes first ++ p) (left_t : (standing t).left ≡ ahead_bytes first1 ++ p1)
-    (first_s : (standing s).first ≡ first) (first_t : (standing t).first ≡ first1) (marker_s : (standing s).marker ≡ marker) (marker_t : (standing t).marker ≡ marker1) (fault_s : (standing s).fault ≡ None)
+    (first_s : (standing s).first ≡ first) (first_t : (standing t).first ≡ first1) (marker_s : (standing s).marker ≡ marker) (marker_t : (standing t).marker ≡ marker1)
+    (fault_s : (standing s).fault ≡ None)
     (h : Fields) (shape : Shape) (c : StripeStart) (segments : List Segment) (row : ℕ) (carried carried' : Carried) (d d' : Decoder) (place place' : RowPlace) (began out text : List ℕ)
     (b : RowBegun (open_stripe h c segments) shape (open_row row carried d place) began out) (code : CodeText first marker (b.read.answers ++ b.since) [] text) where
   abbrev so_far : List Pulled
@@ -59,7 +60,8 @@ module _ {S : Type 0} (standing : S → EntityView) (failed : S → ℕ) (s t : 
       RowPasses (source_at (Pull standing failed) s answers) (row_task shape carried.kept at lines) (row_left carried'.kept carried'.held) place' (decoder_state t d' carried'.learned) result
 
   passed : (result : Result (Unit {0}) Stop) → Passed result →
-      RowPasses (source_at (Pull standing failed) s so_far) (row_task shape carried.kept b.read.last.state below) (row_left carried'.kept carried'.held) place' (decoder_state t d' carried'.learned) result
+      RowPasses (source_at (Pull standing failed) s so_far) (row_task shape carried.kept b.read.last.state below) (row_left carried'.kept carried'.held) place'
+      (decoder_state t d' carried'.learned) result
   passed result gave = gave b.read.last.state so_far below b.stands
 
   assoc : (more : List Pulled) → so_far ++ more ≡ b.read.answers ++ (b.since ++ more)
@@ -71,7 +73,8 @@ module _ {S : Type 0} (standing : S → EntityView) (failed : S → ℕ) (s t : 
   -- ---- it ends
 
   module _ (gave : Passed (Ok tt)) where
-    decoded : RowDecoded (source_at Anything tt b.read.answers) (row_task shape carried.kept b.read.last.state below) (row_left carried'.kept carried'.held) (decoder_state tt d' carried'.learned) (Ok tt)
+    decoded : RowDecoded (source_at Anything tt b.read.answers) (row_task shape carried.kept b.read.last.state below) (row_left carried'.kept carried'.held) (decoder_state tt d' carried'.learned)
+        (Ok tt)
     decoded =
         let m = passed (Ok tt) gave in
         record {
@@ -87,38 +90,45 @@ module _ {S : Type 0} (standing : S → EntityView) (failed : S → ℕ) (s t : 
     join more g = anything (b.read.answers ++ more)
 
     read_on : RowsKnown (open_stripe h c segments) shape (rows_done (row + 1) carried' d') began (out ++ carried'.held.current)
-    read_on = row_done Anything Anything tt tt tt tt tt h shape c segments row b.start carried' b.decoder d' (Some began) (Some out) b.read carried.kept b.offset_is b.previous_is join (Some (out ++ carried'.held.current)) decoded refl
+    read_on = row_done Anything Anything tt tt tt tt tt h shape c segments row b.start carried' b.decoder d' (Some began) (Some out) b.read carried.kept b.offset_is b.previous_is join
+        (Some (out ++ carried'.held.current)) decoded refl
 
     read_answers : read_on.answers ≡ b.read.answers ++ decoded.more
     unfolding read_on
-    read_answers = row_done_answers Anything Anything tt tt tt tt tt h shape c segments row b.start carried' b.decoder d' (Some began) (Some out) b.read carried.kept b.offset_is b.previous_is join (Some (out ++ carried'.held.current)) decoded refl
+    read_answers = row_done_answers Anything Anything tt tt tt tt tt h shape c segments row b.start carried' b.decoder d' (Some began) (Some out) b.read carried.kept b.offset_is b.previous_is join
+        (Some (out ++ carried'.held.current)) decoded refl
 
     pub row_taken : PieceRowTaken (open_stripe h c segments) shape row (row_state_at carried' d' place' first1 marker1 p1) (handed began out text) p
     unfolding decoded
     row_taken =
         let m = passed (Ok tt) gave in
-        let w = code_went standing failed s t first first1 marker marker1 p p1 left_s left_t first_s first_t marker_s marker_t fault_s so_far m.more text m.ok.stands.closed m.ok.stands.bytes m.gives code (λ st. not_err tt (m.stop.1 st)) in
+        let w = code_went standing failed s t first first1 marker marker1 p p1 left_s left_t first_s first_t marker_s marker_t fault_s so_far m.more text m.ok.stands.closed m.ok.stands.bytes m.gives
+        code (λ st. not_err tt (m.stop.1 st)) in
         record { given = w.0; taken = w.1; read = read_on; code_is = subst (λ z. CodeText first1 marker1 z [] (text ++ w.0)) (assoc m.more ∙ sym read_answers) w.2 }
 
     pub row_unread : (standing s).waits ≡ true → (MarkerRead marker first → ⊥) → MarkerRead marker1 first1 → ⊥
     row_unread =
         let m = passed (Ok tt) gave in
-        code_unread standing failed s t first first1 marker marker1 p p1 left_s left_t first_s first_t marker_s marker_t fault_s so_far m.more text m.ok.stands.closed m.ok.stands.bytes m.gives code (λ st. not_err tt (m.stop.1 st))
+        code_unread standing failed s t first first1 marker marker1 p p1 left_s left_t first_s first_t marker_s marker_t fault_s so_far m.more text m.ok.stands.closed m.ok.stands.bytes m.gives code
+        (λ st. not_err tt (m.stop.1 st))
 
   -- ---- it stops
 
   module _ (e : Stop) (gave : Passed (Err e)) where
-    abbrev m : RowPasses (source_at (Pull standing failed) s so_far) (row_task shape carried.kept b.read.last.state below) (row_left carried'.kept carried'.held) place' (decoder_state t d' carried'.learned) (Err e)
+    abbrev m : RowPasses (source_at (Pull standing failed) s so_far) (row_task shape carried.kept b.read.last.state below) (row_left carried'.kept carried'.held) place'
+        (decoder_state t d' carried'.learned) (Err e)
     m = passed (Err e) gave
 
     stopped : heard_of (so_far ++ m.more) ≡ Stopped
     stopped = m.stop.0 (is_err e)
 
     -- the rows before it are all that the bytes fix
-    broken : CoderLaws → (bytes : List ℕ) (f : fault.Fault) → CodeBreaks text bytes (bytes_of (so_far ++ m.more)) f → (count : ℕ) → row ≤ count → RowBroken (open_stripe h c segments) count (handed began out text) bytes f
+    broken : CoderLaws → (bytes : List ℕ) (f : fault.Fault) → CodeBreaks text bytes (bytes_of (so_far ++ m.more)) f → (count : ℕ) → row ≤ count →
+        RowBroken (open_stripe h c segments) count (handed began out text) bytes f
     broken q bytes f breaks count few =
         let run : BegunRun (open_stripe h c segments) count (bytes_of (b.read.answers ++ (b.since ++ m.more))) b.read.rows b.read.flags =
-        rows_stop h c segments b.read.answers b.read.rows b.read.flags b.read.last b.read.so_far shape carried.kept carried'.kept below carried'.held carried'.learned d' (b.since ++ m.more) is_ready q count b.decoder (omega (arith, few, b.read.many)) b.read.stands
+        rows_stop h c segments b.read.answers b.read.rows b.read.flags b.read.last b.read.so_far shape carried.kept carried'.kept below carried'.held carried'.learned d'
+        (b.since ++ m.more) is_ready q count b.decoder (omega (arith, few, b.read.many)) b.read.stands
         (sym (ap heard_of (assoc m.more)) ∙ stopped) (subst (λ z. IsBytes (bytes_of z)) (assoc m.more) m.closed.1)
         (subst (λ z. IsPlace b.read.last.state.place → IsRowUndecided shape carried.kept b.read.last.state z below) (assoc m.more) m.undecided) b.read.unstopped in
         record {
@@ -159,12 +169,14 @@ module _ {S : Type 0} (standing : S → EntityView) (failed : S → ℕ) (s t : 
     -- its code breaks, or its piece ends
     pub row_broken : (f : fault.Fault) → (standing t).fault ≡ Some f → CoderLaws → (count : ℕ) → row ≤ count → RowBroken (open_stripe h c segments) count (handed began out text) p f
     row_broken f is q count few =
-        broken q p f (code_broke standing failed s t first first1 marker marker1 p p1 left_s left_t first_s first_t marker_s marker_t fault_s so_far m.more text m.closed.0 m.closed.1 m.gives code stopped f is) count few
+        broken q p f (code_broke standing failed s t first first1 marker marker1 p p1 left_s left_t first_s first_t marker_s marker_t fault_s so_far m.more text m.closed.0 m.closed.1 m.gives code
+        stopped f is) count few
 
     pub row_waits : (standing t).fault ≡ Some Truncated → carried'.kept ≡ carried.kept →
         RowWaits (open_stripe h c segments) shape row (row_state_at carried' d' place' first1 marker1 p1) (handed began out text) p × (first1 ≡ None) × (marker1 ≡ None)
     row_waits is kept_is =
-        let w = code_waits standing failed s t first first1 marker marker1 p p1 left_s left_t first_s first_t marker_s marker_t fault_s so_far m.more text m.closed.0 m.closed.1 m.gives code stopped is in
+        let w = code_waits standing failed s t first first1 marker marker1 p p1 left_s left_t first_s first_t marker_s marker_t fault_s so_far m.more text m.closed.0 m.closed.1 m.gives code stopped
+        is in
         (waiting kept_is w.1 w.2.0 w.2.1 w.2.2, w.0, w.1)
 
     -- its end marker comes
@@ -172,7 +184,8 @@ module _ {S : Type 0} (standing : S → EntityView) (failed : S → ℕ) (s t : 
         ((standing s).waits ≡ true) × ((MarkerRead marker first → ⊥) → RowAtMarker (open_stripe h c segments) shape row (row_state_at carried' d' place' first1 marker1 p1) (handed began out text) p)
     unfolding waiting
     row_at_marker is kept_is q =
-        let k = code_at_marker standing failed s t first first1 marker marker1 p p1 left_s left_t first_s first_t marker_s marker_t fault_s so_far m.more text m.closed.0 m.closed.1 m.gives code stopped is in (
+        let k = code_at_marker standing failed s t first first1 marker marker1 p p1 left_s left_t first_s first_t marker_s marker_t fault_s so_far m.more text m.closed.0 m.closed.1 m.gives code
+        stopped is in (
           k.0,
           λ unread. let w = k.1 unread in record {
             waits = waiting kept_is w.unanswered w.waits.0 w.waits.1 w.waits.2;

@@ -60,9 +60,11 @@ pub put_stage : (h : Fields) (height : ℕ) (w : WalkView) (text out : List ℕ)
 put_stage h height w text out k e s = subst (λ z. StageStands z (sized h height) w text out) (sym e) s
 
 -- a walk that carries the same, at another stage or of another text
-pub walk_with : {h : Fields} {height : ℕ} {w : WalkView} {text out text' out' : List ℕ} {decoder : Decoder} {stage' : Kind} {given : Bool} {at : Option Move} {comment row : ℕ} {place : RowPlace} {first : Option Code} {marker : Option Bool} →
+pub walk_with : {h : Fields} {height : ℕ} {w : WalkView} {text out text' out' : List ℕ} {decoder : Decoder} {stage' : Kind} {given : Bool} {at : Option Move} {comment row : ℕ} {place : RowPlace}
+    {first : Option Code} {marker : Option Bool} →
     WalkStands (sized h height) w text out → IfSome first IsByteOrMarker → IfSome marker (λ _. first ≡ None) → place.done < h.xd →
-    StageStands stage' (sized h height) (record w { decoder = decoder; stage = stage'; given = given; at = at; comment = comment; row = row; place = place; first = first; marker = marker }) text' out' →
+    StageStands stage' (sized h height) (record w { decoder = decoder; stage = stage'; given = given; at = at; comment = comment; row = row; place = place; first = first; marker = marker }) text' out'
+    →
     WalkStands (sized h height) (record w { decoder = decoder; stage = stage'; given = given; at = at; comment = comment; row = row; place = place; first = first; marker = marker }) text' out'
 walk_with s code_is behind within stands = record {
   left_is = s.left_is;
@@ -74,7 +76,8 @@ walk_with s code_is behind within stands = record {
 }
 
 -- as far in its row
-pub walk_at : {h : Fields} {height : ℕ} {w : WalkView} {text out text' out' : List ℕ} {decoder : Decoder} {stage' : Kind} {given : Bool} {at : Option Move} {comment row : ℕ} {first : Option Code} {marker : Option Bool} →
+pub walk_at : {h : Fields} {height : ℕ} {w : WalkView} {text out text' out' : List ℕ} {decoder : Decoder} {stage' : Kind} {given : Bool} {at : Option Move} {comment row : ℕ} {first : Option Code}
+    {marker : Option Bool} →
     WalkStands (sized h height) w text out → IfSome first IsByteOrMarker → IfSome marker (λ _. first ≡ None) →
     StageStands stage' (sized h height) (record w { decoder = decoder; stage = stage'; given = given; at = at; comment = comment; row = row; first = first; marker = marker }) text' out' →
     WalkStands (sized h height) (record w { decoder = decoder; stage = stage'; given = given; at = at; comment = comment; row = row; first = first; marker = marker }) text' out'
@@ -162,7 +165,8 @@ head_first h height width carried one some wide first = record {
 pub step_ok : {A : Type 0} {image : SizedImage} {w w' : WalkView} {p p' : List ℕ} {u : A} → StepsOn image w w' p p' [] → Step image w w' p p' (Ok u)
 step_ok on = record { ok = on; err = tt; more = λ e. absurd (let bot : ⊥ = cc in bot) }
 
-pub step_exit : {A : Type 0} (h : Fields) (height : ℕ) (w w' : WalkView) (p p' : List ℕ) (r : Result A Fault) (e : Fault) → IsErrAnd r (λ y. y ≡ e) → StepsOff (sized h height) w p e → (e ≡ Truncated → StepsToEnd (sized h height) w w' p p') → Step (sized h height) w w' p p' r
+pub step_exit : {A : Type 0} (h : Fields) (height : ℕ) (w w' : WalkView) (p p' : List ℕ) (r : Result A Fault) (e : Fault) → IsErrAnd r (λ y. y ≡ e) → StepsOff (sized h height) w p e →
+    (e ≡ Truncated → StepsToEnd (sized h height) w w' p p') → Step (sized h height) w w' p p' r
 step_exit h height w w' p p' (Ok x) e a off on = absurd a
 step_exit h height w w' p p' (Err y) e a off on = record { ok = tt; err = subst (StepsOff (sized h height) w p) (sym a) off; more = λ is. on (sym a ∙ (let same : y ≡ Truncated = cc in same)) }
 
@@ -175,7 +179,8 @@ other_exit (Err y) e a other = λ is. other (sym a ∙ is)
 pub turn_row : (h : Fields) (height : ℕ) (w w' : WalkView) (p p' : List ℕ) → StepsOn (sized h height) w w' p p' w'.carried.held.current → Turn (sized h height) w w' p p' (Ok true)
 turn_row h height w w' p p' on = record { row = λ _. on; done = λ e. absurd (let bot : ⊥ = cc in bot); err = tt; more = λ e. absurd (let bot : ⊥ = cc in bot) }
 
-pub turn_exit : (h : Fields) (height : ℕ) (w w' : WalkView) (p p' : List ℕ) (r : Result Bool Fault) (e : Fault) → IsErrAnd r (λ y. y ≡ e) → StepsOff (sized h height) w p e → (e ≡ Truncated → StepsToEnd (sized h height) w w' p p') → Turn (sized h height) w w' p p' r
+pub turn_exit : (h : Fields) (height : ℕ) (w w' : WalkView) (p p' : List ℕ) (r : Result Bool Fault) (e : Fault) → IsErrAnd r (λ y. y ≡ e) → StepsOff (sized h height) w p e →
+    (e ≡ Truncated → StepsToEnd (sized h height) w w' p p') → Turn (sized h height) w w' p p' r
 turn_exit h height w w' p p' (Ok x) e a off on = absurd a
 turn_exit h height w w' p p' (Err y) e a off on = record {
   row = λ is. absurd (let bot : ⊥ = cc in bot);
@@ -197,7 +202,8 @@ first_two (inr (inr (inl c))) m n = absurd (m c)
 first_two (inr (inr (inr d))) m n = absurd (n d)
 
 -- a stripe's first row is to come
-pub first_row : {h : Fields} {height : ℕ} {w : WalkView} {text out : List ℕ} → 1 ≤ h.l0 → w.stage ≡ stage.Code → w.row ≡ 0 → WalkStands (sized h height) w text out → w.row < rows_in h height w.entities
+pub first_row : {h : Fields} {height : ℕ} {w : WalkView} {text out : List ℕ} → 1 ≤ h.l0 → w.stage ≡ stage.Code → w.row ≡ 0 → WalkStands (sized h height) w text out →
+    w.row < rows_in h height w.entities
 first_row {h} {height} {w} {text} {out} some is zero s =
     let k : CodeStands (sized h height) (head_place w.entities w.given w.at w.carried) (code_place w.row w.first w.marker w.decoder) text out = at_stage is s in
     let r = some_row height h.l0 w.entities some k.head.fewer in
@@ -209,7 +215,8 @@ walk_few h height w text out some (inl code) s = few_before height h.l0 w.entiti
 walk_few h height w text out some (inr row) s = few_before height h.l0 w.entities some (at_stage row s).head.fewer
 
 -- what stays after an end marker, where the width goes by another name
-pub kept_wide : (wide width : ℕ) (reset : Bool) (carried next : Carried) → wide ≡ width → ((last : RowStart) → IsCarried last carried → IsCarried (first_row_start (next_stripe_start wide reset last)) next)
+pub kept_wide : (wide width : ℕ) (reset : Bool) (carried next : Carried) → wide ≡ width →
+    ((last : RowStart) → IsCarried last carried → IsCarried (first_row_start (next_stripe_start wide reset last)) next)
     → (last : RowStart) → IsCarried last carried → IsCarried (first_row_start (next_stripe_start width reset last)) next
 kept_wide wide width reset carried next e kept last is = subst (λ w. IsCarried (first_row_start (next_stripe_start w reset last)) next) e (kept last is)
 

@@ -93,7 +93,8 @@ module _ (d : PieceView) (text out : List ℕ) where
   put_waits late waits k s = record { height = k; stands = subst (λ b. StandsAs b d.waits d text out) (sym late) (subst (λ b. StandsAs true b d text out) (sym waits) s) }
 
 -- a walk begins to wait
-pub waits_first : (h : Fields) (w : WalkView) (b : Head) (text out : List ℕ) → WalkStands (sized h h.yd) w text out → IsAtMarker w → w.given ≡ false → (IsInCode w.stage → MarkerAfterRows (sized h h.yd) text out) → b.at ≡ None → b.comment ≡ None → WalkWaits h w b text out
+pub waits_first : (h : Fields) (w : WalkView) (b : Head) (text out : List ℕ) → WalkStands (sized h h.yd) w text out → IsAtMarker w → w.given ≡ false →
+    (IsInCode w.stage → MarkerAfterRows (sized h h.yd) text out) → b.at ≡ None → b.comment ≡ None → WalkWaits h w b text out
 waits_first h w b text out s at ungiven in_time none empty = record {
   done = text;
   back = [];
@@ -131,7 +132,8 @@ none_some e = cc
 abbrev AnswerLeaves : Bool → PieceView → PieceView → List ℕ → List ℕ → Option Outcome → Type 0
 AnswerLeaves is_all d d' p p' None = DecoderOn d d' p p' []
 AnswerLeaves is_all d d' p p' (Some outcome.Row) = DecoderOn d d' p p' (row_held d') × NoHeightBelow is_all d d' p
-AnswerLeaves is_all d d' p p' (Some outcome.More) = (is_all ≡ false) × DecoderOn d d' p p' [] × (waits_behind d' ≡ false → EndsBroken true d p d'.height Truncated) × (length p' ≤ 7) × (waits_behind d' ≡ true → StaysOpen d d' p)
+AnswerLeaves is_all d d' p p' (Some outcome.More) = (is_all ≡ false) × DecoderOn d d' p p' [] × (waits_behind d' ≡ false → EndsBroken true d p d'.height Truncated) × (length p' ≤ 7) ×
+    (waits_behind d' ≡ true → StaysOpen d d' p)
 AnswerLeaves is_all d d' p p' (Some (outcome.Done n)) = (d'.height ≡ n) × EndsWhole is_all d p n × EndsConsumed is_all d d' p p' n
 AnswerLeaves is_all d d' p p' (Some (outcome.Broken f)) = EndsBroken is_all d p d'.height f
 
@@ -152,7 +154,8 @@ pub leaves_on : (is_all : Bool) (d d' : PieceView) (p p' : List ℕ) → d'.head
 leaves_on is_all d d' p p' header going on = leaves_as is_all d d' p p' None header going on
 
 -- a row
-pub leaves_row : (is_all : Bool) (d d' : PieceView) (p p' : List ℕ) → d'.header ≡ d.header → d'.end ≡ d.end → DecoderOn d d' p p' (row_held d') → NoHeightBelow is_all d d' p → StepLeaves is_all d d' p p' (Some outcome.Row)
+pub leaves_row : (is_all : Bool) (d d' : PieceView) (p p' : List ℕ) → d'.header ≡ d.header → d'.end ≡ d.end → DecoderOn d d' p p' (row_held d') → NoHeightBelow is_all d d' p →
+    StepLeaves is_all d d' p p' (Some outcome.Row)
 leaves_row is_all d d' p p' header going on waits = leaves_as is_all d d' p p' (Some outcome.Row) header going (on, waits)
 
 -- what a fault comes to
@@ -165,7 +168,8 @@ pub record Comes (fault : Fault) (is_all : Bool) (r : Outcome) : Type 0 where
 some_is : {r s : Outcome} → Some r ≡ Some s → r ≡ s
 some_is e = cc
 
-pub leaves_stop : (is_all : Bool) (d d' : PieceView) (p p' : List ℕ) (fault : Fault) (r : Outcome) → Comes fault is_all r → d'.header ≡ d.header → d'.end ≡ d.end → waits_behind d' ≡ false → (fault ≡ Truncated → DecoderOn d d' p p' [] × (length p' ≤ 7)) →
+pub leaves_stop : (is_all : Bool) (d d' : PieceView) (p p' : List ℕ) (fault : Fault) (r : Outcome) → Comes fault is_all r → d'.header ≡ d.header → d'.end ≡ d.end → waits_behind d' ≡ false →
+    (fault ≡ Truncated → DecoderOn d d' p p' [] × (length p' ≤ 7)) →
     ((is_all : Bool) → (fault ≡ Truncated → is_all ≡ true) → EndsBroken is_all d p d'.height fault) → StepLeaves is_all d d' p p' (Some r)
 leaves_stop is_all d d' p p' fault r c header going quiet on broken = record {
   header = header;
@@ -179,7 +183,8 @@ leaves_stop is_all d d' p p' fault r c header going quiet on broken = record {
 }
 
 -- a fault in the code, where no height came
-pub code_broken : (d : PieceView) (p : List ℕ) (fault : Fault) → d.is_open ≡ true → d.waits ≡ false → StepsOff (sized (fields_of d.header) d.header.yd) d.walk p fault → (SomeStand d → fault ≢ Changed) → (is_all : Bool) → (fault ≡ Truncated → is_all ≡ true) → EndsBroken is_all d p d.height fault
+pub code_broken : (d : PieceView) (p : List ℕ) (fault : Fault) → d.is_open ≡ true → d.waits ≡ false → StepsOff (sized (fields_of d.header) d.header.yd) d.walk p fault →
+    (SomeStand d → fault ≢ Changed) → (is_all : Bool) → (fault ≡ Truncated → is_all ≡ true) → EndsBroken is_all d p d.height fault
 code_broken d p fault late going off other is_all all text out rest s follows =
     subst (λ n. HandsOut (fields_of d.header) ((text ++ p) ++ rest) n fault out) (sym (s.height.first late))
     (cut_hands_first (fields_of d.header) (text ++ p) out rest fault (own_height d.header) (other (text, out, s)) (λ t. follows (all t)) (off text out (code_of d text out late going s).walk))
@@ -207,9 +212,12 @@ head_of w (inl head) outside = head
 head_of w (inr k) outside = absurd (outside k.0)
 
 -- what came stays behind the same marker
-pub behind_same : (h : Fields) (w w' : WalkView) (b : Head) (back : List ℕ) → IsInCode w.stage → IsInCode w'.stage → KeepsPlace w w' → BehindStands h (behind_at (place_behind h w.stage w.entities) (last_behind h w.stage w.left)) b back → BehindStands h (behind_at (place_behind h w'.stage w'.entities) (last_behind h w'.stage w'.left)) b back
+pub behind_same : (h : Fields) (w w' : WalkView) (b : Head) (back : List ℕ) → IsInCode w.stage → IsInCode w'.stage → KeepsPlace w w' →
+    BehindStands h (behind_at (place_behind h w.stage w.entities) (last_behind h w.stage w.left)) b back →
+    BehindStands h (behind_at (place_behind h w'.stage w'.entities) (last_behind h w'.stage w'.left)) b back
 behind_same h w w' b back code code' keeps s =
-    subst (λ p. BehindStands h (behind_at p (last_behind h w'.stage w'.left)) b back) (ap (place_at h.yd) entities) (subst (λ l. BehindStands h (behind_at (place_behind h w.stage w.entities) l) b back) last s)
+    subst (λ p. BehindStands h (behind_at p (last_behind h w'.stage w'.left)) b back) (ap (place_at h.yd) entities)
+    (subst (λ l. BehindStands h (behind_at (place_behind h w.stage w.entities) l) b back) last s)
   where
     entities : entities_behind w.stage w.entities ≡ entities_behind w'.stage w'.entities
     entities = in_code_entities w.stage w.entities code ∙ ap (λ z. z + 1) (sym keeps.entities) ∙ sym (in_code_entities w'.stage w'.entities code')
@@ -226,7 +234,8 @@ no_bytes [] p' e = refl
 no_bytes (x ∷ g) p' e = absurd (let bot : ⊥ = cc in bot)
 
 -- a step that has no bytes
-pub step_none : (h : Fields) (height : ℕ) (w w' : WalkView) (p' row : List ℕ) → StepsOn (sized h height) w w' [] p' row → (text out : List ℕ) → WalkStands (sized h height) w text out → WalkStands (sized h height) w' text (out ++ row)
+pub step_none : (h : Fields) (height : ℕ) (w w' : WalkView) (p' row : List ℕ) → StepsOn (sized h height) w w' [] p' row → (text out : List ℕ) → WalkStands (sized h height) w text out →
+    WalkStands (sized h height) w' text (out ++ row)
 step_none h height w w' p' row on text out s = let k = on text out s in subst (λ z. WalkStands (sized h height) w' z (out ++ row)) (ap (λ z. text ++ z) (no_bytes k.0 p' k.1) ∙ append-nil text) k.2
 
 -- the same is known of the height
@@ -236,14 +245,16 @@ keep_known d d' text keeps k =
     (subst (λ b. HeightKnown (fields_of d.header) d.height b text) (sym keeps.is_open) k))
 
 -- a row that waited
-pub row_given : (d d' : PieceView) → d.is_open ≡ true → d.waits ≡ true → IsInCode d.walk.stage → KeepsDecoder d d' → (p' : List ℕ) (r : Result (Unit {0}) Fault) → RowStep (sized (fields_of d.header) d.header.yd) d.walk d'.walk [] p' r → RowLeaves d.walk d'.walk r →
+pub row_given : (d d' : PieceView) → d.is_open ≡ true → d.waits ≡ true → IsInCode d.walk.stage → KeepsDecoder d d' → (p' : List ℕ) (r : Result (Unit {0}) Fault) →
+    RowStep (sized (fields_of d.header) d.header.yd) d.walk d'.walk [] p' r → RowLeaves d.walk d'.walk r →
     DecoderOn d d' [] [] (row_held d')
 row_given d d' late waits code keeps p' r step leaves text out s = (
   [],
   refl,
   put_waits d' (text ++ []) (out ++ row_held d') (keeps.is_open ∙ late) (keeps.waits ∙ waits)
       (keep_known d d' (text ++ []) keeps (known_more (fields_of d.header) d.height d.is_open text [] s.height))
-      (subst (λ k. WalkWaits (fields_of k) d'.walk d'.behind (text ++ []) (out ++ row_held d')) (sym keeps.header) (subst (λ b. WalkWaits (fields_of d.header) d'.walk b (text ++ []) (out ++ row_held d')) (sym keeps.behind) now)),
+      (subst (λ k. WalkWaits (fields_of k) d'.walk d'.behind (text ++ []) (out ++ row_held d')) (sym keeps.header)
+      (subst (λ b. WalkWaits (fields_of d.header) d'.walk b (text ++ []) (out ++ row_held d')) (sym keeps.behind) now)),
 ) where
   w : WalkWaits (fields_of d.header) d.walk d.behind text out
   w = waits_of d text out late waits s
@@ -313,14 +324,16 @@ module _ (is_all : Bool) (d e d' : PieceView) (p p1 p' : List ℕ) (header : e.h
       let b = consumed (text ++ a.0) (out ++ []) rest a.2 follows in (
         a.0 ++ b.0,
         a.1 ∙ ap (λ z. a.0 ++ z) b.1 ∙ sym (append_assoc a.0 b.0 p'),
-        subst (λ k. ConsumesImage (fields_of k) (waits_behind d') n (text ++ (a.0 ++ b.0)) ((text ++ p) ++ rest)) header (subst (ConsumesImage (fields_of e.header) (waits_behind d') n (text ++ (a.0 ++ b.0))) (all_text text a.0 rest a.1)
+        subst (λ k. ConsumesImage (fields_of k) (waits_behind d') n (text ++ (a.0 ++ b.0)) ((text ++ p) ++ rest)) header
+            (subst (ConsumesImage (fields_of e.header) (waits_behind d') n (text ++ (a.0 ++ b.0))) (all_text text a.0 rest a.1)
             (subst (λ z. ConsumesImage (fields_of e.header) (waits_behind d') n z (((text ++ a.0) ++ p1) ++ rest)) (append_assoc text a.0 b.0) b.2)),
       )
 
   waits_after : NoHeightBelow is_all e d' p1 → NoHeightBelow is_all d d' p
   waits_after waits late marked text out rest n s follows i =
       let a = on text out s in
-      waits late marked (text ++ a.0) (out ++ []) rest n a.2 follows (subst (λ k. IsHeight (fields_of k) (((text ++ a.0) ++ p1) ++ rest) n) (sym header) (subst (λ z. IsHeight (fields_of d.header) z n) (sym (all_text text a.0 rest a.1)) i))
+      waits late marked (text ++ a.0) (out ++ []) rest n a.2 follows (subst (λ k. IsHeight (fields_of k) (((text ++ a.0) ++ p1) ++ rest) n) (sym header)
+      (subst (λ z. IsHeight (fields_of d.header) z n) (sym (all_text text a.0 rest a.1)) i))
 
   open_after : StaysOpen e d' p1 → StaysOpen d d' p
   open_after waits text out s =
@@ -342,10 +355,12 @@ module _ (is_all : Bool) (d e d' : PieceView) (p p1 p' : List ℕ) (header : e.h
   }
 
 -- a fault for good
-pub leaves_broken : (is_all : Bool) (d d' : PieceView) (p p' : List ℕ) (f : Fault) → d'.header ≡ d.header → d'.end ≡ d.end → EndsBroken is_all d p d'.height f → StepLeaves is_all d d' p p' (Some (outcome.Broken f))
+pub leaves_broken : (is_all : Bool) (d d' : PieceView) (p p' : List ℕ) (f : Fault) → d'.header ≡ d.header → d'.end ≡ d.end → EndsBroken is_all d p d'.height f →
+    StepLeaves is_all d d' p p' (Some (outcome.Broken f))
 leaves_broken is_all d d' p p' f header going broken = leaves_as is_all d d' p p' (Some (outcome.Broken f)) header going broken
 
-pub leaves_done : (is_all : Bool) (d d' : PieceView) (p p' : List ℕ) (n : ℕ) → d'.header ≡ d.header → d'.end ≡ d.end → d'.height ≡ n → EndsWhole is_all d p n → EndsConsumed is_all d d' p p' n → StepLeaves is_all d d' p p' (Some (outcome.Done n))
+pub leaves_done : (is_all : Bool) (d d' : PieceView) (p p' : List ℕ) (n : ℕ) → d'.header ≡ d.header → d'.end ≡ d.end → d'.height ≡ n → EndsWhole is_all d p n → EndsConsumed is_all d d' p p' n →
+    StepLeaves is_all d d' p p' (Some (outcome.Done n))
 leaves_done is_all d d' p p' n header going height whole consumed = leaves_as is_all d d' p p' (Some (outcome.Done n)) header going (height, whole, consumed)
 
 -- a walk that is over waits for nothing
@@ -359,7 +374,8 @@ done_nowhere d late waits done some = elim (waits_of d some.0 some.1 late waits 
 ]
 
 -- the height is known at a position where none may arrive
-pub closed_of : (d : PieceDecoder) (rows : Held) (learned : List Estimate) (text out : List ℕ) → phase_looks d.phase ≡ false → DecoderStands (decoder_view d rows learned) text out → phase_is_open d.phase ≡ false
+pub closed_of : (d : PieceDecoder) (rows : Held) (learned : List Estimate) (text out : List ℕ) → phase_looks d.phase ≡ false → DecoderStands (decoder_view d rows learned) text out →
+    phase_is_open d.phase ≡ false
 closed_of d rows learned text out quiet s = by d.phase refl where
   by : (p : Phase) → d.phase ≡ p → phase_is_open d.phase ≡ false
   by (phase.Known s) e = ap phase_is_open e
@@ -394,7 +410,8 @@ closed_none d d' late waits some outside keeps same = record {
   head : (d.walk.stage ≡ stage.Head) × (d.walk.at ≡ None) × (d.walk.entities ≡ 0)
   head = head_of d.walk here.at outside
 
-pub closed_ended : (d d' : PieceView) → d.is_open ≡ true → d.waits ≡ true → SomeStand d → IsInCode d.walk.stage → last_behind (fields_of d.header) d.walk.stage d.walk.left ≡ false → StripeLeft d d' → StripeClosed d d'
+pub closed_ended : (d d' : PieceView) → d.is_open ≡ true → d.waits ≡ true → SomeStand d → IsInCode d.walk.stage → last_behind (fields_of d.header) d.walk.stage d.walk.left ≡ false → StripeLeft d d' →
+    StripeClosed d d'
 closed_ended d d' late waits some code more e = record {
   keeps = e.keeps;
   stage = e.stage over;
@@ -411,10 +428,12 @@ split_is p front behind n f b = sym (take-append-drop n p) ∙ ap (λ z. z ++ dr
 
 -- ---- the head of the next stripe
 
-module _ (h : Fields) (w : WalkView) (b : Head) (place : Place) (done back out : List ℕ) (s : WalkStands (sized h h.yd) w done out) (is : w.stage ≡ stage.Head) (none : w.at ≡ None) (ungiven : w.given ≡ false) (entities : place ≡ record { height = h.yd; entities = w.entities; given = false })
+module _ (h : Fields) (w : WalkView) (b : Head) (place : Place) (done back out : List ℕ) (s : WalkStands (sized h h.yd) w done out) (is : w.stage ≡ stage.Head) (none : w.at ≡ None)
+    (ungiven : w.given ≡ false) (entities : place ≡ record { height = h.yd; entities = w.entities; given = false })
     (bs : BehindStands h (behind_at place false) b back) where
   bare : HeadStands (sized h h.yd) (head_place w.entities false None w.carried) done out
-  bare = subst (λ a. HeadStands (sized h h.yd) (head_place w.entities false a w.carried) done out) none (subst (λ g. HeadStands (sized h h.yd) (head_place w.entities g w.at w.carried) done out) ungiven (at_stage is s))
+  bare = subst (λ a. HeadStands (sized h h.yd) (head_place w.entities false a w.carried) done out) none
+      (subst (λ g. HeadStands (sized h h.yd) (head_place w.entities g w.at w.carried) done out) ungiven (at_stage is s))
 
   pub head_segments : HeadStands (sized h h.yd) (head_place w.entities false b.at w.carried) (done ++ bs.front) out
   head_segments = head_behind refl bare (subst (λ p. HasPassed h p false (Some bs.front) (Some []) (segments_so_far b.at (is_some b.at) p.given bs.comments)) entities bs.passed)
@@ -425,7 +444,8 @@ module _ (h : Fields) (w : WalkView) (b : Head) (place : Place) (done back out :
   -- a walk there
   pub entered_walk : (comment : Option ℕ) → b.comment ≡ comment →
       WalkStands (sized h h.yd) (record w { stage = head_kind comment; at = b.at; comment = comment_left comment; row = 0; place = place_from None; first = None; marker = None }) (done ++ back) out
-  entered_walk None between = walk_with s tt tt (omega (arith, s.within)) (subst (λ z. HeadStands (sized h h.yd) (head_place w.entities w.given b.at w.carried) (done ++ z) out) (sym (front_is bs between)) full)
+  entered_walk None between = walk_with s tt tt (omega (arith, s.within))
+      (subst (λ z. HeadStands (sized h h.yd) (head_place w.entities w.given b.at w.carried) (done ++ z) out) (sym (front_is bs between)) full)
   entered_walk (Some left) inside =
       let k = part_of bs left inside in
       walk_with s tt tt (omega (arith, s.within)) (record {
@@ -450,10 +470,20 @@ module _ (d e d' : PieceView) (closed : StripeClosed d e) (keeps : KeepsDecoder 
   place_is : place_behind (fields_of d.header) d.walk.stage d.walk.entities ≡ record { height = d.header.yd; entities = e.walk.entities; given = false }
   place_is = ap (place_at d.header.yd) (sym closed.entities)
 
-  there : {text out : List ℕ} (w : WalkWaits (fields_of d.header) d.walk d.behind text out) → BehindStands (fields_of d.header) (behind_at (place_behind (fields_of d.header) d.walk.stage d.walk.entities) false) d.behind w.back
+  there : {text out : List ℕ} (w : WalkWaits (fields_of d.header) d.walk d.behind text out) →
+      BehindStands (fields_of d.header) (behind_at (place_behind (fields_of d.header) d.walk.stage d.walk.entities) false) d.behind w.back
   there w = subst (λ l. BehindStands (fields_of d.header) (behind_at (place_behind (fields_of d.header) d.walk.stage d.walk.entities) l) d.behind w.back) more w.behind
 
-  pub entered : d'.walk ≡ record e.walk { stage = head_kind d.behind.comment; at = d.behind.at; comment = comment_left d.behind.comment; row = 0; place = place_from None; first = None; marker = None } → HeadEntered d d'
+  pub entered : d'.walk ≡ record e.walk {
+    stage = head_kind d.behind.comment;
+    at = d.behind.at;
+    comment = comment_left d.behind.comment;
+    row = 0;
+    place = place_from None;
+    first = None;
+    marker =
+        None;
+  } → HeadEntered d d'
   entered walk = record {
     keeps = all_keeps;
     stage = ap (λ w. w.stage) walk;
@@ -462,22 +492,29 @@ module _ (d e d' : PieceView) (closed : StripeClosed d e) (keeps : KeepsDecoder 
     given = ap (λ w. w.given) walk ∙ closed.given;
     at = ap (λ w. w.at) walk;
     stands = λ text out w. subst (λ z. WalkStands (sized (fields_of d.header) d.header.yd) z text out) (sym walk) (subst (λ z. WalkStands (sized (fields_of d.header) d.header.yd)
-        (record e.walk { stage = head_kind d.behind.comment; at = d.behind.at; comment = comment_left d.behind.comment; row = 0; place = place_from None; first = None; marker = None }) z out) (sym w.text_is)
-        (entered_walk (fields_of d.header) e.walk d.behind (place_behind (fields_of d.header) d.walk.stage d.walk.entities) w.done w.back out (closed.stands text out w) closed.stage closed.at closed.given place_is (there w) d.behind.comment refl));
+        (record e.walk { stage = head_kind d.behind.comment; at = d.behind.at; comment = comment_left d.behind.comment; row = 0; place = place_from None; first = None; marker = None }) z out)
+        (sym w.text_is)
+        (entered_walk (fields_of d.header) e.walk d.behind (place_behind (fields_of d.header) d.walk.stage d.walk.entities) w.done w.back out
+        (closed.stands text out w) closed.stage closed.at closed.given place_is (there w) d.behind.comment refl));
   }
 
 -- ---- what comes behind
 
 -- a code begins
-pub code_entered : (q : CoderLaws) (d e d' : PieceView) (c : code_type.Code) (dec : Decoder) (p rest : List ℕ) → d.is_open ≡ true → d.waits ≡ true → HeadEntered d e → d.behind.comment ≡ None → IsByteOrMarker c → DecoderIsAt dec start [] → p ≡ code_bytes c ++ rest →
-    d'.header ≡ e.header → d'.height ≡ e.height → d'.is_open ≡ e.is_open → d'.waits ≡ false → d'.walk ≡ record e.walk { decoder = dec; stage = stage.Code; comment = 0; row = 0; place = place_from None; first = Some c; marker = None } → DecoderOn d d' p rest []
+pub code_entered : (q : CoderLaws) (d e d' : PieceView) (c : code_type.Code) (dec : Decoder) (p rest : List ℕ) → d.is_open ≡ true → d.waits ≡ true → HeadEntered d e → d.behind.comment ≡ None →
+    IsByteOrMarker c → DecoderIsAt dec start [] → p ≡ code_bytes c ++ rest →
+    d'.header ≡ e.header → d'.height ≡ e.height → d'.is_open ≡ e.is_open → d'.waits ≡ false → d'.walk ≡
+    record e.walk { decoder = dec; stage = stage.Code; comment = 0; row = 0; place = place_from None; first = Some c; marker = None } → DecoderOn d d' p rest []
 code_entered q d e d' c dec p rest late waits head between is at p_is header height is_open going walk text out s = (
   code_bytes c,
   p_is,
   put_code d' (text ++ code_bytes c) (out ++ []) (is_open ∙ head.keeps.is_open ∙ late) going
-      (subst (λ z. HeightKnown (fields_of z) d'.height d'.is_open (text ++ code_bytes c)) (sym (header ∙ head.keeps.header)) (subst (λ n. HeightKnown (fields_of d.header) n d'.is_open (text ++ code_bytes c)) (sym (height ∙ head.keeps.height))
-      (subst (λ b. HeightKnown (fields_of d.header) d.height b (text ++ code_bytes c)) (sym (is_open ∙ head.keeps.is_open)) (known_more (fields_of d.header) d.height d.is_open text (code_bytes c) s.height))))
-      (subst (λ z. CodeWalks (fields_of z) d'.walk (text ++ code_bytes c) (out ++ [])) (sym (header ∙ head.keeps.header)) (subst (λ w. CodeWalks (fields_of d.header) w (text ++ code_bytes c) (out ++ [])) (sym walk) now)),
+      (subst (λ z. HeightKnown (fields_of z) d'.height d'.is_open (text ++ code_bytes c)) (sym (header ∙ head.keeps.header))
+      (subst (λ n. HeightKnown (fields_of d.header) n d'.is_open (text ++ code_bytes c)) (sym (height ∙ head.keeps.height))
+      (subst (λ b. HeightKnown (fields_of d.header) d.height b (text ++ code_bytes c)) (sym (is_open ∙ head.keeps.is_open))
+      (known_more (fields_of d.header) d.height d.is_open text (code_bytes c) s.height))))
+      (subst (λ z. CodeWalks (fields_of z) d'.walk (text ++ code_bytes c) (out ++ [])) (sym (header ∙ head.keeps.header))
+      (subst (λ w. CodeWalks (fields_of d.header) w (text ++ code_bytes c) (out ++ [])) (sym walk) now)),
 ) where
   there : WalkStands (sized (fields_of d.header) d.header.yd) e.walk text out
   there = head.stands text out (waits_of d text out late waits s)
@@ -485,32 +522,49 @@ code_entered q d e d' c dec p rest late waits head between is at p_is header hei
   in_head : HeadStands (sized (fields_of d.header) d.header.yd) (head_place e.walk.entities e.walk.given e.walk.at e.walk.carried) text out
   in_head = at_stage (head.stage ∙ ap head_kind between) there
 
-  now : CodeWalks (fields_of d.header) (record e.walk { decoder = dec; stage = stage.Code; comment = 0; row = 0; place = place_from None; first = Some c; marker = None }) (text ++ code_bytes c) (out ++ [])
+  now : CodeWalks (fields_of d.header) (record e.walk { decoder = dec; stage = stage.Code; comment = 0; row = 0; place = place_from None; first = Some c; marker = None }) (text ++ code_bytes c)
+      (out ++ [])
   now = record {
-    walk = subst (WalkStands (sized (fields_of d.header) d.header.yd) (record e.walk { decoder = dec; stage = stage.Code; comment = 0; row = 0; place = place_from None; first = Some c; marker = None }) (text ++ code_bytes c)) (sym (append-nil out)) (walk_with there is tt (omega (arith, there.within)) (head_code in_head c is dec at));
+    walk = subst (WalkStands (sized (fields_of d.header) d.header.yd) (record e.walk {
+      decoder = dec;
+      stage = stage.Code;
+      comment = 0;
+      row = 0;
+      place = place_from None;
+      first = Some c;
+      marker =
+          None;
+    }) (text ++ code_bytes c)) (sym (append-nil out)) (walk_with there is tt (omega (arith, there.within)) (head_code in_head c is dec at));
     in_code = inl refl;
     ungiven = head.given;
     in_time = in_time_empty q (own_height d.header) in_head c;
   }
 
 -- a fault comes next
-module _ (d e : PieceView) (q : CoderLaws) (late : d.is_open ≡ true) (waits : d.waits ≡ true) (head : HeadEntered d e) (p : List ℕ) (f : Fault) (stops : StopsBehind (fields_of d.header) (behind_at (place_behind (fields_of d.header) d.walk.stage d.walk.entities) false) d.behind p f) where
+module _ (d e : PieceView) (q : CoderLaws) (late : d.is_open ≡ true) (waits : d.waits ≡ true) (head : HeadEntered d e) (p : List ℕ) (f : Fault)
+    (stops : StopsBehind (fields_of d.header) (behind_at (place_behind (fields_of d.header) d.walk.stage d.walk.entities) false) d.behind p f) where
   behind_off : (text out : List ℕ) → DecoderStands d text out → CutOff (sized (fields_of d.header) d.header.yd) (text ++ p) out f × (f ≢ Changed)
   behind_off text out s = by d.behind.comment refl stops.breaks where
     there : WalkStands (sized (fields_of d.header) d.header.yd) e.walk text out
     there = head.stands text out (waits_of d text out late waits s)
 
-    by : (o : Option ℕ) → d.behind.comment ≡ o → BreaksBehind (fields_of d.header) (behind_at (place_behind (fields_of d.header) d.walk.stage d.walk.entities) false) d.behind o p f → CutOff (sized (fields_of d.header) d.header.yd) (text ++ p) out f × (f ≢ Changed)
+    by : (o : Option ℕ) → d.behind.comment ≡ o → BreaksBehind (fields_of d.header) (behind_at (place_behind (fields_of d.header) d.walk.stage d.walk.entities) false) d.behind o p f →
+        CutOff (sized (fields_of d.header) d.header.yd) (text ++ p) out f × (f ≢ Changed)
     by None is (unread, ends) =
         let k : HeadStands (sized (fields_of d.header) d.header.yd) (head_place e.walk.entities e.walk.given e.walk.at e.walk.carried) text out = at_stage (head.stage ∙ ap head_kind is) there in (
           head_cut k q (own_height d.header) p unread f stops.counted
-              (subst (λ a. Ends Truncated (Some p) (Some unread) (PieceFault (fields_of d.header) (record { height = d.header.yd; entities = e.walk.entities; given = e.walk.given }) (is_some a)) f) (sym head.at)
-              (subst (λ g. Ends Truncated (Some p) (Some unread) (PieceFault (fields_of d.header) (record { height = d.header.yd; entities = e.walk.entities; given = g }) (is_some d.behind.at)) f) (sym head.given)
-              (subst (λ n. Ends Truncated (Some p) (Some unread) (PieceFault (fields_of d.header) (record { height = d.header.yd; entities = n; given = false }) (is_some d.behind.at)) f) (sym head.entities) ends))),
-          piece_other (fields_of d.header) (place_behind (fields_of d.header) d.walk.stage d.walk.entities) (is_some d.behind.at) refl ends.given f (subst (PieceFault (fields_of d.header) (place_behind (fields_of d.header) d.walk.stage d.walk.entities) (is_some d.behind.at) ends.given) stops.counted ends.has_fault),
+              (subst (λ a. Ends Truncated (Some p) (Some unread) (PieceFault (fields_of d.header) (record { height = d.header.yd; entities = e.walk.entities; given = e.walk.given }) (is_some a)) f)
+              (sym head.at)
+              (subst (λ g. Ends Truncated (Some p) (Some unread) (PieceFault (fields_of d.header) (record { height = d.header.yd; entities = e.walk.entities; given = g }) (is_some d.behind.at)) f)
+              (sym head.given)
+              (subst (λ n. Ends Truncated (Some p) (Some unread) (PieceFault (fields_of d.header) (record { height = d.header.yd; entities = n; given = false }) (is_some d.behind.at)) f)
+              (sym head.entities) ends))),
+          piece_other (fields_of d.header) (place_behind (fields_of d.header) d.walk.stage d.walk.entities) (is_some d.behind.at) refl ends.given f
+              (subst (PieceFault (fields_of d.header) (place_behind (fields_of d.header) d.walk.stage d.walk.entities) (is_some d.behind.at) ends.given) stops.counted ends.has_fault),
         )
     by (Some left) is (short, ended) =
-        let k : CommentStands (sized (fields_of d.header) d.header.yd) (head_place e.walk.entities e.walk.given e.walk.at e.walk.carried) e.walk.comment text out = at_stage (head.stage ∙ ap head_kind is) there in (
+        let k : CommentStands (sized (fields_of d.header) d.header.yd) (head_place e.walk.entities e.walk.given e.walk.at e.walk.carried) e.walk.comment text out =
+        at_stage (head.stage ∙ ap head_kind is) there in (
           subst (CutOff (sized (fields_of d.header) d.header.yd) (text ++ p) out) (sym ended) (comment_off k q (own_height d.header) p (subst (λ n. length p < n) (sym (head.comment left is)) short)),
           (λ t. let z : Truncated ≡ Changed = sym ended ∙ t in cc),
         )
@@ -518,7 +572,8 @@ module _ (d e : PieceView) (q : CoderLaws) (late : d.is_open ≡ true) (waits : 
   pub behind_broken : (is_all : Bool) → (f ≡ Truncated → is_all ≡ true) → EndsBroken is_all d p e.height f
   behind_broken is_all all text out rest s follows =
       let k = behind_off text out s in
-      subst (λ n. HandsOut (fields_of d.header) ((text ++ p) ++ rest) n f out) (sym (head.keeps.height ∙ s.height.first late)) (cut_hands_first (fields_of d.header) (text ++ p) out rest f (own_height d.header) k.1 (λ t. follows (all t)) k.0)
+      subst (λ n. HandsOut (fields_of d.header) ((text ++ p) ++ rest) n f out) (sym (head.keeps.height ∙ s.height.first late))
+      (cut_hands_first (fields_of d.header) (text ++ p) out rest f (own_height d.header) k.1 (λ t. follows (all t)) k.0)
 
 -- of the same decoder
 pub leaves_of : {is_all : Bool} {d0 d d' : PieceView} {p p' : List ℕ} {r : Option Outcome} → d0 ≡ d → StepLeaves is_all d0 d' p p' r → StepLeaves is_all d d' p p' r
@@ -536,21 +591,26 @@ module _ (d : PieceView) (known : d.is_open ≡ false) where
         k.0,
         k.1,
         put_walks d' (text ++ k.0) (out ++ row) (keeps.is_open ∙ known) (keep_known d d' (text ++ k.0) keeps (known_more (fields_of d.header) d.height d.is_open text k.0 s.height))
-            (subst (λ z. WalkStands (sized (fields_of z) d'.height) d'.walk (text ++ k.0) (out ++ row)) (sym keeps.header) (subst (λ n. WalkStands (sized (fields_of d.header) n) d'.walk (text ++ k.0) (out ++ row)) (sym keeps.height) k.2)),
+            (subst (λ z. WalkStands (sized (fields_of z) d'.height) d'.walk (text ++ k.0) (out ++ row)) (sym keeps.header)
+            (subst (λ n. WalkStands (sized (fields_of d.header) n) d'.walk (text ++ k.0) (out ++ row)) (sym keeps.height) k.2)),
       )
 
   pub turn_whole : (w : WalkView) (p p' : List ℕ) → StepsOn (sized (fields_of d.header) d.height) d.walk w p p' [] → w.stage ≡ stage.Done → (is_all : Bool) → EndsWhole is_all d p d.height
   turn_whole w p p' on done is_all text out rest s follows =
       let k = on text out (walks_of d text out known s) in
-      let body : (text ++ k.0) ++ (p' ++ rest) ≡ (text ++ p) ++ rest = append_assoc text k.0 (p' ++ rest) ∙ ap (λ z. text ++ z) (sym (append_assoc k.0 p' rest) ∙ ap (λ z. z ++ rest) (sym k.1)) ∙ sym (append_assoc text p rest) in
+      let body : (text ++ k.0) ++ (p' ++ rest) ≡ (text ++ p) ++ rest = append_assoc text k.0 (p' ++ rest) ∙ ap (λ z. text ++ z) (sym (append_assoc k.0 p' rest) ∙ ap (λ z. z ++ rest) (sym k.1))
+      ∙ sym (append_assoc text p rest) in
       subst (λ z. HoldsImage (fields_of d.header) z d.height out) body
-      (read_holds (fields_of d.header) d.height (text ++ k.0) out (p' ++ rest) (subst (λ z. HasHeight (fields_of d.header) z d.height) (sym (append_assoc text k.0 (p' ++ rest))) (known_of text (k.0 ++ (p' ++ rest)) s.height))
+      (read_holds (fields_of d.header) d.height (text ++ k.0) out (p' ++ rest)
+      (subst (λ z. HasHeight (fields_of d.header) z d.height) (sym (append_assoc text k.0 (p' ++ rest))) (known_of text (k.0 ++ (p' ++ rest)) s.height))
       (at_stage done (subst (WalkStands (sized (fields_of d.header) d.height) w (text ++ k.0)) (append-nil out) k.2)))
 
-  pub turn_consumed : (d' : PieceView) (p p' : List ℕ) → KeepsDecoder d d' → StepsOn (sized (fields_of d.header) d.height) d.walk d'.walk p p' [] → d'.walk.stage ≡ stage.Done → (is_all : Bool) → EndsConsumed is_all d d' p p' d.height
+  pub turn_consumed : (d' : PieceView) (p p' : List ℕ) → KeepsDecoder d d' → StepsOn (sized (fields_of d.header) d.height) d.walk d'.walk p p' [] → d'.walk.stage ≡ stage.Done → (is_all : Bool) →
+      EndsConsumed is_all d d' p p' d.height
   turn_consumed d' p p' keeps on done is_all text out rest s follows =
       let k = on text out (walks_of d text out known s) in
-      let body : (text ++ k.0) ++ (p' ++ rest) ≡ (text ++ p) ++ rest = append_assoc text k.0 (p' ++ rest) ∙ ap (λ z. text ++ z) (sym (append_assoc k.0 p' rest) ∙ ap (λ z. z ++ rest) (sym k.1)) ∙ sym (append_assoc text p rest) in
+      let body : (text ++ k.0) ++ (p' ++ rest) ≡ (text ++ p) ++ rest = append_assoc text k.0 (p' ++ rest) ∙ ap (λ z. text ++ z) (sym (append_assoc k.0 p' rest) ∙ ap (λ z. z ++ rest) (sym k.1))
+      ∙ sym (append_assoc text p rest) in
       let height = subst (λ b. HeightKnown (fields_of d.header) d.height b (text ++ k.0)) known (known_more (fields_of d.header) d.height d.is_open text k.0 s.height) in (
         k.0,
         k.1,
@@ -562,14 +622,18 @@ module _ (d : PieceView) (known : d.is_open ≡ false) where
 
   pub turn_broken : (p : List ℕ) (f : Fault) → StepsOff (sized (fields_of d.header) d.height) d.walk p f → (is_all : Bool) → (f ≡ Truncated → is_all ≡ true) → EndsBroken is_all d p d.height f
   turn_broken p f off is_all all text out rest s follows =
-      cut_hands (fields_of d.header) d.height (text ++ p) out rest f (subst (λ z. HasHeight (fields_of d.header) z d.height) (sym (append_assoc text p rest)) (known_of text (p ++ rest) s.height)) (λ t. follows (all t)) (off text out (walks_of d text out known s))
+      cut_hands (fields_of d.header) d.height (text ++ p) out rest f (subst (λ z. HasHeight (fields_of d.header) z d.height) (sym (append_assoc text p rest)) (known_of text (p ++ rest) s.height))
+      (λ t. follows (all t)) (off text out (walks_of d text out known s))
 
 -- more bytes are needed behind a marker
-pub leaves_more : (is_all : Bool) (d d' : PieceView) (p p' : List ℕ) → d'.header ≡ d.header → d'.end ≡ d.end → is_all ≡ false → d'.is_open ≡ true → d'.waits ≡ true → DecoderOn d d' p p' [] → length p' ≤ 7 → StaysOpen d d' p → StepLeaves is_all d d' p p' (Some outcome.More)
-leaves_more is_all d d' p p' header going open_ late waits on few stays = leaves_as is_all d d' p p' (Some outcome.More) header going (open_, on, (λ w. absurd (true≢false (sym (subst (λ b. (b && d'.waits) ≡ true) (sym late) waits) ∙ w))), few, (λ _. stays))
+pub leaves_more : (is_all : Bool) (d d' : PieceView) (p p' : List ℕ) → d'.header ≡ d.header → d'.end ≡ d.end → is_all ≡ false → d'.is_open ≡ true → d'.waits ≡ true → DecoderOn d d' p p' [] →
+    length p' ≤ 7 → StaysOpen d d' p → StepLeaves is_all d d' p p' (Some outcome.More)
+leaves_more is_all d d' p p' header going open_ late waits on few stays =
+    leaves_as is_all d d' p p' (Some outcome.More) header going (open_, on, (λ w. absurd (true≢false (sym (subst (λ b. (b && d'.waits) ≡ true) (sym late) waits) ∙ w))), few, (λ _. stays))
 
 pub fewer_after : (old mid new : Bool) (p p1 p' : List ℕ) → mid ≡ old → length p1 ≤ length p → steps_left new p' < steps_left mid p1 → steps_left new p' < steps_left old p
-fewer_after old mid new p p1 p' same le less = let k : steps_left new p' < 2 * length p1 + cond {A = ℕ} old 0 1 = subst (λ b. steps_left new p' < 2 * length p1 + cond {A = ℕ} b 0 1) same less in omega (arith, k, le)
+fewer_after old mid new p p1 p' same le less = let k : steps_left new p' < 2 * length p1 + cond {A = ℕ} old 0 1 = subst (λ b. steps_left new p' < 2 * length p1 + cond {A = ℕ} b 0 1) same less in
+    omega (arith, k, le)
 
 -- before the first byte
 pub first_open : (b : Bool) → phase_is_open (first_phase b) ≡ b
@@ -588,7 +652,8 @@ pub first_stage : (b : Bool) → phase_stage (first_phase b) ≡ stage_type.Head
 first_stage true = refl
 first_stage false = refl
 
-pub started : (d : PieceView) → d.is_open ≡ is_variable (fields_of d.header) → d.waits ≡ d.is_open → d.height ≡ d.header.yd → IsFirstWalk d.walk → WalkStands (sized (fields_of d.header) d.header.yd) d.walk [] [] → d.behind.at ≡ None → d.behind.comment ≡ None → DecoderStands d [] []
+pub started : (d : PieceView) → d.is_open ≡ is_variable (fields_of d.header) → d.waits ≡ d.is_open → d.height ≡ d.header.yd → IsFirstWalk d.walk →
+    WalkStands (sized (fields_of d.header) d.header.yd) d.walk [] [] → d.behind.at ≡ None → d.behind.comment ≡ None → DecoderStands d [] []
 started d open_is waits height first s at comment = by d.is_open refl where
   known : HeightKnown (fields_of d.header) d.height d.is_open []
   known = record {
@@ -599,30 +664,42 @@ started d open_is waits height first s at comment = by d.is_open refl where
   }
 
   by : (b : Bool) → d.is_open ≡ b → DecoderStands d [] []
-  by true e = put_waits d [] [] e (waits ∙ e) known (waits_first (fields_of d.header) d.walk d.behind [] [] s (inl (first.stage, first.at, first.entities)) first.given (λ code. absurd (not_head d.walk.stage first.stage code)) at comment)
+  by true e = put_waits d [] [] e (waits ∙ e) known (waits_first (fields_of d.header) d.walk d.behind [] [] s (inl (first.stage, first.at, first.entities)) first.given
+      (λ code. absurd (not_head d.walk.stage first.stage code)) at comment)
   by false e = put_walks d [] [] e known (subst (λ n. WalkStands (sized (fields_of d.header) n) d.walk [] []) (sym height) s)
 
 -- the same but for how the stream has ended
-pub stands_same : (d d' : PieceView) (text out : List ℕ) → d'.header ≡ d.header → d'.height ≡ d.height → d'.is_open ≡ d.is_open → d'.waits ≡ d.waits → d'.walk ≡ d.walk → d'.behind ≡ d.behind → DecoderStands d text out → DecoderStands d' text out
+pub stands_same : (d d' : PieceView) (text out : List ℕ) → d'.header ≡ d.header → d'.height ≡ d.height → d'.is_open ≡ d.is_open → d'.waits ≡ d.waits → d'.walk ≡ d.walk → d'.behind ≡ d.behind →
+    DecoderStands d text out → DecoderStands d' text out
 stands_same d d' text out header height is_open waits walk behind s = by d.is_open d.waits refl refl where
   known : HeightKnown (fields_of d'.header) d'.height d'.is_open text
-  known = subst (λ z. HeightKnown (fields_of z) d'.height d'.is_open text) (sym header) (subst (λ n. HeightKnown (fields_of d.header) n d'.is_open text) (sym height) (subst (λ b. HeightKnown (fields_of d.header) d.height b text) (sym is_open) s.height))
+  known = subst (λ z. HeightKnown (fields_of z) d'.height d'.is_open text) (sym header)
+      (subst (λ n. HeightKnown (fields_of d.header) n d'.is_open text) (sym height) (subst (λ b. HeightKnown (fields_of d.header) d.height b text) (sym is_open) s.height))
 
   by : (a b : Bool) → d.is_open ≡ a → d.waits ≡ b → DecoderStands d' text out
   by false b e f = put_walks d' text out (is_open ∙ e) known
-      (subst (λ z. WalkStands (sized (fields_of z) d'.height) d'.walk text out) (sym header) (subst (λ n. WalkStands (sized (fields_of d.header) n) d'.walk text out) (sym height) (subst (λ w. WalkStands (sized (fields_of d.header) d.height) w text out) (sym walk) (walks_of d text out e s))))
-  by true false e f = put_code d' text out (is_open ∙ e) (waits ∙ f) known (subst (λ z. CodeWalks (fields_of z) d'.walk text out) (sym header) (subst (λ w. CodeWalks (fields_of d.header) w text out) (sym walk) (code_of d text out e f s)))
+      (subst (λ z. WalkStands (sized (fields_of z) d'.height) d'.walk text out) (sym header)
+      (subst (λ n. WalkStands (sized (fields_of d.header) n) d'.walk text out) (sym height)
+      (subst (λ w. WalkStands (sized (fields_of d.header) d.height) w text out) (sym walk) (walks_of d text out e s))))
+  by true false e f = put_code d' text out (is_open ∙ e) (waits ∙ f) known
+      (subst (λ z. CodeWalks (fields_of z) d'.walk text out) (sym header) (subst (λ w. CodeWalks (fields_of d.header) w text out) (sym walk) (code_of d text out e f s)))
   by true true e f = put_waits d' text out (is_open ∙ e) (waits ∙ f) known
-      (subst (λ z. WalkWaits (fields_of z) d'.walk d'.behind text out) (sym header) (subst (λ w. WalkWaits (fields_of d.header) w d'.behind text out) (sym walk) (subst (λ b. WalkWaits (fields_of d.header) d.walk b text out) (sym behind) (waits_of d text out e f s))))
+      (subst (λ z. WalkWaits (fields_of z) d'.walk d'.behind text out) (sym header)
+      (subst (λ w. WalkWaits (fields_of d.header) w d'.behind text out) (sym walk) (subst (λ b. WalkWaits (fields_of d.header) d.walk b text out) (sym behind) (waits_of d text out e f s))))
 
 -- ---- calls
 
 -- it goes on
-pub call_on : (d e d' : PieceView) (p p' row : List ℕ) (taken : ℕ) → taken ≡ length p - length p' → d'.header ≡ e.header → d'.height ≡ e.height → d'.is_open ≡ e.is_open → d'.waits ≡ e.waits → d'.walk ≡ e.walk → d'.behind ≡ e.behind → d'.end ≡ None → DecoderOn d e p p' row →
+pub call_on : (d e d' : PieceView) (p p' row : List ℕ) (taken : ℕ) → taken ≡ length p - length p' → d'.header ≡ e.header → d'.height ≡ e.height → d'.is_open ≡ e.is_open → d'.waits ≡ e.waits →
+    d'.walk ≡ e.walk → d'.behind ≡ e.behind → d'.end ≡ None → DecoderOn d e p p' row →
     (text out : List ℕ) → HasDecoded d text out → HasDecoded d' (text ++ take taken p) (out ++ row)
 call_on d e d' p p' row taken count header height is_open waits walk behind going on text out s =
     let k = on text out s.stands in
-    record { going = going; stands = subst (λ z. DecoderStands d' (text ++ z) (out ++ row)) (sym (taken_is p p' k.0 k.1) ∙ ap (λ n. take n p) (sym count)) (stands_same e d' (text ++ k.0) (out ++ row) header height is_open waits walk behind k.2) }
+    record {
+      going = going;
+      stands = subst (λ z. DecoderStands d' (text ++ z) (out ++ row)) (sym (taken_is p p' k.0 k.1) ∙ ap (λ n. take n p) (sym count))
+          (stands_same e d' (text ++ k.0) (out ++ row) header height is_open waits walk behind k.2);
+    }
 
 -- ---- for a decoder at some position
 
@@ -635,14 +712,21 @@ some_waits d late waits some = let w = waits_of d some.0 some.1 late waits some.
 
 -- the effect of a step is stated only for such a decoder
 module _ (is_all : Bool) (d d' : PieceView) (p p' : List ℕ) (header : d'.header ≡ d.header) (going : d'.end ≡ d.end) where
-  leaves_where : (r : Option Outcome) → (r ≡ Some outcome.More → (is_all ≡ false) × (length p' ≤ 7)) → ((n : ℕ) → r ≡ Some (outcome.Done n) → d'.height ≡ n) → (SomeStand d → StepLeaves is_all d d' p p' r) → StepLeaves is_all d d' p p' r
+  leaves_where : (r : Option Outcome) → (r ≡ Some outcome.More → (is_all ≡ false) × (length p' ≤ 7)) → ((n : ℕ) → r ≡ Some (outcome.Done n) → d'.height ≡ n) →
+      (SomeStand d → StepLeaves is_all d d' p p' r) → StepLeaves is_all d d' p p' r
   leaves_where r cut done there = record {
     header = header;
     going = going;
     on = λ e text out s. (there (text, out, s)).on e text out s;
     row = λ e text out s. (there (text, out, s)).row e text out s;
     waits = λ e late marked text out rest n s. (there (text, out, s)).waits e late marked text out rest n s;
-    more = λ e. ((cut e).0, (λ text out s. ((there (text, out, s)).more e).1 text out s), (λ w text out rest s. ((there (text, out, s)).more e).2 w text out rest s), (cut e).1, (λ w text out s. ((there (text, out, s)).more e).4 w text out s));
+    more = λ e. (
+      (cut e).0,
+      (λ text out s. ((there (text, out, s)).more e).1 text out s),
+      (λ w text out rest s. ((there (text, out, s)).more e).2 w text out rest s),
+      (cut e).1,
+      (λ w text out s. ((there (text, out, s)).more e).4 w text out s),
+    );
     done = λ n e. (done n e, (λ text out rest s. ((there (text, out, s)).done n e).1 text out rest s), (λ text out rest s. ((there (text, out, s)).done n e).2 text out rest s));
     broken = λ f e text out rest s. (there (text, out, s)).broken f e text out rest s;
   }
@@ -660,7 +744,8 @@ module _ (is_all : Bool) (d d' : PieceView) (p p' : List ℕ) (header : d'.heade
   broken_where f = leaves_where (Some (outcome.Broken f)) (λ e. absurd (let bot : ⊥ = cc in bot)) (λ n e. absurd (let bot : ⊥ = cc in bot))
 
 -- a stripe with more rows behind it is not the last
-pub not_last : (d : PieceView) → d.is_open ≡ true → d.waits ≡ true → SomeStand d → (IsInCode d.walk.stage → d.header.l0 < d.walk.left) → last_behind (fields_of d.header) d.walk.stage d.walk.left ≡ false
+pub not_last : (d : PieceView) → d.is_open ≡ true → d.waits ≡ true → SomeStand d → (IsInCode d.walk.stage → d.header.l0 < d.walk.left) → last_behind (fields_of d.header) d.walk.stage d.walk.left ≡
+    false
 not_last d late waits some more = by (waits_of d some.0 some.1 late waits some.2).at where
   by : IsAtMarker d.walk → last_behind (fields_of d.header) d.walk.stage d.walk.left ≡ false
   by (inl head) = ap (λ z. is_last z (nat_le d.walk.left d.header.l0)) head.0

@@ -14,7 +14,8 @@ use Rattle.t85_core.proofs.Decodings.PieceInTime.{none_read}
 use Rattle.t85_core.proofs.Decodings.PieceSteps.{on_then, off_then}
 
 -- a row was entered before
-module _ {h : Fields} {height : ℕ} {w w1 : WalkView} {p p1 : List ℕ} (on : StepsOn (sized h height) w w1 p p1 []) (keeps : KeepsPlace w w1) (same : (w1.row ≡ w.row) × (w1.first ≡ w.first) × (w1.marker ≡ w.marker)) where
+module _ {h : Fields} {height : ℕ} {w w1 : WalkView} {p p1 : List ℕ} (on : StepsOn (sized h height) w w1 p p1 []) (keeps : KeepsPlace w w1)
+    (same : (w1.row ≡ w.row) × (w1.first ≡ w.first) × (w1.marker ≡ w.marker)) where
   marked_then : HasMarker w → HasMarker w1
   marked_then (reset, inl e) = (reset, inl (same.2 ∙ e))
   marked_then (reset, inr e) = (reset, inr (same.1 ∙ e))
@@ -80,18 +81,35 @@ module _ {image : SizedImage} {w w' : WalkView} {p p' : List ℕ} where
   pub code_goes : {r : Result Bool Fault} → (HasMarker w → ⊥) → BegunStep image w w' p p' r → (SomeStands image w → BegunLeaves true w w' r) → CodeGoes image w w' p p' r
   code_goes unread s leaves = record {
     step = record { row = s.row; marker = λ e. s.marker e unread; err = s.err; more = s.more };
-    leaves = λ some. let l = leaves some in record { place = l.place; code = l.code; marker = λ e. (l.waited e).1 unread; unmarked = λ e. l.unmarked refl unread e; unread = l.unread; other = l.other };
+    leaves = λ some. let l = leaves some in record {
+      place = l.place;
+      code = l.code;
+      marker = λ e. (l.waited e).1 unread;
+      unmarked = λ e. l.unmarked refl unread e;
+      unread = l.unread;
+      other =
+          l.other;
+    };
   }
 
   -- after its last row
-  pub code_ended : (reset : Bool) → Step image w w' p p' (Ok reset) → ReachesMarker image w p p' → KeepsPlace w w' → IsInCode w'.stage → MarkerIs reset w'.marker w'.first → CodeGoes image w w' p p' (Ok false)
+  pub code_ended : (reset : Bool) → Step image w w' p p' (Ok reset) → ReachesMarker image w p p' → KeepsPlace w w' → IsInCode w'.stage → MarkerIs reset w'.marker w'.first →
+      CodeGoes image w w' p p' (Ok false)
   code_ended reset s reach keeps code marker = record {
     step = record { row = λ e. absurd (let bot : ⊥ = cc in bot); marker = λ _. (s.ok, reach); err = tt; more = λ e. absurd (let bot : ⊥ = cc in bot) };
     leaves = λ _. record { place = keeps; code = code; marker = λ _. (reset, marker); unmarked = λ e. absurd (let bot : ⊥ = cc in bot); unread = λ e. absurd (let bot : ⊥ = cc in bot); other = tt };
   }
 
-  pub code_broke_off : (f : Fault) → Step {A = Bool} image w w' p p' (Err f) → (SomeStands image w → f ≡ Changed → ⊥) → KeepsPlace w w' → IsInCode w'.stage → w'.first ≡ None → w'.marker ≡ None → CodeGoes image w w' p p' (Err f)
+  pub code_broke_off : (f : Fault) → Step {A = Bool} image w w' p p' (Err f) → (SomeStands image w → f ≡ Changed → ⊥) → KeepsPlace w w' → IsInCode w'.stage → w'.first ≡ None → w'.marker ≡ None →
+      CodeGoes image w w' p p' (Err f)
   code_broke_off f s other keeps code first marker = record {
     step = record { row = λ e. absurd (let bot : ⊥ = cc in bot); marker = λ e. absurd (let bot : ⊥ = cc in bot); err = s.err; more = s.more };
-    leaves = λ some. record { place = keeps; code = code; marker = λ e. absurd (let bot : ⊥ = cc in bot); unmarked = λ e. absurd (let bot : ⊥ = cc in bot); unread = λ _. none_read first marker; other = other some };
+    leaves = λ some. record {
+      place = keeps;
+      code = code;
+      marker = λ e. absurd (let bot : ⊥ = cc in bot);
+      unmarked = λ e. absurd (let bot : ⊥ = cc in bot);
+      unread = λ _. none_read first marker;
+      other = other some;
+    };
   }

@@ -50,7 +50,8 @@ behind_is first (Some reset) answers extra text o = o.behind
 
 -- ---- a stripe whose code breaks
 
-module _ {h : Fields} {height entities : ℕ} {given : Bool} {at : Option move.Move} {start : Carried} {before began : List ℕ} (head : HeadStands (sized h height) (head_place entities given at start) before began)
+module _ {h : Fields} {height entities : ℕ} {given : Bool} {at : Option move.Move} {start : Carried} {before began : List ℕ}
+    (head : HeadStands (sized h height) (head_place entities given at start) before began)
     (code text out : List ℕ) (text_is : text ≡ before ++ code) (q : CoderLaws) (use_ : IsInUse h height) where
   abbrev head_segments : List Segment
   head_segments = head.passed.segments
@@ -61,7 +62,8 @@ module _ {h : Fields} {height entities : ℕ} {given : Bool} {at : Option move.M
   head_back : head.back ≡ flat_map segment_bytes head_segments
   head_back = head.passed.taken ∙ append-nil (flat_map segment_bytes head_segments)
 
-  pub code_off : (p bytes : List ℕ) (f : Fault) (rows : List (List Bool)) (flags : List Bool) → CodeBreaks code p bytes f → BegunRun (open_stripe h head.stripes.next head_segments) (rows_in h height entities) bytes rows flags → out ≡ began ++ flat_map packed_row rows →
+  pub code_off : (p bytes : List ℕ) (f : Fault) (rows : List (List Bool)) (flags : List Bool) → CodeBreaks code p bytes f →
+      BegunRun (open_stripe h head.stripes.next head_segments) (rows_in h height entities) bytes rows flags → out ≡ began ++ flat_map packed_row rows →
       CutOff (sized h height) (text ++ p) out f
   code_off p bytes f rows flags b begun out_is =
       subst (λ z. CutOff (sized h height) z out f) (head_more p) (head_breaks head q use_ out (code ++ p) b.unread f b.counted stripe_cut)
@@ -70,7 +72,8 @@ module _ {h : Fields} {height entities : ℕ} {given : Bool} {at : Option move.M
       part = flat_map segment_bytes head_segments ++ (stuffed bytes ++ b.rest)
 
       taken : head.back ++ (code ++ p) ≡ part ++ b.unread
-      taken = ap (λ z. head.back ++ z) b.text_is ∙ ap (λ z. z ++ ((stuffed bytes ++ b.rest) ++ b.unread)) head_back ∙ sym (append_assoc (flat_map segment_bytes head_segments) (stuffed bytes ++ b.rest) b.unread)
+      taken = ap (λ z. head.back ++ z) b.text_is ∙ ap (λ z. z ++ ((stuffed bytes ++ b.rest) ++ b.unread)) head_back
+          ∙ sym (append_assoc (flat_map segment_bytes head_segments) (stuffed bytes ++ b.rest) b.unread)
 
       stripe_cut : StripeCut h (stripe_place (spot_at (place head)) head.stripes.next (rows_in h height entities)) (passage (Some (head.back ++ (code ++ p))) (Some b.unread) (Some began) (Some out)) f
       stripe_cut = record {
@@ -104,7 +107,8 @@ pub going : (t : Heard) → (t ≡ Stopped → ⊥) → is_stopped t ≡ false
 going Stopped n = absurd (n refl)
 going t n = refl
 
-module _ {h : Fields} {height entities : ℕ} {given : Bool} {at : Option move.Move} {row : ℕ} {first : Option code_type.Code} {marker : Option Bool} {carried : Carried} {d : Decoder} {in_row : RowPlace} {text out : List ℕ}
+module _ {h : Fields} {height entities : ℕ} {given : Bool} {at : Option move.Move} {row : ℕ} {first : Option code_type.Code} {marker : Option Bool} {carried : Carried} {d : Decoder}
+    {in_row : RowPlace} {text out : List ℕ}
     (s : InRowStands (sized h height) (head_place entities given at carried) (code_place row first marker d) in_row text out) where
   -- its decoder goes on
   pub in_row_going : has_stopped d ≡ false
@@ -123,11 +127,13 @@ module _ {h : Fields} {height entities : ℕ} {given : Bool} {at : Option move.M
   in_row_more : (p : List ℕ) → s.before ++ (s.code ++ p) ≡ text ++ p
   in_row_more p = sym (append_assoc s.before s.code p) ∙ ap (λ z. z ++ p) (sym s.text_is)
 
-  pub row_off : CoderLaws → IsInUse h height → (p : List ℕ) (f : Fault) → RowBroken (open_stripe h s.head.stripes.next s.head.passed.segments) (rows_in h height entities) (handed s.began out s.code) p f → CutOff (sized h height) (text ++ p) out f
+  pub row_off : CoderLaws → IsInUse h height → (p : List ℕ) (f : Fault) →
+      RowBroken (open_stripe h s.head.stripes.next s.head.passed.segments) (rows_in h height entities) (handed s.began out s.code) p f → CutOff (sized h height) (text ++ p) out f
   row_off q use_ p f m = code_off s.head s.code text out s.text_is q use_ p m.bytes f m.rows m.flags m.breaks m.begun m.out_is
 
   -- it ended
-  pub row_on : {first' : Option code_type.Code} {marker' : Option Bool} {carried' : Carried} {d' : Decoder} {in_row' : RowPlace} {p p' : List ℕ} → (m : PieceRowTaken (open_stripe h s.head.stripes.next s.head.passed.segments) s.shape row (row_state_at carried' d' in_row' first' marker' p') (handed s.began out s.code) p) →
+  pub row_on : {first' : Option code_type.Code} {marker' : Option Bool} {carried' : Carried} {d' : Decoder} {in_row' : RowPlace} {p p' : List ℕ} →
+      (m : PieceRowTaken (open_stripe h s.head.stripes.next s.head.passed.segments) s.shape row (row_state_at carried' d' in_row' first' marker' p') (handed s.began out s.code) p) →
       CodeStands (sized h height) (head_place entities given at carried') (code_place (row + 1) first' marker' d') (text ++ m.given) (out ++ carried'.held.current)
   row_on m = record {
     before = s.before;
@@ -145,8 +151,10 @@ module _ {h : Fields} {height entities : ℕ} {given : Bool} {at : Option move.M
   }
 
   -- with more of its code
-  in_row_with : {first' : Option code_type.Code} {marker' : Option Bool} {carried' : Carried} {d' : Decoder} {in_row' : RowPlace} (p : List ℕ) (begun : RowBegun (open_stripe h s.head.stripes.next s.head.passed.segments) s.shape (open_row row carried' d' in_row') s.began out) →
-      CodeText first' marker' (begun.read.answers ++ begun.since) [] (s.code ++ p) → InRowStands (sized h height) (head_place entities given at carried') (code_place row first' marker' d') in_row' (text ++ p) out
+  in_row_with : {first' : Option code_type.Code} {marker' : Option Bool} {carried' : Carried} {d' : Decoder} {in_row' : RowPlace} (p : List ℕ)
+      (begun : RowBegun (open_stripe h s.head.stripes.next s.head.passed.segments) s.shape (open_row row carried' d' in_row') s.began out) →
+      CodeText first' marker' (begun.read.answers ++ begun.since) [] (s.code ++ p) →
+      InRowStands (sized h height) (head_place entities given at carried') (code_place row first' marker' d') in_row' (text ++ p) out
   in_row_with p begun code_is = record {
     before = s.before;
     began = s.began;
@@ -162,10 +170,12 @@ module _ {h : Fields} {height entities : ℕ} {given : Bool} {at : Option move.M
 
   -- it waits
   pub row_kept : {first' : Option code_type.Code} {marker' : Option Bool} {carried' : Carried} {d' : Decoder} {in_row' : RowPlace} {p p' : List ℕ} →
-      (m : RowWaits (open_stripe h s.head.stripes.next s.head.passed.segments) s.shape row (row_state_at carried' d' in_row' first' marker' p') (handed s.began out s.code) p) → InRowStands (sized h height) (head_place entities given at carried') (code_place row first' marker' d') in_row' (text ++ m.given) out
+      (m : RowWaits (open_stripe h s.head.stripes.next s.head.passed.segments) s.shape row (row_state_at carried' d' in_row' first' marker' p') (handed s.began out s.code) p) →
+      InRowStands (sized h height) (head_place entities given at carried') (code_place row first' marker' d') in_row' (text ++ m.given) out
   row_kept m = in_row_with m.given m.begun m.code_is
 
-module _ {h : Fields} {height entities : ℕ} {given : Bool} {at : Option move.Move} {row : ℕ} {first : Option code_type.Code} {marker : Option Bool} {carried : Carried} {d : Decoder} {text out : List ℕ}
+module _ {h : Fields} {height entities : ℕ} {given : Bool} {at : Option move.Move} {row : ℕ} {first : Option code_type.Code} {marker : Option Bool} {carried : Carried} {d : Decoder}
+    {text out : List ℕ}
     (s : CodeStands (sized h height) (head_place entities given at carried) (code_place row first marker d) text out) where
   abbrev c : StripeStart
   c = s.head.stripes.next
@@ -196,11 +206,13 @@ module _ {h : Fields} {height entities : ℕ} {given : Bool} {at : Option move.M
 
     -- ---- it ends
 
-    module _ (all : row ≡ count) (p p' : List ℕ) (reset : Bool) (m : MarkerFound s.read.answers s.code p p' reset) (next : Carried) (next_is : IsCarried (first_row_start (next_stripe_start h.xd reset s.read.last)) next) where
+    module _ (all : row ≡ count) (p p' : List ℕ) (reset : Bool) (m : MarkerFound s.read.answers s.code p p' reset) (next : Carried)
+        (next_is : IsCarried (first_row_start (next_stripe_start h.xd reset s.read.last)) next) where
       pub whole : StripesRead h height (passage (Some (text ++ m.given)) (Some []) (Some []) (Some out)) (entities + 1) (cond given 1 0) next
       whole =
           subst (λ z. StripesRead h height (passage (Some z) (Some []) (Some []) (Some out)) (entities + 1) (cond given 1 0) next) all_text
-          (stripes_next h height (Some (s.head.front ++ (s.head.back ++ (s.code ++ m.given)))) (Some (s.head.back ++ (s.code ++ m.given))) (Some []) entities (cond s.head.before 1 0) count s.start next (Some []) (Some s.began) (Some out)
+          (stripes_next h height (Some (s.head.front ++ (s.head.back ++ (s.code ++ m.given)))) (Some (s.head.back ++ (s.code ++ m.given))) (Some []) entities
+          (cond s.head.before 1 0) count s.start next (Some []) (Some s.began) (Some out)
           (stripes_ext s.head.stripes (s.head.back ++ (s.code ++ m.given))) refl (cond given 1 0) stripe)
         where
           all_text : s.head.front ++ (s.head.back ++ (s.code ++ m.given)) ≡ text ++ m.given
@@ -209,10 +221,12 @@ module _ {h : Fields} {height entities : ℕ} {given : Bool} {at : Option move.M
           begun : IsBegun h segments m.code
           begun = record { legal = s.head.passed.begun.legal; one_move = s.head.passed.begun.one_move; bytes = m.small }
 
-          stripe : StripeRead h (stripe_place (record { height = height; entities = entities; heights = cond s.head.before 1 0 }) c count) (cond given 1 0) (passage (Some (s.head.back ++ (s.code ++ m.given))) (Some []) (Some s.began) (Some out)) next
+          stripe : StripeRead h (stripe_place (record { height = height; entities = entities; heights = cond s.head.before 1 0 }) c count) (cond given 1 0)
+              (passage (Some (s.head.back ++ (s.code ++ m.given))) (Some []) (Some s.began) (Some out)) next
           stripe = record {
             stripe = record { segments = segments; code = m.code; reset = reset };
-            taken = ap (λ z. s.head.back ++ z) m.text_is ∙ ap (λ z. z ++ (stuffed m.code ++ marker_bytes reset)) back_is ∙ sym (append-nil (flat_map segment_bytes segments ++ (stuffed m.code ++ marker_bytes reset)));
+            taken = ap (λ z. s.head.back ++ z) m.text_is ∙ ap (λ z. z ++ (stuffed m.code ++ marker_bytes reset)) back_is
+                ∙ sym (append-nil (flat_map segment_bytes segments ++ (stuffed m.code ++ marker_bytes reset)));
             gives_in = record { gives = s.head.passed.gives; heights_are = s.head.passed.given_is };
             rows = s.read.rows;
             flags = s.read.flags;
@@ -249,7 +263,8 @@ module _ {h : Fields} {height entities : ℕ} {given : Bool} {at : Option move.M
     abbrev answers : List Pulled
     answers = s.read.answers ++ []
 
-    stands_here : StandsInRow (row_task s.shape carried'.kept s.read.last.state (record { row = s.read.is_carried.third; above = s.read.last.above; second = s.read.last.second })) in_row answers carried'.held carried'.learned d
+    stands_here : StandsInRow (row_task s.shape carried'.kept s.read.last.state
+        (record { row = s.read.is_carried.third; above = s.read.last.above; second = s.read.last.second })) in_row answers carried'.held carried'.learned d
     stands_here =
         let l = s.read.is_carried.lines_are in
         record {
@@ -287,8 +302,10 @@ module _ {h : Fields} {height entities : ℕ} {given : Bool} {at : Option move.M
     }
 
   -- the same stripe, with other rows or other code
-  pub code_with : {row' : ℕ} {first' : Option code_type.Code} {marker' : Option Bool} {carried' : Carried} {d' : Decoder} {text' out' : List ℕ} (read : RowsKnown (open_stripe h s.head.stripes.next s.head.passed.segments) s.shape (rows_done row' carried' d') s.began out') → row' ≤ count →
-      (extra : List ℕ) → (row' < count → extra ≡ []) → (code : List ℕ) → CodeText first' marker' read.answers extra code → text' ≡ s.before ++ code → CodeStands (sized h height) (head_place entities given at carried') (code_place row' first' marker' d') text' out'
+  pub code_with : {row' : ℕ} {first' : Option code_type.Code} {marker' : Option Bool} {carried' : Carried} {d' : Decoder} {text' out' : List ℕ}
+      (read : RowsKnown (open_stripe h s.head.stripes.next s.head.passed.segments) s.shape (rows_done row' carried' d') s.began out') → row' ≤ count →
+      (extra : List ℕ) → (row' < count → extra ≡ []) → (code : List ℕ) → CodeText first' marker' read.answers extra code → text' ≡ s.before ++ code →
+      CodeStands (sized h height) (head_place entities given at carried') (code_place row' first' marker' d') text' out'
   code_with read few extra rows_first code code_is text_is = record {
     before = s.before;
     began = s.began;
@@ -305,14 +322,16 @@ module _ {h : Fields} {height entities : ℕ} {given : Bool} {at : Option move.M
   }
 
   -- what is left of it was skipped, as far as it came
-  pub code_kept : row ≡ count → {first' : Option code_type.Code} (p p' : List ℕ) → (m : CodeKept first' marker s.read.answers s.code p p') → CodeStands (sized h height) (head_place entities given at carried) (code_place row first' marker d) (text ++ m.given) out
+  pub code_kept : row ≡ count → {first' : Option code_type.Code} (p p' : List ℕ) → (m : CodeKept first' marker s.read.answers s.code p p') →
+      CodeStands (sized h height) (head_place entities given at carried) (code_place row first' marker d) (text ++ m.given) out
   code_kept all p p' m = code_with s.read s.few m.extra (λ lt. absurd (omega (arith, lt, all))) (s.code ++ m.given) m.code_is (sym (with_more m.given))
 
   -- its end marker came
   pub code_marked : row ≡ count → marker ≡ None → (p p' : List ℕ) (reset : Bool) → (m : MarkerFound s.read.answers s.code p p' reset) →
       CodeStands (sized h height) (head_place entities given at carried) (code_place row (Some (code.Marker reset)) marker d) (text ++ m.given) out
   code_marked all unmarked p p' reset m =
-      code_with s.read s.few m.agrees.rest (λ lt. absurd (omega (arith, lt, all))) (s.code ++ m.given) (subst (λ z. CodeText (Some (code.Marker reset)) z s.read.answers m.agrees.rest (s.code ++ m.given)) (sym unmarked) open_) (sym (with_more m.given)) where
+      code_with s.read s.few m.agrees.rest (λ lt. absurd (omega (arith, lt, all))) (s.code ++ m.given)
+      (subst (λ z. CodeText (Some (code.Marker reset)) z s.read.answers m.agrees.rest (s.code ++ m.given)) (sym unmarked) open_) (sym (with_more m.given)) where
         was_open : CodeOpen first s.read.answers s.extra s.code
         was_open = subst (λ z. CodeText first z s.read.answers s.extra s.code) unmarked s.code_is
 

@@ -28,7 +28,8 @@ use Rattle.t85_core.proofs.Bytes.Streams.{Appends-more}
 not_err : (x : Unit {0}) → IsErr {T = Unit {0}} {E = Stop} (Ok x) → ⊥
 not_err x e = cc
 
-module _ {S F : Type 0} (pull : S → Pulled → S → Type 0) (joined : F → Pulled → F → Type 0) (old new : S) (from at to : F) (h : Fields) (shape : Shape) (c : StripeStart) (segments : List Segment) (row : ℕ)
+module _ {S F : Type 0} (pull : S → Pulled → S → Type 0) (joined : F → Pulled → F → Type 0) (old new : S) (from at to : F) (h : Fields) (shape : Shape) (c : StripeStart) (segments : List Segment)
+    (row : ℕ)
     (carried carried' : Carried) (d d' : Decoder) (began text : Option (List ℕ)) (r : RowsRead (Leads joined from at) (open_stripe h c segments) shape (rows_done row carried d) began text)
     (kept : Kept) (offset_is : kept.offset ≡ offset_at (move_of segments) row carried.kept.offset) (previous_is : kept.previous_typical ≡ carried.kept.previous_typical) where
   -- the rows above the next one
@@ -50,7 +51,8 @@ module _ {S F : Type 0} (pull : S → Pulled → S → Type 0) (joined : F → P
   Join = (more : List Pulled) → Gives pull old more new → Gives joined from (r.answers ++ more) to
 
   -- it was decoded
-  pub row_done : Join → (text' : Option (List ℕ)) → RowDecoded (source_at pull old r.answers) (row_task shape kept r.last.state below) (row_left carried'.kept carried'.held) (decoder_state new d' carried'.learned) (Ok tt) →
+  pub row_done : Join → (text' : Option (List ℕ)) → RowDecoded (source_at pull old r.answers) (row_task shape kept r.last.state below) (row_left carried'.kept carried'.held)
+      (decoder_state new d' carried'.learned) (Ok tt) →
       Appends text text' carried'.held.current → RowsRead (Leads joined from to) (open_stripe h c segments) shape (rows_done (row + 1) carried' d') began text'
   row_done join text' done' put =
       let k : RowIs (row_task shape kept r.last.state below) (r.answers ++ done'.more) (row_left carried'.kept carried'.held) carried'.learned d' = done'.ok in
@@ -64,21 +66,25 @@ module _ {S F : Type 0} (pull : S → Pulled → S → Type 0) (joined : F → P
         last = after;
         so_far = rows_step h c segments r.answers r.rows r.flags r.last r.so_far shape kept carried'.kept below carried'.held carried'.learned d' done'.more ready k;
         many = (let long = length-append r.rows (k.row ∷ []) in omega (arith, long, r.many));
-        stands = row_stands shape kept r.last.state below (mode_of h.options) (move_of segments) (length r.rows) r.last ready.mode_is ready.offset_is ready.previous_is refl refl refl carried'.kept (r.answers ++ done'.more) carried'.held carried'.learned d' k;
+        stands = row_stands shape kept r.last.state below (mode_of h.options) (move_of segments) (length r.rows) r.last ready.mode_is ready.offset_is ready.previous_is refl refl refl carried'.kept
+            (r.answers ++ done'.more) carried'.held carried'.learned d' k;
         unstopped = λ s. not_err tt (done'.stop.1 s);
         shape_is = r.shape_is;
         is_carried = record {
           offset_is = kept_is.0;
           previous_is = kept_is.1;
-          learned_is = row_taught shape kept r.last.state below (mode_of h.options) (move_of segments) (length r.rows) r.last ready.mode_is ready.offset_is ready.previous_is refl refl refl carried'.kept (r.answers ++ done'.more) carried'.held carried'.learned d' k;
+          learned_is = row_taught shape kept r.last.state below (mode_of h.options) (move_of segments)
+              (length r.rows) r.last ready.mode_is ready.offset_is ready.previous_is refl refl refl carried'.kept (r.answers ++ done'.more) carried'.held carried'.learned d' k;
           third = r.last.second;
           lines_are = k.lines_are;
         };
-        appended = subst (Appends began text') (sym (flat_map_push packed_row r.rows k.row)) (Appends-more began text text' (flat_map packed_row r.rows) (packed_row k.row) r.appended (subst (Appends text text') k.lines_are.row_is put));
+        appended = subst (Appends began text') (sym (flat_map_push packed_row r.rows k.row))
+            (Appends-more began text text' (flat_map packed_row r.rows) (packed_row k.row) r.appended (subst (Appends text text') k.lines_are.row_is put));
       }
 
   -- the answers up to its end
-  pub row_done_answers : (join : Join) (text' : Option (List ℕ)) (done' : RowDecoded (source_at pull old r.answers) (row_task shape kept r.last.state below) (row_left carried'.kept carried'.held) (decoder_state new d' carried'.learned) (Ok tt)) (put : Appends text text' carried'.held.current) →
+  pub row_done_answers : (join : Join) (text' : Option (List ℕ)) (done' : RowDecoded (source_at pull old r.answers) (row_task shape kept r.last.state below) (row_left carried'.kept carried'.held)
+      (decoder_state new d' carried'.learned) (Ok tt)) (put : Appends text text' carried'.held.current) →
       (row_done join text' done' put).answers ≡ r.answers ++ done'.more
   unfolding row_done
   row_done_answers join text' done' put = refl
@@ -88,7 +94,8 @@ appends_nothing None = tt
 appends_nothing (Some xs) = sym (append-nil xs)
 
 -- before the first row
-abbrev pub rows_begin : {S : Type 0} (pull : S → Pulled → S → Type 0) (from : S) (h : Fields) (shape : Shape) (c : StripeStart) (segments : List Segment) (carried : Carried) (d : Decoder) (text : Option (List ℕ)) →
+abbrev pub rows_begin : {S : Type 0} (pull : S → Pulled → S → Type 0) (from : S) (h : Fields) (shape : Shape) (c : StripeStart) (segments : List Segment) (carried : Carried) (d : Decoder)
+    (text : Option (List ℕ)) →
     DecoderIsAt d start [] → IsShapeOf h shape → IsCarried (first_row_start c) carried → RowsRead (Leads pull from from) (open_stripe h c segments) shape (rows_done 0 carried d) text text
 rows_begin pull from h shape c segments carried d text stands shape_is is = record {
   answers = [];

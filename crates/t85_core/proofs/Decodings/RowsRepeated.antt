@@ -36,7 +36,8 @@ module _ (shape : Shape) (move : Option (ℕ × ℕ)) (row count : ℕ) (carried
     (skipped : (p : Place) (answers : List Pulled) → DecoderIsAt d p answers → RowsSkipped shape carried.kept (record { place = p; learned = carried.learned }) answers count d')
     (settled : (k o : ℕ) → row ≤ k → offset_at move k o ≡ o)
     (kept_is : carried'.kept ≡ carried.kept) (learned_is : carried'.learned ≡ carried.learned) (window_is : carried'.held ≡ repeated carried.held) where
-  module _ (h : Fields) (c : StripeStart) (segments : List Segment) (answers : List Pulled) (rows : List (List Bool)) (flags : List Bool) (last : RowStart) (move_is : move ≡ move_of segments) (shape_is : IsShapeOf h shape)
+  module _ (h : Fields) (c : StripeStart) (segments : List Segment) (answers : List Pulled) (rows : List (List Bool)) (flags : List Bool) (last : RowStart) (move_is : move ≡ move_of segments)
+      (shape_is : IsShapeOf h shape)
       (so_far : RowsSoFar (open_stripe h c segments) answers rows flags last) (many : length rows ≡ row) (stands : DecoderIsAt d last.state.place answers) (is : IsCarried last carried) where
     previous : carried.kept.previous_typical ≡ true
     previous = (skipped last.state.place answers stands).previous
@@ -52,7 +53,8 @@ module _ (shape : Shape) (move : Option (ℕ × ℕ)) (row count : ℕ) (carried
 
     -- what was skipped, from the state that is looked up
     abbrev Skipped : State → Mode → Type 0
-    Skipped s mode = IsRun s (pseudo_event mode true true) count × DecoderIsAt d' (after s (replicate count (pseudo_event mode true true))).place answers × (heard_of answers ≡ More → wanted_bytes s.place.doublings ≤ length (bytes_of answers))
+    Skipped s mode = IsRun s (pseudo_event mode true true) count × DecoderIsAt d' (after s (replicate count (pseudo_event mode true true))).place answers ×
+        (heard_of answers ≡ More → wanted_bytes s.place.doublings ≤ length (bytes_of answers))
 
     all_skipped : Skipped last.state (mode_of h.options)
     all_skipped =
@@ -89,7 +91,8 @@ module _ (shape : Shape) (move : Option (ℕ × ℕ)) (row count : ℕ) (carried
         run = run_append (stripe_coding h segments) 0 (first_row_start c) rows flags last (replicate count last.above) (replicate count true) ends_at so_far.run
             (run_behind h.xd (mode_of h.options) (move_of segments) mode_typical (0 + length rows) last count as_wide);
         enough = λ going.
-            run_enough_append (length (bytes_of answers)) (stripe_coding h segments) 0 (first_row_start c) rows flags last (replicate count last.above) (replicate count true) so_far.run (so_far.enough going)
+            run_enough_append (length (bytes_of answers)) (stripe_coding h segments) 0 (first_row_start c) rows flags last (replicate count last.above) (replicate count true) so_far.run
+            (so_far.enough going)
             (enough_behind h.xd (mode_of h.options) (move_of segments) mode_typical (length (bytes_of answers)) (0 + length rows) last count was_typical (all_skipped.2 going) all_skipped.0.quiet);
       };
       many = omega (arith, many);
@@ -120,9 +123,11 @@ module _ {F : Type 0} (joined : F → Pulled → F → Type 0) (from at : F) (h 
 
   flat_is : flat_map packed_row (r.rows ++ replicate count r.last.above) ≡ flat_map packed_row r.rows ++ copies count carried.held.current
   flat_is =
-      flat_map-append packed_row r.rows (replicate count r.last.above) ∙ ap (λ z. flat_map packed_row r.rows ++ z) (flat_copies count r.last.above ∙ ap (copies count) (sym r.is_carried.lines_are.row_is))
+      flat_map-append packed_row r.rows (replicate count r.last.above)
+      ∙ ap (λ z. flat_map packed_row r.rows ++ z) (flat_copies count r.last.above ∙ ap (copies count) (sym r.is_carried.lines_are.row_is))
 
-  pub repeated_read : (text' : Option (List ℕ)) → Appends text text' (copies count carried.held.current) → RowsRead (Leads joined from at) (open_stripe h c segments) shape (rows_done (row + count) carried' d') began text'
+  pub repeated_read : (text' : Option (List ℕ)) → Appends text text' (copies count carried.held.current) →
+      RowsRead (Leads joined from at) (open_stripe h c segments) shape (rows_done (row + count) carried' d') began text'
   repeated_read text' put = record {
     answers = r.answers;
     gives = r.gives;

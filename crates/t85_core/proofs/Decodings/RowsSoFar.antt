@@ -59,7 +59,8 @@ bytes_right (x ∷ xs) ys h = bytes_right xs ys h.1
 pub rows_none : (h : Fields) (c : StripeStart) (segments : List Segment) (answers : List Pulled) → RowsSoFar (open_stripe h c segments) answers [] [] (first_row_start c)
 rows_none h c segments answers = record { run = refl; enough = λ _. tt }
 
-module _ (h : Fields) (c : StripeStart) (segments : List Segment) (answers : List Pulled) (rows : List (List Bool)) (flags : List Bool) (last : RowStart) (so_far : RowsSoFar (open_stripe h c segments) answers rows flags last) where
+module _ (h : Fields) (c : StripeStart) (segments : List Segment) (answers : List Pulled) (rows : List (List Bool)) (flags : List Bool) (last : RowStart)
+    (so_far : RowsSoFar (open_stripe h c segments) answers rows flags last) where
   zero_rows : 0 + length rows ≡ length rows
   zero_rows = omega arith
 
@@ -69,14 +70,18 @@ module _ (h : Fields) (c : StripeStart) (segments : List Segment) (answers : Lis
     pub rows_step : (k : RowIs (row_task shape kept last.state lines) (answers ++ more) (row_left kept' window) learned d) →
         RowsSoFar (open_stripe h c segments) (answers ++ more) (rows ++ k.row ∷ []) (flags ++ k.flag ∷ []) (after_row (mode_of h.options) (move_of segments) (length rows) last k.row k.flag)
     rows_step k = record {
-      run = subst (λ z. Run (stripe_coding h segments) 0 (first_row_start c) (rows ++ k.row ∷ []) (flags ++ k.flag ∷ []) (after_row (mode_of h.options) (move_of segments) z last k.row k.flag)) zero_rows
+      run = subst (λ z. Run (stripe_coding h segments) 0 (first_row_start c) (rows ++ k.row ∷ []) (flags ++ k.flag ∷ [])
+          (after_row (mode_of h.options) (move_of segments) z last k.row k.flag)) zero_rows
           (run_push (stripe_coding h segments) 0 (first_row_start c) rows flags last k.row k.flag so_far.run
-          (row_next shape kept last.state lines (mode_of h.options) (move_of segments) (length rows) last ready.mode_is ready.offset_is ready.previous_is ready.above_is ready.second_is refl kept' (answers ++ more) window learned d k h.xd ready.width_is));
+          (row_next shape kept last.state lines (mode_of h.options) (move_of segments) (length rows) last ready.mode_is ready.offset_is ready.previous_is ready.above_is ready.second_is refl kept'
+          (answers ++ more) window learned d k h.xd ready.width_is));
       enough = λ going.
           run_enough_push (length (bytes_of (answers ++ more))) (stripe_coding h segments) 0 (first_row_start c) rows flags last k.row k.flag so_far.run
-          (run_enough_more (length (bytes_of answers)) (length (bytes_of (answers ++ more))) (stripe_coding h segments) 0 (first_row_start c) rows flags (more_bytes answers more) (so_far.enough (went_on answers more going)))
+          (run_enough_more (length (bytes_of answers)) (length (bytes_of (answers ++ more))) (stripe_coding h segments) 0 (first_row_start c) rows flags (more_bytes answers more)
+          (so_far.enough (went_on answers more going)))
           (subst (λ z. AreEnough (length (bytes_of (answers ++ more))) last.state (events_with (mode_of h.options) (move_of segments) z last k.row k.flag)) (sym zero_rows)
-          (row_enough shape kept last.state lines (mode_of h.options) (move_of segments) (length rows) last ready.mode_is ready.offset_is ready.previous_is ready.above_is ready.second_is refl kept' (answers ++ more) window learned d k going));
+          (row_enough shape kept last.state lines (mode_of h.options) (move_of segments) (length rows) last ready.mode_is ready.offset_is ready.previous_is ready.above_is ready.second_is refl kept'
+          (answers ++ more) window learned d k going));
     }
 
     -- what is kept after it
@@ -85,7 +90,8 @@ module _ (h : Fields) (c : StripeStart) (segments : List Segment) (answers : Lis
     kept_step k = (k.offset_is ∙ ready.offset_is, k.flag_is)
 
     -- the code breaks in the next row
-    pub rows_stop : CoderLaws → (count : ℕ) (d' : Decoder) → length rows ≤ count → DecoderIsAt d' last.state.place answers → heard_of (answers ++ more) ≡ Stopped → IsBytes (bytes_of (answers ++ more)) →
+    pub rows_stop : CoderLaws → (count : ℕ) (d' : Decoder) → length rows ≤ count → DecoderIsAt d' last.state.place answers → heard_of (answers ++ more) ≡ Stopped →
+        IsBytes (bytes_of (answers ++ more)) →
         (IsPlace last.state.place → IsRowUndecided shape kept last.state (answers ++ more) lines) → (heard_of answers ≡ Stopped → ⊥) →
         BegunRun (open_stripe h c segments) count (bytes_of (answers ++ more)) rows flags
     rows_stop q count d' few stands stopped bytes undecided unstopped = record {
@@ -98,9 +104,11 @@ module _ (h : Fields) (c : StripeStart) (segments : List Segment) (answers : Lis
         bytes = bytes_right (bytes_of answers) (bytes_of more) (subst IsBytes (bytes_append answers more) bytes);
         ended = λ e. absurd (not_ended answers more stopped e);
       });
-      enough = run_enough_more (length (bytes_of answers)) (length (bytes_of (answers ++ more))) (stripe_coding h segments) 0 (first_row_start c) rows flags (more_bytes answers more) (so_far.enough (was_going answers more stopped unstopped));
+      enough = run_enough_more (length (bytes_of answers)) (length (bytes_of (answers ++ more))) (stripe_coding h segments) 0 (first_row_start c) rows flags (more_bytes answers more)
+          (so_far.enough (was_going answers more stopped unstopped));
       ends = inr (subst (λ w. NoneDecided (row_coding w (mode_of h.options) (move_of segments)) (length rows) last (bytes_of (answers ++ more))) ready.width_is
-          (undecided_alike shape kept last.state lines (mode_of h.options) (move_of segments) (length rows) last ready.mode_is ready.offset_is ready.previous_is ready.above_is ready.second_is refl (answers ++ more)
+          (undecided_alike shape kept last.state lines (mode_of h.options) (move_of segments) (length rows) last ready.mode_is ready.offset_is ready.previous_is ready.above_is ready.second_is refl
+          (answers ++ more)
           (undecided (run_place q (stripe_coding h segments) 0 (first_row_start c) rows flags last start_IsPlace so_far.run))));
     }
 
@@ -124,7 +132,8 @@ module _ (h : Fields) (c : StripeStart) (segments : List Segment) (answers : Lis
     run = so_far.run;
     few = omega (arith, many);
     lies = q.answers_lie d last.state.place answers (bytes_of answers ++ rest) stands (record { rest = rest; is = refl; bytes = bytes; ended = λ e. absurd (both going e) });
-    enough = run_enough_more (length (bytes_of answers)) (length (bytes_of answers ++ rest)) (stripe_coding h segments) 0 (first_row_start c) rows flags (let e = length-append (bytes_of answers) rest in omega (arith, e)) (so_far.enough going);
+    enough = run_enough_more (length (bytes_of answers)) (length (bytes_of answers ++ rest)) (stripe_coding h segments) 0 (first_row_start c) rows flags
+        (let e = length-append (bytes_of answers) rest in omega (arith, e)) (so_far.enough going);
     ends = inl many;
   } where
     both : heard_of answers ≡ More → heard_of answers ≡ Ended → ⊥

@@ -38,7 +38,8 @@ run_append coding r b (x ∷ rows) (f ∷ flags) mid more more_flags last run k 
 run_append coding r b rows flags mid more more_flags last run k = absurd run
 
 pub run_enough_append : (count : ℕ) (coding : RowCoding) (r : ℕ) (b : RowStart) (rows : List (List Bool)) (flags : List Bool) (mid : RowStart) (more : List (List Bool)) (more_flags : List Bool) →
-    Run coding r b rows flags mid → RunEnough count coding r b rows flags → RunEnough count coding (r + length rows) mid more more_flags → RunEnough count coding r b (rows ++ more) (flags ++ more_flags)
+    Run coding r b rows flags mid → RunEnough count coding r b rows flags → RunEnough count coding (r + length rows) mid more more_flags →
+    RunEnough count coding r b (rows ++ more) (flags ++ more_flags)
 run_enough_append count coding r b [] [] mid more more_flags run h k =
     let r0 : r + 0 ≡ r = omega arith in
     subst (λ z. RunEnough count coding r z more more_flags) (sym run) (subst (λ z. RunEnough count coding z mid more more_flags) r0 k)
@@ -61,11 +62,14 @@ enough_more count more s events le h = went (beginnings s events) h where
   went [] all = tt
   went (k ∷ ks) all = (let here : wanted_bytes k ≤ count = all.0 in omega (arith, here, le), went ks all.1)
 
-pub run_enough_more : (count more : ℕ) (coding : RowCoding) (r : ℕ) (b : RowStart) (rows : List (List Bool)) (flags : List Bool) → count ≤ more → RunEnough count coding r b rows flags → RunEnough more coding r b rows flags
+pub run_enough_more : (count more : ℕ) (coding : RowCoding) (r : ℕ) (b : RowStart) (rows : List (List Bool)) (flags : List Bool) → count ≤ more → RunEnough count coding r b rows flags →
+    RunEnough more coding r b rows flags
 run_enough_more count more coding r b [] flags le h = tt
 run_enough_more count more coding r b (row ∷ rows) [] le h = tt
-run_enough_more count more coding r b (row ∷ rows) (flag ∷ flags) le h =
-    (enough_more count more b.state (events_with coding.mode coding.move r b row flag) le h.0, run_enough_more count more coding (r + 1) (after_row coding.mode coding.move r b row flag) rows flags le h.1)
+run_enough_more count more coding r b (row ∷ rows) (flag ∷ flags) le h = (
+  enough_more count more b.state (events_with coding.mode coding.move r b row flag) le h.0,
+  run_enough_more count more coding (r + 1) (after_row coding.mode coding.move r b row flag) rows flags le h.1,
+)
 
 pub run_enough_push : (count : ℕ) (coding : RowCoding) (r : ℕ) (b : RowStart) (rows : List (List Bool)) (flags : List Bool) (last : RowStart) (row : List Bool) (flag : Bool) →
     Run coding r b rows flags last → RunEnough count coding r b rows flags → AreEnough count last.state (events_with coding.mode coding.move (r + length rows) last row flag) →
@@ -74,7 +78,8 @@ run_enough_push count coding r b rows flags last row flag run h k = run_enough_a
 
 -- ---- a stripe more
 
-pub stripes_push : (h : Fields) (left : ℕ) (c : StripeStart) (stripes : List Stripe) (rows : List (List Bool)) (flags : List Bool) (mid : StripeStart) (s : Stripe) (more : List (List Bool)) (more_flags : List Bool) (next : StripeStart) →
+pub stripes_push : (h : Fields) (left : ℕ) (c : StripeStart) (stripes : List Stripe) (rows : List (List Bool)) (flags : List Bool) (mid : StripeStart) (s : Stripe) (more : List (List Bool))
+    (more_flags : List Bool) (next : StripeStart) →
     StripesRun h left c stripes (flagged rows flags) mid → StripeRun h (min (left - length stripes * h.l0) h.l0) mid s (flagged more more_flags) next →
     StripesRun h left c (stripes ++ s ∷ []) (flagged (rows ++ more) (flags ++ more_flags)) next
 stripes_push h left c [] rows flags mid s more more_flags next run k =
@@ -147,8 +152,10 @@ module _ (shape : Shape) (kept : Kept) (s : State) (lines : Lines) (mode : Mode)
   pub undecided_alike : (answers : List Pulled) → IsRowUndecided shape kept s answers lines → NoneDecided (row_coding shape.width mode move) r b (bytes_of answers)
   undecided_alike answers h row flag wide legal lies enough =
       h row flag wide (legal_back row flag legal)
-      (subst (λ z. Lies (bytes_of answers) (after z (events_after shape kept (with_row lines row) flag)).place) (sym state_is) (subst (λ z. Lies (bytes_of answers) (after b.state z).place) (sym (events_alike row flag)) lies))
-      (subst (λ z. AreEnough (length (bytes_of answers)) z (events_after shape kept (with_row lines row) flag)) (sym state_is) (subst (λ z. AreEnough (length (bytes_of answers)) b.state z) (sym (events_alike row flag)) enough))
+      (subst (λ z. Lies (bytes_of answers) (after z (events_after shape kept (with_row lines row) flag)).place) (sym state_is)
+      (subst (λ z. Lies (bytes_of answers) (after b.state z).place) (sym (events_alike row flag)) lies))
+      (subst (λ z. AreEnough (length (bytes_of answers)) z (events_after shape kept (with_row lines row) flag)) (sym state_is)
+      (subst (λ z. AreEnough (length (bytes_of answers)) b.state z) (sym (events_alike row flag)) enough))
 
   -- the state after the row
   pub state_alike : (row : List Bool) (flag : Bool) → after s (events_after shape kept (with_row lines row) flag) ≡ (after_row mode move r b row flag).state

@@ -19,14 +19,19 @@ not_nil [] some = absurd (omega (arith, some))
 not_nil (b ∷ bytes) some = refl
 
 -- a stripe that breaks before its code begins
-pub stripe_head : (h : Fields) (spot : Spot) (c : StripeStart) (old new : Option (List ℕ)) (count : ℕ) (text : Option (List ℕ)) (fault : Fault) → 1 ≤ h.xd → Ends Truncated old new (HeadFault h spot) fault → StripeCut h (stripe_place spot c count) (passage old new text text) fault
+pub stripe_head : (h : Fields) (spot : Spot) (c : StripeStart) (old new : Option (List ℕ)) (count : ℕ) (text : Option (List ℕ)) (fault : Fault) → 1 ≤ h.xd →
+    Ends Truncated old new (HeadFault h spot) fault → StripeCut h (stripe_place spot c count) (passage old new text text) fault
 stripe_head h spot c old new count text fault some ends = record {
   rows = [];
   flags = [];
   ends = record {
     given = ends.given;
     taken = ends.taken;
-    has_fault = (ends.has_fault.0, begun_none h count c ends.has_fault.0.segments ends.has_fault.0.code some ends.has_fault.0.begun.bytes (let none = ap length ends.has_fault.1 in omega (arith, none)));
+    has_fault = (
+      ends.has_fault.0,
+      begun_none h count c ends.has_fault.0.segments ends.has_fault.0.code some ends.has_fault.0.begun.bytes
+          (let none = ap length ends.has_fault.1 in omega (arith, none)),
+    );
     at_end = ends.at_end;
   };
   appended = appends_nothing text;

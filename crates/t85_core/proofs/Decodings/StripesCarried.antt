@@ -24,7 +24,8 @@ run_flags coding r b [] [] last h = refl
 run_flags coding r b (row ∷ rows) (f ∷ flags) last h = ap suc (run_flags coding (r + 1) (after_row coding.mode coding.move r b row f) rows flags last h.1)
 run_flags coding r b rows flags last h = absurd h
 
-pub run_wide : (coding : RowCoding) (r : ℕ) (b : RowStart) (rows : List (List Bool)) (flags : List Bool) (last : RowStart) → Run coding r b rows flags last → AllByRecursion (λ row. length row ≡ coding.width) rows
+pub run_wide : (coding : RowCoding) (r : ℕ) (b : RowStart) (rows : List (List Bool)) (flags : List Bool) (last : RowStart) → Run coding r b rows flags last →
+    AllByRecursion (λ row. length row ≡ coding.width) rows
 run_wide coding r b [] [] last h = tt
 run_wide coding r b (row ∷ rows) (f ∷ flags) last h = (h.0.wide, run_wide coding (r + 1) (after_row coding.mode coding.move r b row f) rows flags last h.1)
 run_wide coding r b rows flags last h = absurd h
@@ -74,7 +75,8 @@ module _ (h : Fields) (some : 0 < h.l0) (all : List Stripe) (all_flags : List Bo
       StripeRun h n b s (flagged rows flags) next → Followed i s n next
   stripe_follows i n b s rows flags next n_is k move_is reset_is rows_at flags_at run =
       let y : i * h.l0 ≡ i * h.l0 + 0 = omega arith in
-      let ran : Ran c i 0 (i * h.l0) (length rows) run.last = rows_run rows flags (record { few = omega (arith, n_is, run.many); y_is = y; move_is = move_is; carried = stripe_begins c i b k; rows_at = rows_at; flags_at = flags_at }) run.run in
+      let ran : Ran c i 0 (i * h.l0) (length rows) run.last = rows_run rows flags
+      (record { few = omega (arith, n_is, run.many); y_is = y; move_is = move_is; carried = stripe_begins c i b k; rows_at = rows_at; flags_at = flags_at }) run.run in
       let zero_n : 0 + length rows ≡ n = omega (arith, run.many) in
       record {
         legal = λ j lt. ran.legal j (omega (arith, lt, run.many));
@@ -117,7 +119,8 @@ module _ (h : Fields) (some : 0 < h.l0) (all : List Stripe) (all_flags : List Bo
       }
   stripes_follow i left b (s ∷ todo) rows flags next enough alike ahead moves_at resets_at run =
       joined (stripes_follow (suc i) (left - h.l0) run.4 todo run.1 run.3 next (omega (arith, enough)) (omega (arith, alike, enough)) ahead_next
-      (subst (λ z. Continues None c.moves z (map (λ (s : Stripe). move_of s.segments) todo)) i_next (continues_rest None c.moves i (move_of s.segments) (map (λ (s : Stripe). move_of s.segments) todo) moves_at))
+      (subst (λ z. Continues None c.moves z (map (λ (s : Stripe). move_of s.segments) todo)) i_next
+      (continues_rest None c.moves i (move_of s.segments) (map (λ (s : Stripe). move_of s.segments) todo) moves_at))
       (subst (λ z. Continues false c.resets z (map (λ (s : Stripe). s.reset) todo)) i_next (continues_rest false c.resets i s.reset (map (λ (s : Stripe). s.reset) todo) resets_at))
       run.8)
     where

@@ -67,16 +67,20 @@ copies_long (suc n) bytes =
 
 -- ---- rows that equal the one before
 
-module _ {h : Fields} {height entities : ℕ} {given : Bool} {at : Option move.Move} {row : ℕ} {first : Option code_type.Code} {marker : Option Bool} {carried : Carried} {d : Decoder} {text out : List ℕ}
+module _ {h : Fields} {height entities : ℕ} {given : Bool} {at : Option move.Move} {row : ℕ} {first : Option code_type.Code} {marker : Option Bool} {carried : Carried} {d : Decoder}
+    {text out : List ℕ}
     (s : CodeStands (sized h height) (head_place entities given at carried) (code_place row first marker d) text out) where
-  pub code_repeated : (shape : Shape) → IsShapeOf h shape → (count : ℕ) (carried' : Carried) (d' : Decoder) → RepeatsRows shape (option_map pair_of at) count (rows_done row carried d) (rows_done (row + count) carried' d') → row + count ≤ rows_in h height entities →
+  pub code_repeated : (shape : Shape) → IsShapeOf h shape → (count : ℕ) (carried' : Carried) (d' : Decoder) →
+      RepeatsRows shape (option_map pair_of at) count (rows_done row carried d) (rows_done (row + count) carried' d') → row + count ≤ rows_in h height entities →
       CodeStands (sized h height) (head_place entities given at carried') (code_place (row + count) first marker d') text (out ++ copies count carried.held.current)
   code_repeated shape shape_is count carried' d' repeats few =
       let here = subst (λ z. RepeatsRows z (option_map pair_of at) count (rows_done row carried d) (rows_done (row + count) carried' d')) (shape_here s shape shape_is) repeats in
       code_with s
-      (repeated_read Anything tt tt h s.shape s.head.stripes.next s.head.passed.segments row count carried carried' d d' (Some s.began) (Some out) s.read (option_map pair_of at) s.head.passed.move_is here (Some (out ++ copies count carried.held.current)) refl)
+      (repeated_read Anything tt tt h s.shape s.head.stripes.next s.head.passed.segments row count carried carried' d d' (Some s.began) (Some out) s.read
+      (option_map pair_of at) s.head.passed.move_is here (Some (out ++ copies count carried.held.current)) refl)
       few s.extra (λ lt. s.rows_first (omega (arith, lt))) s.code
-      (subst (λ z. CodeText first marker z s.extra s.code) (sym (repeated_answers Anything tt tt h s.shape s.head.stripes.next s.head.passed.segments row count carried carried' d d' (Some s.began) (Some out) s.read (option_map pair_of at) s.head.passed.move_is here (Some (out ++ copies count carried.held.current)) refl)) s.code_is)
+      (subst (λ z. CodeText first marker z s.extra s.code) (sym (repeated_answers Anything tt tt h s.shape s.head.stripes.next s.head.passed.segments row count carried carried' d d' (Some s.began)
+      (Some out) s.read (option_map pair_of at) s.head.passed.move_is here (Some (out ++ copies count carried.held.current)) refl)) s.code_is)
       s.text_is
 
   -- ---- what was written is first
@@ -100,7 +104,8 @@ module _ {h : Fields} {height entities : ℕ} {given : Bool} {at : Option move.M
     stripe_begun : (part ahead : List ℕ) → s.code ≡ part ++ ahead →
         ((front ++ part ≡ front ++ stuffed (bytes_of answers)) × RunEnough (length (bytes_of answers)) (stripe_coding h segments) 0 (first_row_start c) s.read.rows s.read.flags)
         ⊎ ((reset : Bool) × (front ++ part ≡ stripe_bytes (record { segments = segments; code = bytes_of answers; reset = reset }))) →
-        StripeUnwritten h (stripe_place (record { height = height; entities = entities; heights = cond s.head.before 1 0 }) c (rows_in h height entities)) (passage (Some (s.head.back ++ s.code)) (Some []) (Some s.began) (Some out))
+        StripeUnwritten h (stripe_place (record { height = height; entities = entities; heights = cond s.head.before 1 0 }) c (rows_in h height entities))
+        (passage (Some (s.head.back ++ s.code)) (Some []) (Some s.began) (Some out))
     stripe_begun part ahead code_is decides = record {
       given = front ++ part;
       ahead = ahead;
@@ -124,17 +129,20 @@ module _ {h : Fields} {height entities : ℕ} {given : Bool} {at : Option move.M
     }
 
     stripe_unset : (m : Option Bool) → CodeText first m answers s.extra s.code →
-        StripeUnwritten h (stripe_place (record { height = height; entities = entities; heights = cond s.head.before 1 0 }) c (rows_in h height entities)) (passage (Some (s.head.back ++ s.code)) (Some []) (Some s.began) (Some out))
+        StripeUnwritten h (stripe_place (record { height = height; entities = entities; heights = cond s.head.before 1 0 }) c (rows_in h height entities))
+        (passage (Some (s.head.back ++ s.code)) (Some []) (Some s.began) (Some out))
     stripe_unset None o =
         stripe_begun (stuffed (bytes_of answers)) (stuffed s.extra ++ ahead_bytes first)
         (o.text_is ∙ ap (λ z. z ++ ahead_bytes first) (stuffed_append (bytes_of answers) s.extra) ∙ append_assoc (stuffed (bytes_of answers)) (stuffed s.extra) (ahead_bytes first))
         (inl (refl, s.read.so_far.enough o.going))
-    stripe_unset (Some reset) o = stripe_begun (stuffed (bytes_of answers) ++ marker_bytes reset) [] (o.text_is ∙ sym (append-nil (stuffed (bytes_of answers) ++ marker_bytes reset))) (inr (reset, refl))
+    stripe_unset (Some reset) o = stripe_begun (stuffed (bytes_of answers) ++ marker_bytes reset) [] (o.text_is ∙ sym (append-nil (stuffed (bytes_of answers) ++ marker_bytes reset)))
+        (inr (reset, refl))
 
     pub code_unset : IsInUse h height → ImageUnwritten h height (passage (Some text) (Some []) (Some []) (Some out))
     code_unset use_ =
         subst (λ z. ImageUnwritten h height (passage (Some z) (Some []) (Some []) (Some out))) all_text
-        (image_unset h height (Some (s.head.front ++ (s.head.back ++ s.code))) (Some (s.head.back ++ s.code)) (Some []) entities (cond s.head.before 1 0) (rows_in h height entities) s.start s.start (Some []) (Some s.began) (Some out)
+        (image_unset h height (Some (s.head.front ++ (s.head.back ++ s.code))) (Some (s.head.back ++ s.code)) (Some []) entities (cond s.head.before 1 0) (rows_in h height entities) s.start s.start
+        (Some []) (Some s.began) (Some out)
         (stripes_ext s.head.stripes (s.head.back ++ s.code)) refl q use_ s.head.fewer (stripe_unset marker s.code_is))
       where
         all_text : s.head.front ++ (s.head.back ++ s.code) ≡ text
@@ -185,12 +193,14 @@ none_unset h height = record {
   none_first rest (Some fault) text o = let t = text_first h.xd height [] o.0 refl in (t.0, o.2 ∙ t.1)
 
 -- what a target took of it
-pub unset_there : (h : Fields) (height : ℕ) (bytes out more : List ℕ) (known known' known'' text text' : Option (List ℕ)) → ImageUnwritten h height (passage (Some bytes) (Some []) (Some []) (Some out)) →
+pub unset_there : (h : Fields) (height : ℕ) (bytes out more : List ℕ) (known known' known'' text text' : Option (List ℕ)) →
+    ImageUnwritten h height (passage (Some bytes) (Some []) (Some []) (Some out)) →
     Consumes known known' bytes → Consumes known' known'' more → AppendsBeginning text text' out → ImageUnwritten h height (passage known known'' text text')
 unset_there h height bytes out more known known' known'' text text' i taken further put = record {
   given = i.given;
   ahead = i.ahead ++ more;
-  taken = subst (Consumes known known'') (ap (λ z. z ++ more) (i.taken ∙ append-nil (i.given ++ i.ahead)) ∙ append_assoc i.given i.ahead more) (Consumes-more known known' known'' bytes more taken further);
+  taken = subst (Consumes known known'') (ap (λ z. z ++ more) (i.taken ∙ append-nil (i.given ++ i.ahead)) ∙ append_assoc i.given i.ahead more)
+      (Consumes-more known known' known'' bytes more taken further);
   rows = i.rows;
   first = i.first;
   appended = subst (AppendsBeginning text text') (sym (i.appended.text_is ∙ ap (λ z. z ++ i.appended.rest) (sym out_is))) (beginning_longer i.appended.rest put);

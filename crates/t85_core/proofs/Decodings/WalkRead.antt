@@ -34,7 +34,12 @@ use Rattle.t85_core.proofs.Decodings.Decoded.{fixes_more}
 
 -- what came fixes what was handed out
 pub cut_all : (h : Fields) (height : ℕ) (text out : List ℕ) (f : Fault) → CutOff (sized h height) text out f → (rows : List (List Bool)) × Fixes h height text f rows × (out ≡ flat_map packed_row rows)
-cut_all h height text out f c = (c.cut.rows, subst (λ z. Fixes h height z f c.cut.rows) (sym c.cut.ends.taken) (longer_or_all (λ z. Fixes h height z f c.cut.rows) c.cut.ends.given c.unread has c.cut.ends.at_end (fixes_more h height c.cut.ends.given c.unread f c.cut.rows has)), c.cut.appended) where
+cut_all h height text out f c = (
+  c.cut.rows,
+  subst (λ z. Fixes h height z f c.cut.rows) (sym c.cut.ends.taken)
+      (longer_or_all (λ z. Fixes h height z f c.cut.rows) c.cut.ends.given c.unread has c.cut.ends.at_end (fixes_more h height c.cut.ends.given c.unread f c.cut.rows has)),
+  c.cut.appended,
+) where
   has : Fixes h height c.cut.ends.given f c.cut.rows
   has = subst (λ z. Fixes h height c.cut.ends.given z c.cut.rows) c.counted c.cut.ends.has_fault
 
@@ -146,15 +151,22 @@ waits_off h height w w' a b c held' f waits e text out s =
 -- ---- what a turn is that reads on
 
 pub reads_nothing : (h : Fields) (height : ℕ) (w : WalkView) (known : Option (List ℕ)) → ReadsWalk (sized h height) w w known known []
-reads_nothing h height w known text out s = ([], Consumes-none known, subst (λ z. WalkStands (sized h height) w z (out ++ [])) (sym (append-nil text)) (subst (WalkStands (sized h height) w text) (sym (append-nil out)) s))
+reads_nothing h height w known text out s = (
+  [],
+  Consumes-none known,
+  subst (λ z. WalkStands (sized h height) w z (out ++ [])) (sym (append-nil text))
+      (subst (WalkStands (sized h height) w text) (sym (append-nil out)) s),
+)
 
 -- rows were handed out, and no byte was taken
-pub reads_none : (h : Fields) (height : ℕ) (w w' : WalkView) (known : Option (List ℕ)) (row : List ℕ) → ((text out : List ℕ) → WalkStands (sized h height) w text out → WalkStands (sized h height) w' text (out ++ row)) → ReadsWalk (sized h height) w w' known known row
+pub reads_none : (h : Fields) (height : ℕ) (w w' : WalkView) (known : Option (List ℕ)) (row : List ℕ) →
+    ((text out : List ℕ) → WalkStands (sized h height) w text out → WalkStands (sized h height) w' text (out ++ row)) → ReadsWalk (sized h height) w w' known known row
 reads_none h height w w' known row on text out s = ([], Consumes-none known, subst (λ z. WalkStands (sized h height) w' z (out ++ row)) (sym (append-nil text)) (on text out s))
 
 module _ (h : Fields) (height : ℕ) (w w1 w2 : WalkView) (old mid new : SourceView) (on : ReadsWalk (sized h height) w w1 old.known mid.known []) where
   -- a row, or the end
-  pub turn_found : (held' : List ℕ) (b : Bool) → HeldTurn (sized h height) w1 w2 (reading mid.known new.known) held' (Ok b) → new.failures ≡ old.failures → new.source ≡ old.source → ReadTurn (sized h height) w w2 old new (Ok b)
+  pub turn_found : (held' : List ℕ) (b : Bool) → HeldTurn (sized h height) w1 w2 (reading mid.known new.known) held' (Ok b) → new.failures ≡ old.failures → new.source ≡ old.source →
+      ReadTurn (sized h height) w w2 old new (Ok b)
   turn_found held' b t unfailed same = record {
     row = λ e. reads_then h height w w1 old.known mid.known on w2 new.known w2.carried.held.current (t.row e);
     done = λ e. (reads_then h height w w1 old.known mid.known on w2 new.known [] (t.done e).0, (t.done e).1);
@@ -163,7 +175,8 @@ module _ (h : Fields) (height : ℕ) (w w1 w2 : WalkView) (old mid new : SourceV
   }
 
   -- a fault in what is held
-  pub turn_off : (held' : List ℕ) (f : Fault) → HeldTurn (sized h height) w1 w2 (reading mid.known new.known) held' (Err f) → f ≢ Truncated → new.failures ≡ old.failures → new.source ≡ old.source → ReadTurn (sized h height) w w2 old new (Err f)
+  pub turn_off : (held' : List ℕ) (f : Fault) → HeldTurn (sized h height) w1 w2 (reading mid.known new.known) held' (Err f) → f ≢ Truncated → new.failures ≡ old.failures → new.source ≡ old.source →
+      ReadTurn (sized h height) w w2 old new (Err f)
   turn_off held' f t other unfailed same = record {
     row = λ e. absurd (let bot : ⊥ = cc in bot);
     done = λ e. absurd (let bot : ⊥ = cc in bot);
@@ -178,12 +191,17 @@ module _ (h : Fields) (height : ℕ) (w w1 w2 : WalkView) (old mid new : SourceV
   }
 
   -- nothing is read behind it
-  pub turn_unread : (last : SourceView) (held' : List ℕ) (r : Result Bool Fault) (e : Fault) (t : Result (Unit {0}) Fault) → IsErrAnd r (λ y. y ≡ e) → t ≡ Err e → WaitsWalk (sized h height) w1 w2 mid.known new.known held' →
-      IfErr t (Ends Truncated new.known last.known (λ given fault. (given ≡ held') × (fault ≡ Truncated))) → ReadsOn new last t → new.failures ≡ old.failures → new.source ≡ old.source → ReadTurn (sized h height) w w2 old last r
+  pub turn_unread : (last : SourceView) (held' : List ℕ) (r : Result Bool Fault) (e : Fault) (t : Result (Unit {0}) Fault) → IsErrAnd r (λ y. y ≡ e) → t ≡ Err e →
+      WaitsWalk (sized h height) w1 w2 mid.known new.known held' →
+      IfErr t (Ends Truncated new.known last.known (λ given fault. (given ≡ held') × (fault ≡ Truncated))) → ReadsOn new last t → new.failures ≡ old.failures → new.source ≡ old.source →
+      ReadTurn (sized h height) w w2 old last r
   turn_unread last held' (Ok x) e t a is waits ends reads unfailed same = absurd a
   turn_unread last held' (Err y) e t a is waits ends reads unfailed same =
-      let there : Ends Truncated new.known last.known (λ given fault. (given ≡ held') × (fault ≡ Truncated)) y = subst (Ends Truncated new.known last.known (λ given fault. (given ≡ held') × (fault ≡ Truncated))) (sym a) (subst (λ z. IfErr z (Ends Truncated new.known last.known (λ given fault. (given ≡ held') × (fault ≡ Truncated)))) is ends) in
-      let counts : last.failures ≡ reads_after y new.failures = subst (λ z. last.failures ≡ reads_after z new.failures) (sym a) (subst (λ z. CountsRead new.failures last.failures z) is reads.counts) in
+      let there : Ends Truncated new.known last.known (λ given fault. (given ≡ held') × (fault ≡ Truncated)) y =
+      subst (Ends Truncated new.known last.known (λ given fault. (given ≡ held') × (fault ≡ Truncated))) (sym a)
+      (subst (λ z. IfErr z (Ends Truncated new.known last.known (λ given fault. (given ≡ held') × (fault ≡ Truncated)))) is ends) in
+      let counts : last.failures ≡ reads_after y new.failures = subst (λ z. last.failures ≡ reads_after z new.failures) (sym a)
+      (subst (λ z. CountsRead new.failures last.failures z) is reads.counts) in
       record {
         row = λ e. absurd (let bot : ⊥ = cc in bot);
         done = λ e. absurd (let bot : ⊥ = cc in bot);
@@ -198,7 +216,8 @@ module _ (h : Fields) (height : ℕ) (w w1 w2 : WalkView) (old mid new : SourceV
 -- ---- several rows
 
 -- rows that equal the one before
-pub rows_same : (h : Fields) (height : ℕ) (w w' : WalkView) (s : SourceView) (n : ℕ) → 0 < n → ((text out : List ℕ) → WalkStands (sized h height) w text out → WalkStands (sized h height) w' text (out ++ copies n w'.carried.held.current)) → (0 < n → w'.stage ≡ stage.Code) →
+pub rows_same : (h : Fields) (height : ℕ) (w w' : WalkView) (s : SourceView) (n : ℕ) → 0 < n →
+    ((text out : List ℕ) → WalkStands (sized h height) w text out → WalkStands (sized h height) w' text (out ++ copies n w'.carried.held.current)) → (0 < n → w'.stage ≡ stage.Code) →
     RowsTurn (sized h height) w w' s s (Ok n)
 rows_same h height w w' s n some on code = record {
   some = λ _. (reads_none h height w w' s.known (copies n w'.carried.held.current) on, λ _. code some);
@@ -208,24 +227,34 @@ rows_same h height w w' s n some on code = record {
 }
 
 -- none of those
-pub reads_no_rows : (h : Fields) (height : ℕ) (w w' : WalkView) (known : Option (List ℕ)) (n : ℕ) → n ≡ 0 → ((text out : List ℕ) → WalkStands (sized h height) w text out → WalkStands (sized h height) w' text (out ++ copies n w'.carried.held.current)) → ReadsWalk (sized h height) w w' known known []
-reads_no_rows h height w w' known n none on = reads_none h height w w' known [] (λ text out s. subst (λ z. WalkStands (sized h height) w' text (out ++ copies z w'.carried.held.current)) none (on text out s))
+pub reads_no_rows : (h : Fields) (height : ℕ) (w w' : WalkView) (known : Option (List ℕ)) (n : ℕ) → n ≡ 0 →
+    ((text out : List ℕ) → WalkStands (sized h height) w text out → WalkStands (sized h height) w' text (out ++ copies n w'.carried.held.current)) → ReadsWalk (sized h height) w w' known known []
+reads_no_rows h height w w' known n none on = reads_none h height w w' known []
+    (λ text out s. subst (λ z. WalkStands (sized h height) w' text (out ++ copies z w'.carried.held.current)) none (on text out s))
 
 module _ (h : Fields) (height : ℕ) (w w1 w2 : WalkView) (old new : SourceView) (on : ReadsWalk (sized h height) w w1 old.known old.known []) where
-  pub rows_one : (b : Bool) (n : ℕ) → n ≡ cond b 1 0 → ReadTurn (sized h height) w1 w2 old new (Ok b) → (SomeStands (sized h height) w1 → ◌≡◌ {A = Result Bool Fault} (Ok b) (Ok true) → w2.stage ≡ stage.Code) → RowsTurn (sized h height) w w2 old new (Ok n)
+  pub rows_one : (b : Bool) (n : ℕ) → n ≡ cond b 1 0 → ReadTurn (sized h height) w1 w2 old new (Ok b) →
+      (SomeStands (sized h height) w1 → ◌≡◌ {A = Result Bool Fault} (Ok b) (Ok true) → w2.stage ≡ stage.Code) → RowsTurn (sized h height) w w2 old new (Ok n)
   rows_one b n is t code = went b n is t code where
-    went : (b : Bool) (n : ℕ) → n ≡ cond b 1 0 → ReadTurn (sized h height) w1 w2 old new (Ok b) → (SomeStands (sized h height) w1 → ◌≡◌ {A = Result Bool Fault} (Ok b) (Ok true) → w2.stage ≡ stage.Code) → RowsTurn (sized h height) w w2 old new (Ok n)
+    went : (b : Bool) (n : ℕ) → n ≡ cond b 1 0 → ReadTurn (sized h height) w1 w2 old new (Ok b) →
+        (SomeStands (sized h height) w1 → ◌≡◌ {A = Result Bool Fault} (Ok b) (Ok true) → w2.stage ≡ stage.Code) → RowsTurn (sized h height) w w2 old new (Ok n)
     went true n is t code = record {
-      some = λ _. (reads_then h height w w1 old.known old.known on w2 new.known (copies n w2.carried.held.current) (subst (λ z. ReadsWalk (sized h height) w1 w2 old.known new.known z) (sym (append-nil w2.carried.held.current) ∙ ap (λ z. copies z w2.carried.held.current) (sym is)) (t.row refl)), λ some. code (some_then h height w w1 old.known old.known on some) refl);
+      some = λ _. (
+        reads_then h height w w1 old.known old.known on w2 new.known (copies n w2.carried.held.current)
+            (subst (λ z. ReadsWalk (sized h height) w1 w2 old.known new.known z) (sym (append-nil w2.carried.held.current) ∙ ap (λ z. copies z w2.carried.held.current) (sym is)) (t.row refl)),
+        λ some. code (some_then h height w w1 old.known old.known on some) refl,
+      );
       none = λ none. absurd (omega (arith, is, none));
       err = tt;
-      reads = λ some. let r = t.reads (some_then h height w w1 old.known old.known on some) in record { drained = λ e. absurd (let bot : ⊥ = cc in bot); counts = r.counts; same_source = r.same_source };
+      reads = λ some. let r = t.reads (some_then h height w w1 old.known old.known on some) in
+          record { drained = λ e. absurd (let bot : ⊥ = cc in bot); counts = r.counts; same_source = r.same_source };
     }
     went false n is t code = record {
       some = λ more. absurd (omega (arith, is, more));
       none = λ _. (reads_then h height w w1 old.known old.known on w2 new.known [] (t.done refl).0, (t.done refl).1);
       err = tt;
-      reads = λ some. let r = t.reads (some_then h height w w1 old.known old.known on some) in record { drained = λ e. absurd (let bot : ⊥ = cc in bot); counts = r.counts; same_source = r.same_source };
+      reads = λ some. let r = t.reads (some_then h height w w1 old.known old.known on some) in
+          record { drained = λ e. absurd (let bot : ⊥ = cc in bot); counts = r.counts; same_source = r.same_source };
     }
 
   pub rows_off : (r : Result ℕ Fault) (e : Fault) (t : Result Bool Fault) → IsErrAnd r (λ y. y ≡ e) → t ≡ Err e → ReadTurn (sized h height) w1 w2 old new t → RowsTurn (sized h height) w w2 old new r
@@ -237,7 +266,8 @@ module _ (h : Fields) (height : ℕ) (w w1 w2 : WalkView) (old new : SourceView)
         some = tt;
         none = tt;
         err = breaks_then h height w w1 old.known old.known on new.known y there.err;
-        reads = λ some. let r = there.reads (some_then h height w w1 old.known old.known on some) in record { drained = λ k. let read : y ≡ Read = cc in r.drained (ap Err read); counts = r.counts; same_source = r.same_source };
+        reads = λ some. let r = there.reads (some_then h height w w1 old.known old.known on some) in
+            record { drained = λ k. let read : y ≡ Read = cc in r.drained (ap Err read); counts = r.counts; same_source = r.same_source };
       }
 
 -- ---- the image
@@ -275,11 +305,13 @@ module _ (h : Fields) (height : ℕ) (w w' : WalkView) (known known' known'' tex
       }
 
   -- rows more
-  module _ (n : ℕ) (some : 0 < n) (use_ : IsInUse h height) (q : CoderLaws) (on : ReadsWalk (sized h height) w w' known' known'' (copies n w'.carried.held.current) × (SomeStands (sized h height) w → w'.stage ≡ stage.Code)) where
+  module _ (n : ℕ) (some : 0 < n) (use_ : IsInUse h height) (q : CoderLaws)
+      (on : ReadsWalk (sized h height) w w' known' known'' (copies n w'.carried.held.current) × (SomeStands (sized h height) w → w'.stage ≡ stage.Code)) where
     abbrev next : (given : List ℕ) × Consumes known' known'' given × WalkStands (sized h height) w' (so.bytes ++ given) (so.out ++ copies n w'.carried.held.current)
     next = on.0 so.bytes so.out so.stands
 
-    abbrev here : CodeStands (sized h height) (head_place w'.entities w'.given w'.at w'.carried) (code_place w'.row w'.first w'.marker w'.decoder) (so.bytes ++ next.0) (so.out ++ copies n w'.carried.held.current)
+    abbrev here : CodeStands (sized h height) (head_place w'.entities w'.given w'.at w'.carried) (code_place w'.row w'.first w'.marker w'.decoder) (so.bytes ++ next.0)
+        (so.out ++ copies n w'.carried.held.current)
     here = at_stage (on.1 (so.bytes, so.out, so.stands)) next.2
 
     long : length (so.out ++ copies n w'.carried.held.current) ≡ (row + n) * row_bytes h.xd

@@ -51,7 +51,8 @@ search_end_of r = search_end r.entities r.passed.moves r.passed.comments r.part.
 -- The error of a rest behind these segments and this code of a stripe, whatever the actual height is.
 abbrev pub FaultAnyHeight : Fields → SearchPlace → List Segment → List ℕ → List ℕ → Fault → Type 0
 FaultAnyHeight h at segments code rest fault =
-    (height : ℕ) → rest_fault h (record { height = height; entities = at.entities; heights = if at.given then 1 else 0 }) ((if at.moved then 1 else 0) + count_by is_move segments) (not (is_nil code)) rest ≡ Some fault
+    (height : ℕ) → rest_fault h (record { height = height; entities = at.entities; heights = if at.given then 1 else 0 }) ((if at.moved then 1 else 0) + count_by is_move segments)
+    (not (is_nil code)) rest ≡ Some fault
 
 -- The code begins here, and is skipped with its end marker.
 abbrev pub PassesRest : Code → Option (List ℕ) → Option (List ℕ) → Type 0

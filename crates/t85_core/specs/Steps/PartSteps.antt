@@ -118,4 +118,5 @@ ComesOrEnds h stream w stripes segments true = (w.late_height ≡ 0) × ((height
 ComesOrEnds h stream w stripes segments false = IsDone stream w h stripes segments
 
 abbrev pub SeesHeight : Fields → List ℕ → PartWalk → Bool → Type 0
-SeesHeight h stream w sees = stripes_in_use h w ≤ w.entities → (stripes : List Stripe) (segments : List Segment) → StandsBehind stream w h stripes segments → ComesOrEnds h stream w stripes segments sees
+SeesHeight h stream w sees = stripes_in_use h w ≤ w.entities → (stripes : List Stripe) (segments : List Segment) → StandsBehind stream w h stripes segments →
+    ComesOrEnds h stream w stripes segments sees

@@ -128,7 +128,8 @@ pub record RowBegun (stripe : OpenStripe) (shape : Shape) (at : OpenRow) (began 
   pub unstopped : heard_of (read.answers ++ since) ≡ Stopped → ⊥
   pub offset_is : at.carried.kept.offset ≡ offset_at (move_of stripe.segments) at.row start.kept.offset
   pub previous_is : at.carried.kept.previous_typical ≡ start.kept.previous_typical
-  pub stands : StandsInRow (row_task shape at.carried.kept read.last.state (record { row = read.is_carried.third; above = read.last.above; second = read.last.second })) at.place (read.answers ++ since)
+  pub stands : StandsInRow (row_task shape at.carried.kept read.last.state (record { row = read.is_carried.third; above = read.last.above; second = read.last.second })) at.place
+      (read.answers ++ since)
       at.carried.held at.carried.learned at.decoder
 
 -- A row breaks, or its piece ends: the rows before it are all that the bytes fix.

@@ -39,7 +39,8 @@ EndsWhole is_all d piece n = (text out rest : List ℕ) → DecoderStands d text
 -- the bytes that were consumed at such an end
 abbrev pub EndsConsumed : Bool → PieceView → PieceView → List ℕ → List ℕ → ℕ → Type 0
 EndsConsumed is_all d d' piece piece' n =
-    (text out rest : List ℕ) → DecoderStands d text out → MayFollow is_all rest → (given : List ℕ) × (piece ≡ given ++ piece') × ConsumesImage (stream_of d) (waits_behind d') n (text ++ given) ((text ++ piece) ++ rest)
+    (text out rest : List ℕ) → DecoderStands d text out → MayFollow is_all rest → (given : List ℕ) × (piece ≡ given ++ piece') ×
+    ConsumesImage (stream_of d) (waits_behind d') n (text ++ given) ((text ++ piece) ++ rest)
 
 abbrev pub EndsBroken : Bool → PieceView → List ℕ → ℕ → Fault → Type 0
 EndsBroken is_all d piece height fault = (text out rest : List ℕ) → DecoderStands d text out → MayFollow is_all rest → HandsOut (stream_of d) ((text ++ piece) ++ rest) height fault out
@@ -60,7 +61,8 @@ pub record StepLeaves (is_all : Bool) (d d' : PieceView) (piece piece' : List �
   pub on : answer ≡ None → DecoderOn d d' piece piece' []
   pub row : answer ≡ Some outcome.Row → DecoderOn d d' piece piece' (row_held d')
   pub waits : answer ≡ Some outcome.Row → NoHeightBelow is_all d d' piece
-  pub more : answer ≡ Some outcome.More → (is_all ≡ false) × DecoderOn d d' piece piece' [] × (waits_behind d' ≡ false → EndsBroken true d piece d'.height Truncated) × (length piece' ≤ 7) × (waits_behind d' ≡ true → StaysOpen d d' piece)
+  pub more : answer ≡ Some outcome.More → (is_all ≡ false) × DecoderOn d d' piece piece' [] × (waits_behind d' ≡ false → EndsBroken true d piece d'.height Truncated) × (length piece' ≤ 7) ×
+      (waits_behind d' ≡ true → StaysOpen d d' piece)
   pub done : (n : ℕ) → answer ≡ Some (outcome.Done n) → (d'.height ≡ n) × EndsWhole is_all d piece n × EndsConsumed is_all d d' piece piece' n
   pub broken : (f : Fault) → answer ≡ Some (outcome.Broken f) → EndsBroken is_all d piece d'.height f
 

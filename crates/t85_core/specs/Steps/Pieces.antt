@@ -69,7 +69,8 @@ pub record HeadStands (image : SizedImage) (here : HeadPlace) (text out : List �
   pub text_is : text ≡ front ++ back
   pub stripes : StripesRead image.fields image.height (passage (Some front) (Some []) (Some []) (Some out)) here.entities (if before then 1 else 0) here.carried
   pub comments : ℕ
-  pub passed : HasPassed image.fields (record { height = image.height; entities = here.entities; given = before }) false (Some back) (Some []) (segments_so_far here.at (is_some here.at) here.given comments)
+  pub passed : HasPassed image.fields (record { height = image.height; entities = here.entities; given = before }) false (Some back) (Some [])
+      (segments_so_far here.at (is_some here.at) here.given comments)
   pub fewer : here.entities < stripe_count image.height image.fields.l0
 
 -- A place in a comment there, of which this many bytes are to come.

@@ -41,7 +41,8 @@ writer_of {W} {N} {G} b = record { reference = b.output.ghost_name; target = (G.
 -- The effect of a call on the writer behind a buffer: it is the same, has accepted no less, and has counted a failed write.
 abbrev pub WritesBehind : {T : Type 0} {W : Type 0} {N : ℕ} {G : device.Ghosts W} → OutputBuffer W N G → OutputBuffer W N G → Result T Fault → Type 0
 WritesBehind {T} {W} {N} {G} b b' result =
-    CountsWrite (G.view b.output.now).failures (G.view b'.output.now).failures result × (known_length (G.view b.output.now).contents ≤ known_length (G.view b'.output.now).contents) × (writer_of b' ≡ writer_of b)
+    CountsWrite (G.view b.output.now).failures (G.view b'.output.now).failures result × (known_length (G.view b.output.now).contents ≤ known_length (G.view b'.output.now).contents) ×
+    (writer_of b' ≡ writer_of b)
 
 -- a buffer as a target
 abbrev pub target_view : {W : Type 0} {N : ℕ} {G : device.Ghosts W} → OutputBuffer W N G → TargetView

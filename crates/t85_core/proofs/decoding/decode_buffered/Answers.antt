@@ -22,5 +22,6 @@ returns-clause-err g c = map_if_err c.finish.result (λ f told other. one_or_oth
 
 pub returns-clause-begun : goal.returns-clause-begun
 returns-clause-begun g c =
-    begun_handed _ _ _ _ _ _ _ (either_way c.decode_image-outcome.result (image_begun c.coder_laws.ensures (fields_of c.args.image.now.header) c.args.image.now.height (in_use c.args.image.now) _ _ _ _) c.decode_image-outcome.ensures.ok
+    begun_handed _ _ _ _ _ _ _ (either_way c.decode_image-outcome.result
+    (image_begun c.coder_laws.ensures (fields_of c.args.image.now.header) c.args.image.now.height (in_use c.args.image.now) _ _ _ _) c.decode_image-outcome.ensures.ok
     c.decode_image-outcome.ensures.unwritten) c.finish.ensures.text

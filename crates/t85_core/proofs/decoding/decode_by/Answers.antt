@@ -30,7 +30,8 @@ returns-clause-outcome g c =
     let after = prepend_known (held_of c.decode_buffered.new.stream.bytes c.decode_buffered.new.stream.at c.decode_buffered.new.stream.end) (g.R.Input.view input).remaining in
     let text_after = (g.W.Output.view output).contents in
     let known = known_unheld stream.bytes (g.R.Input.view stream.input.now).remaining c.new-stream.ensures.empty ∙ ap (λ m. (g.R.Input.view m.now).remaining) c.new-stream.ensures.lent in
-    let text = text_unheld buffer.bytes buffer.at buffer.end (g.W.Output.view buffer.output.now).contents c.new-buffer.ensures.empty ∙ ap (λ m. (g.W.Output.view m.now).contents) c.new-buffer.ensures.lent in
+    let text = text_unheld buffer.bytes buffer.at buffer.end (g.W.Output.view buffer.output.now).contents c.new-buffer.ensures.empty
+    ∙ ap (λ m. (g.W.Output.view m.now).contents) c.new-buffer.ensures.lent in
     let known_before = prepend_known (held_of stream.bytes stream.at stream.end) (g.R.Input.view stream.input.now).remaining in
     let text_before = (g.W.Output.view c.write_header.new.output).contents in
     let ok : OnOk r (ImageRead h height (passage (g.R.Input.view c.args.input.now).remaining after text_before text_after)) =
@@ -39,15 +40,21 @@ returns-clause-outcome g c =
     let err : IfErr r (λ f. f ≢ Write → ImageCut h height (passage (g.R.Input.view c.args.input.now).remaining after text_before text_after) f) =
     subst (λ z. IfErr r (λ f. f ≢ Write → ImageCut h height (passage z after text_before text_after) f)) known
     (subst (λ z. IfErr r (λ f. f ≢ Write → ImageCut h height (passage known_before after z text_after) f)) text c.decode_buffered.ensures.err) in
-    let reads : CountsBoth (g.R.Input.view c.args.input.now).failures (g.R.Input.view input).failures r = subst (λ z. CountsBoth z (g.R.Input.view input).failures r) (ap (λ m. (g.R.Input.view m.now).failures) c.new-stream.ensures.lent) c.decode_buffered.ensures.reads in
-    let writes : CountsWrite (g.W.Output.view c.args.output.now).failures (g.W.Output.view output).failures r = subst (λ z. CountsWrite z (g.W.Output.view output).failures r) (ap (λ m. (g.W.Output.view m.now).failures) c.new-buffer.ensures.lent ∙ c.in-Ok.ensures.failures) c.decode_buffered.ensures.writes.0 in
+    let reads : CountsBoth (g.R.Input.view c.args.input.now).failures (g.R.Input.view input).failures r =
+    subst (λ z. CountsBoth z (g.R.Input.view input).failures r) (ap (λ m. (g.R.Input.view m.now).failures) c.new-stream.ensures.lent) c.decode_buffered.ensures.reads in
+    let writes : CountsWrite (g.W.Output.view c.args.output.now).failures (g.W.Output.view output).failures r =
+    subst (λ z. CountsWrite z (g.W.Output.view output).failures r)
+    (ap (λ m. (g.W.Output.view m.now).failures) c.new-buffer.ensures.lent ∙ c.in-Ok.ensures.failures) c.decode_buffered.ensures.writes.0 in
     let out_held = held_of c.decode_buffered.new.buffer.bytes c.decode_buffered.new.buffer.at c.decode_buffered.new.buffer.end in
     let in_held = held_of c.decode_buffered.new.stream.bytes c.decode_buffered.new.stream.at c.decode_buffered.new.stream.end in
     let begun : ImageUnwritten h height (passage (g.R.Input.view c.args.input.now).remaining after text_before (append_known text_after out_held)) =
     subst (λ z. ImageUnwritten h height (passage z after text_before (append_known text_after out_held))) known
     (subst (λ z. ImageUnwritten h height (passage known_before after z (append_known text_after out_held))) text c.decode_buffered.ensures.begun) in
-    let grows : known_length text_before ≤ known_length text_after = subst (λ z. known_length z ≤ known_length text_after) (ap (λ m. (g.W.Output.view m.now).contents) c.new-buffer.ensures.lent) c.decode_buffered.ensures.writes.1 in
+    let grows : known_length text_before ≤ known_length text_after = subst (λ z. known_length z ≤ known_length text_after)
+    (ap (λ m. (g.W.Output.view m.now).contents) c.new-buffer.ensures.lent) c.decode_buffered.ensures.writes.1 in
     let done : Decode h height (between (g.R.Input.view c.args.input.now).remaining (g.R.Input.view input).remaining (g.R.Input.view c.args.input.now).failures (g.R.Input.view input).failures)
     (between (g.W.Output.view c.args.output.now).contents text_after (g.W.Output.view c.args.output.now).failures (g.W.Output.view output).failures) r =
-    decoded c.coder_laws.ensures h height (in_use c.args.image.now) _ _ _ _ c.in-Ok.ensures.whole in_held out_held after _ _ _ _ _ r ok err (λ read. c.decode_buffered.ensures.drained read) reads writes grows begun in
-    decodes_at (λ d. (g.R.Input.view d).remaining) (λ d. (g.R.Input.view d).failures) (λ d. (g.W.Output.view d).contents) (λ d. (g.W.Output.view d).failures) h height c.args.input.now c.args.output.now input _ output _ r (search rules) (search rules) done
+    decoded c.coder_laws.ensures h height (in_use c.args.image.now) _ _ _ _ c.in-Ok.ensures.whole in_held out_held after _ _ _ _ _ r ok err
+    (λ read. c.decode_buffered.ensures.drained read) reads writes grows begun in
+    decodes_at (λ d. (g.R.Input.view d).remaining) (λ d. (g.R.Input.view d).failures) (λ d. (g.W.Output.view d).contents)
+    (λ d. (g.W.Output.view d).failures) h height c.args.input.now c.args.output.now input _ output _ r (search rules) (search rules) done

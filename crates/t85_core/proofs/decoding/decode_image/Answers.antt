@@ -24,35 +24,44 @@ rows-init g c = record {
 }
 
 pub returns-in_err-count-clause-err : goal.returns-in_err-count-clause-err
-returns-in_err-count-clause-err g c = exit _ _ c.from_residual.ensures.1 (λ _. image_off (fields_of c.args.image.now.header) c.args.image.now.height (walk_lent c.rows.walk c.rows.lent) (walk_lent c.next_rows.new.walk c.next_rows.new.lent) _ _ _ _ _ _ c.rows.invariant.so_far _ c.in_err-count.ensures.turn.err)
+returns-in_err-count-clause-err g c = exit _ _ c.from_residual.ensures.1
+    (λ _. image_off (fields_of c.args.image.now.header) c.args.image.now.height (walk_lent c.rows.walk c.rows.lent)
+    (walk_lent c.next_rows.new.walk c.next_rows.new.lent) _ _ _ _ _ _ c.rows.invariant.so_far _ c.in_err-count.ensures.turn.err)
 
 pub returns-in_err-count-clause-unwritten : goal.returns-in_err-count-clause-unwritten
 returns-in_err-count-clause-unwritten g c =
     exit (λ _. ImageUnwritten _ _ (passage _ _ _ _)) _ c.from_residual.ensures.1
-    (image_off_begun (fields_of c.args.image.now.header) c.args.image.now.height (walk_lent c.rows.walk c.rows.lent) (walk_lent c.next_rows.new.walk c.next_rows.new.lent) _ _ _ _ _ _ c.rows.invariant.so_far _ c.in_err-count.ensures.turn.err)
+    (image_off_begun (fields_of c.args.image.now.header) c.args.image.now.height (walk_lent c.rows.walk c.rows.lent)
+    (walk_lent c.next_rows.new.walk c.next_rows.new.lent) _ _ _ _ _ _ c.rows.invariant.so_far _ c.in_err-count.ensures.turn.err)
 
 pub returns-in_err-count-clause-writes : goal.returns-in_err-count-clause-writes
 returns-in_err-count-clause-writes g c =
-    let none = image_off_unwritten (fields_of c.args.image.now.header) c.args.image.now.height (walk_lent c.rows.walk c.rows.lent) (walk_lent c.next_rows.new.walk c.next_rows.new.lent) _ _ _ _ _ _ c.rows.invariant.so_far _ c.in_err-count.ensures.turn.err in
-    exit_all (WritesOn _ _) c.from_residual.result c.from_residual.ensures.1 (record { counts = c.rows.invariant.unwritten ∙ sym (none _); grows = c.rows.invariant.grows; same_writer = c.rows.invariant.same_writer })
+    let none = image_off_unwritten (fields_of c.args.image.now.header) c.args.image.now.height (walk_lent c.rows.walk c.rows.lent)
+    (walk_lent c.next_rows.new.walk c.next_rows.new.lent) _ _ _ _ _ _ c.rows.invariant.so_far _ c.in_err-count.ensures.turn.err in
+    exit_all (WritesOn _ _) c.from_residual.result c.from_residual.ensures.1
+    (record { counts = c.rows.invariant.unwritten ∙ sym (none _); grows = c.rows.invariant.grows; same_writer = c.rows.invariant.same_writer })
 
 pub returns-then-count-eq0-clause-ok : goal.returns-then-count-eq0-clause-ok
 returns-then-count-eq0-clause-ok g c =
     let done = c.in_ok-count.ensures.turn.none c.if-count-eq0.true in
-    image_whole (fields_of c.args.image.now.header) c.args.image.now.height (walk_lent c.rows.walk c.rows.lent) (walk_lent c.next_rows.new.walk c.next_rows.new.lent) _ _ _ _ _ _ c.rows.invariant.so_far done.0 (over_done _ done.1)
+    image_whole (fields_of c.args.image.now.header) c.args.image.now.height (walk_lent c.rows.walk c.rows.lent)
+    (walk_lent c.next_rows.new.walk c.next_rows.new.lent) _ _ _ _ _ _ c.rows.invariant.so_far done.0 (over_done _ done.1)
 
 pub returns-in_err-put_copies-clause-unwritten : goal.returns-in_err-put_copies-clause-unwritten
 returns-in_err-put_copies-clause-unwritten g c =
     let some : 0 < c.in_ok-count.count = omega (arith, c.if-count-eq0.false) in
     exit (λ _. ImageUnwritten _ _ (passage _ _ _ _)) _ c.from_residual-in_err-put_copies.ensures.1
-    (image_rows_unset (fields_of c.args.image.now.header) c.args.image.now.height (walk_lent c.rows.walk c.rows.lent) (walk_lent c.next_rows.new.walk c.next_rows.new.lent) _ _ _ _ _ _ c.rows.invariant.so_far c.in_ok-count.count some
+    (image_rows_unset (fields_of c.args.image.now.header) c.args.image.now.height (walk_lent c.rows.walk c.rows.lent)
+    (walk_lent c.next_rows.new.walk c.next_rows.new.lent) _ _ _ _ _ _ c.rows.invariant.so_far c.in_ok-count.count some
     (in_use c.args.image.now) c.coder_laws.ensures (c.in_ok-count.ensures.turn.some some) _
-    (subst (λ z. AppendsBeginning (g.P.ByteTarget.view c.rows.target).text (g.P.ByteTarget.view c.put_copies.new.target).text (copies c.in_ok-count.count z)) c.row.ensures c.in_err-put_copies.ensures.cut))
+    (subst (λ z. AppendsBeginning (g.P.ByteTarget.view c.rows.target).text (g.P.ByteTarget.view c.put_copies.new.target).text
+    (copies c.in_ok-count.count z)) c.row.ensures c.in_err-put_copies.ensures.cut))
 
 pub overflow_add-row : goal.overflow_add-row
 overflow_add-row g c =
     let some : 0 < c.in_ok-count.count = omega (arith, c.if-count-eq0.false) in
-    let few = rows_few (fields_of c.args.image.now.header) c.args.image.now.height (walk_lent c.rows.walk c.rows.lent) (walk_lent c.next_rows.new.walk c.next_rows.new.lent) _ _ _ _ _ _ c.rows.invariant.so_far c.in_ok-count.count some
+    let few = rows_few (fields_of c.args.image.now.header) c.args.image.now.height (walk_lent c.rows.walk c.rows.lent)
+    (walk_lent c.next_rows.new.walk c.next_rows.new.lent) _ _ _ _ _ _ c.rows.invariant.so_far c.in_ok-count.count some
     (in_use c.args.image.now) c.coder_laws.ensures (c.in_ok-count.ensures.turn.some some) in
     let most = few_rows c.args.image.now in
     omega (arith, few, most)
@@ -60,7 +69,8 @@ overflow_add-row g c =
 pub rows-smaller : goal.rows-smaller
 rows-smaller g c =
     let some : 0 < c.in_ok-count.count = omega (arith, c.if-count-eq0.false) in
-    let few = rows_few (fields_of c.args.image.now.header) c.args.image.now.height (walk_lent c.rows.walk c.rows.lent) (walk_lent c.next_rows.new.walk c.next_rows.new.lent) _ _ _ _ _ _ c.rows.invariant.so_far c.in_ok-count.count some
+    let few = rows_few (fields_of c.args.image.now.header) c.args.image.now.height (walk_lent c.rows.walk c.rows.lent)
+    (walk_lent c.next_rows.new.walk c.next_rows.new.lent) _ _ _ _ _ _ c.rows.invariant.so_far c.in_ok-count.count some
     (in_use c.args.image.now) c.coder_laws.ensures (c.in_ok-count.ensures.turn.some some) in
     omega (arith, few, some)
 
@@ -69,7 +79,8 @@ rows-preserved g c =
     let some : 0 < c.in_ok-count.count = omega (arith, c.if-count-eq0.false) in
     let reads = c.in_ok-count.ensures.turn.reads (c.rows.invariant.so_far.bytes, c.rows.invariant.so_far.out, c.rows.invariant.so_far.stands) in
     record {
-      so_far = so_far_next (fields_of c.args.image.now.header) c.args.image.now.height (walk_lent c.rows.walk c.rows.lent) (walk_lent c.next_rows.new.walk c.next_rows.new.lent) _ _ _ _ _ _ c.rows.invariant.so_far c.in_ok-count.count some
+      so_far = so_far_next (fields_of c.args.image.now.header) c.args.image.now.height (walk_lent c.rows.walk c.rows.lent)
+          (walk_lent c.next_rows.new.walk c.next_rows.new.lent) _ _ _ _ _ _ c.rows.invariant.so_far c.in_ok-count.count some
           (in_use c.args.image.now) c.coder_laws.ensures (c.in_ok-count.ensures.turn.some some) _
           (subst (λ z. Appends (g.P.ByteTarget.view c.rows.target).text (g.P.ByteTarget.view c.put_copies.new.target).text (copies c.in_ok-count.count z)) c.row.ensures c.in_ok-put_copies.ensures.ok);
       unfailed = reads.counts ∙ c.rows.invariant.unfailed;

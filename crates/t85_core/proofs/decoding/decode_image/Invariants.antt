@@ -8,7 +8,8 @@ use Rattle.t85_core.proofs.decoding.decode_image.Given as goal
 
 abbrev pub invariant-rows : goal.invariant-rows
 invariant-rows g l = record {
-  so_far : ImageSoFar (sized (fields_of l.image.header) l.image.height) (walk_lent l.walk l.lent) (passage (g.S.HeldSource.view l.fn.stream).known (g.S.HeldSource.view l.stream).known (g.P.ByteTarget.view l.fn.target).text (g.P.ByteTarget.view l.target).text) l.row;
+  so_far : ImageSoFar (sized (fields_of l.image.header) l.image.height) (walk_lent l.walk l.lent)
+      (passage (g.S.HeldSource.view l.fn.stream).known (g.S.HeldSource.view l.stream).known (g.P.ByteTarget.view l.fn.target).text (g.P.ByteTarget.view l.target).text) l.row;
   unfailed : (g.S.HeldSource.view l.stream).failures ≡ (g.S.HeldSource.view l.fn.stream).failures;
   unwritten : (g.P.ByteTarget.view l.target).failures ≡ (g.P.ByteTarget.view l.fn.target).failures;
   grows : (g.P.ByteTarget.view l.fn.target).written ≤ (g.P.ByteTarget.view l.target).written;

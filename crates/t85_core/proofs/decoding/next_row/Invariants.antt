@@ -7,7 +7,8 @@ use Rattle.t85_core.proofs.decoding.next_row.Given as goal
 
 abbrev pub invariant-turns : goal.invariant-turns
 invariant-turns g l = record {
-  on : ReadsWalk (sized (fields_of l.image.header) l.image.height) (walk_lent l.fn.walk l.fn.lent) (walk_lent l.walk l.lent) (g.S.HeldSource.view l.fn.stream).known (g.S.HeldSource.view l.stream).known [];
+  on : ReadsWalk (sized (fields_of l.image.header) l.image.height) (walk_lent l.fn.walk l.fn.lent) (walk_lent l.walk l.lent) (g.S.HeldSource.view l.fn.stream).known
+      (g.S.HeldSource.view l.stream).known [];
   unfailed : (g.S.HeldSource.view l.stream).failures ≡ (g.S.HeldSource.view l.fn.stream).failures;
   same_source : (g.S.HeldSource.view l.stream).source ≡ (g.S.HeldSource.view l.fn.stream).source;
 }

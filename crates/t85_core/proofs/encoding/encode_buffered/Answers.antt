@@ -15,5 +15,6 @@ returns-clause-short g c = λ fault is. one_or_other (λ write. absurd (let both
 
 pub returns-clause-begun : goal.returns-clause-begun
 returns-clause-begun g c =
-    front_handed _ _ _ _ _ _ _ _ (front_of _ _ _ _ _ _ _ c.args.size.some_width c.encode_image-outcome.result c.encode_image-outcome.ensures.ok c.encode_image-outcome.ensures.unwritten c.encode_image-outcome.ensures.among
+    front_handed _ _ _ _ _ _ _ _ (front_of _ _ _ _ _ _ _ c.args.size.some_width c.encode_image-outcome.result c.encode_image-outcome.ensures.ok c.encode_image-outcome.ensures.unwritten
+    c.encode_image-outcome.ensures.among
     c.encode_image-outcome.ensures.short) c.finish.ensures.text

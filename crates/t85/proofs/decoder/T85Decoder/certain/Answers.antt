@@ -6,7 +6,8 @@ use Rattle.t85.proofs.DecoderHeader.{not_some}
 use Rattle.t85.proofs.decoder.T85Decoder.certain.Goals as goal
 
 pub returns-in-Err-clause-certain : goal.returns-in-Err-clause-certain
-returns-in-Err-clause-certain c = λ window stream out k. absurd (not_some _ (sym (c.headers.ensures.not_refused c.args.self.now.header (fields_of k.decoder.image.header) k.header_of) ∙ c.in-Err.ensures.refused))
+returns-in-Err-clause-certain c = λ window stream out k. absurd (not_some _ (sym (c.headers.ensures.not_refused c.args.self.now.header (fields_of k.decoder.image.header) k.header_of)
+    ∙ c.in-Err.ensures.refused))
 
 pub returns-in-Some-clause-certain : goal.returns-in-Some-clause-certain
 returns-in-Some-clause-certain c =
@@ -20,4 +21,5 @@ returns-in-Some-clause-not_begun c = λ no.
     (λ rows. one_resumed c.args.self.now c.in-Ok.header c.in-Some.decoder (search rules) c.in-Ok.ensures.accepted is.0 is.2 is.3) no)
 
 pub returns-in-None-clause-certain : goal.returns-in-None-clause-certain
-returns-in-None-clause-certain c = λ window stream out k. absurd (none_resumed c.headers.ensures (hold_of c.args.self.now window) c.in-Ok.header c.in-Ok.ensures.accepted (λ d rows learned text out has header numbers. c.in-None.ensures.resumes d rows learned text out has header numbers) k)
+returns-in-None-clause-certain c = λ window stream out k. absurd (none_resumed c.headers.ensures (hold_of c.args.self.now window) c.in-Ok.header c.in-Ok.ensures.accepted
+    (λ d rows learned text out has header numbers. c.in-None.ensures.resumes d rows learned text out has header numbers) k)

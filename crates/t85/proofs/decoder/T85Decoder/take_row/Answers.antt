@@ -11,8 +11,10 @@ use Rattle.t85.proofs.decoder.T85Decoder.take_row.Goals as goal
 -- the certain rows, if the stream goes on
 certain : (c : goal.After-limited_answer) → end_in c.feed-progress.result.outcome ≡ None → TellsCertain c.hold.new.self c.certain-certain.result
 certain c going =
-    decoder_certain c.headers.ensures c.hold.new.self c.args.header.now c.feed-progress.new.self c.certain-certain.result (rw (c.hold.ensures.same.header, c.keep.ensures.same.header) c.requires.may.header_of)
-    (c.feed-progress.ensures.feed.fed.same ∙ ap fields_of c.requires.header) (rw c.hold.ensures.numbers c.keep.ensures.numbers) (c.certain-certain.ensures.certain (c.feed-progress.ensures.feed.fed.ended ∙ going))
+    decoder_certain c.headers.ensures c.hold.new.self c.args.header.now c.feed-progress.new.self c.certain-certain.result
+    (rw (c.hold.ensures.same.header, c.keep.ensures.same.header) c.requires.may.header_of)
+    (c.feed-progress.ensures.feed.fed.same ∙ ap fields_of c.requires.header) (rw c.hold.ensures.numbers c.keep.ensures.numbers)
+    (c.certain-certain.ensures.certain (c.feed-progress.ensures.feed.fed.ended ∙ going))
 
 pub returns-clause-answers : goal.returns-clause-answers
 returns-clause-answers c =

@@ -54,7 +54,8 @@ returns-clause-answers c =
     window_cut c.headers.ensures c.args.self.now c.take_row.new.self c.args.window.now c.take_row.new.memory _ c.window_bytes-needed.result c.in-Ok.header
     c.in-Ok.ensures.accepted rows.same_header c.window_bytes-needed.ensures (search rules) _ c.take_row.result.answer rows.engine
     (answers_from (hold_of c.args.self.now (take c.window_bytes-needed.result c.args.window.now)) (hold_of c.args.self.now (take c.window_bytes-needed.result c.args.window.now)) _ _ _
-    (λ stream out h. rows_resumed c.headers.ensures c.in-Ok.ensures.accepted (search rules) c.in-Some.ensures.resumes stream out (counted (hold_of c.args.self.now (take c.window_bytes-needed.result c.args.window.now)) stream out next h))
+    (λ stream out h. rows_resumed c.headers.ensures c.in-Ok.ensures.accepted (search rules) c.in-Some.ensures.resumes stream out
+    (counted (hold_of c.args.self.now (take c.window_bytes-needed.result c.args.window.now)) stream out next h))
     rows.engine rows.answers)
 
 pub returns-clause-short : goal.returns-clause-short

@@ -19,5 +19,6 @@ returns-clause-gives c = λ limit below some.
       code = code;
       entities = leaves.place.entities;
       below = omega (arith, next, below);
-      on = row_given d _ refl refl code (record { header = refl; height = refl; is_open = refl; waits = refl; behind = refl; going = refl }) c.next_row.new.piece.rest.now c.next_row.result step leaves;
+      on = row_given d _ refl refl code (record { header = refl; height = refl; is_open = refl; waits = refl; behind = refl; going = refl }) c.next_row.new.piece.rest.now c.next_row.result step
+          leaves;
     }

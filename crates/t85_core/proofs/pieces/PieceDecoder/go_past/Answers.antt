@@ -39,7 +39,8 @@ returns-then-behind-min-clause-leaves c =
     (λ last. leaves_look d d' refl refl c.min.result gives p c.args.is_all last (λ back rest s follows. by_next c.args.next c.requires.code c.requires.fault
     (λ t k. look_code refl s t.0 p t.1.now rest k.0 k.2)
     (λ f k. look_fault refl s p rest f (own_height c.args.self.now.image.header).accepted.height_to (some.2.height.variable refl)
-    (subst (λ l. StopsBehind (fields_of c.args.self.now.image.header) (behind_at (place_after c.args.self.now c.args.behind) l) c.args.behind.head p f) last k.1) (λ t. follows (k.0 t)))) (omega (arith, least)))
+    (subst (λ l. StopsBehind (fields_of c.args.self.now.image.header) (behind_at (place_after c.args.self.now c.args.behind) l) c.args.behind.head p f) last k.1) (λ t. follows (k.0 t))))
+    (omega (arith, least)))
     (λ more. by_next c.args.next c.requires.code c.requires.fault
     (λ t k. leaves_code d d' refl refl c.min.result gives t.0 p t.1.now k.0 more k.1 k.2 (omega (arith, least)) c.args.is_all)
     (λ f k. leaves_fault d d' refl refl c.min.result gives f p more
@@ -53,7 +54,8 @@ returns-then-not-follows-clause-leaves c =
     let code = in_code_of c.args.behind.code.begun in
     let few = (c.end_stripe-follows.ensures.counts.last c.if-not-follows.true).0 in
     let last = last_in (code_kind c.args.behind.code.begun) c.args.self.now.course.left c.args.self.now.image.header.l0 code few in
-    let all : min c.args.self.now.course.left c.args.self.now.image.header.l0 ≤ c.args.behind.code.row = (let least = c.min.ensures in let given = c.if-behind-min.false in omega (arith, least, given)) in
+    let all : min c.args.self.now.course.left c.args.self.now.image.header.l0 ≤ c.args.behind.code.row =
+    (let least = c.min.ensures in let given = c.if-behind-min.false in omega (arith, least, given)) in
     let there = stage_lent c.end_stripe-follows.new.self (stage_behind c.end_stripe-follows.result) c.end_stripe-follows.new.lent in
     let ends = at_first (λ image. EndsAtMarker image c.resets-reset.result d.walk there) c.requires.open (c.end_stripe-follows.ensures.ends c.args.behind.code) in
     done_where c.args.is_all d _ p p refl refl c.args.self.now.image.height refl (λ some.
@@ -65,7 +67,8 @@ returns-then-not-follows-clause-leaves c =
     let height = sym (own_first d refl some) in
     leaves_done c.args.is_all d _ p p _ refl refl refl
     (subst (EndsWhole c.args.is_all d p) height (look_whole d (record d { walk = there }) p c.args.is_all c.coder_laws.ensures refl refl last over e))
-    (subst (EndsConsumed c.args.is_all d (record d { waits = false }) p p) height (look_consumed d (record d { walk = there }) p c.args.is_all c.coder_laws.ensures refl refl last over e (record d { waits = false }) refl)))
+    (subst (EndsConsumed c.args.is_all d (record d { waits = false }) p p) height
+    (look_consumed d (record d { walk = there }) p c.args.is_all c.coder_laws.ensures refl refl last over e (record d { waits = false }) refl)))
 
 pub returns-in-Ok-clause-leaves : goal.returns-in-Ok-clause-leaves
 returns-in-Ok-clause-leaves c =
@@ -74,7 +77,8 @@ returns-in-Ok-clause-leaves c =
     let k = rw c.in-Ok.is at c.requires.code in
     let code = in_code_of c.args.behind.code.begun in
     let wide = (c.end_stripe-follows.ensures.counts.more c.if-not-follows.false).0 in
-    let all : min c.args.self.now.course.left c.args.self.now.image.header.l0 ≤ c.args.behind.code.row = (let least = c.min.ensures in let given = c.if-behind-min.false in omega (arith, least, given)) in
+    let all : min c.args.self.now.course.left c.args.self.now.image.header.l0 ≤ c.args.behind.code.row =
+    (let least = c.min.ensures in let given = c.if-behind-min.false in omega (arith, least, given)) in
     let ended = stage_lent c.end_stripe-follows.new.self (stage_behind c.end_stripe-follows.result) c.end_stripe-follows.new.lent in
     let ends = at_first (λ image. EndsAtMarker image c.resets-reset.result d.walk ended) c.requires.open (c.end_stripe-follows.ensures.ends c.args.behind.code) in
     on_where c.args.is_all d _ p c.in-Ok.rest.now refl refl (λ some.
@@ -90,7 +94,8 @@ returns-in-Err-clause-leaves c =
     let k = rw c.in-Err.is at c.requires.fault in
     let code = in_code_of c.args.behind.code.begun in
     let wide = (c.end_stripe-follows.ensures.counts.more c.if-not-follows.false).0 in
-    let all : min c.args.self.now.course.left c.args.self.now.image.header.l0 ≤ c.args.behind.code.row = (let least = c.min.ensures in let given = c.if-behind-min.false in omega (arith, least, given)) in
+    let all : min c.args.self.now.course.left c.args.self.now.image.header.l0 ≤ c.args.behind.code.row =
+    (let least = c.min.ensures in let given = c.if-behind-min.false in omega (arith, least, given)) in
     let more = not_last_in (code_kind c.args.behind.code.begun) c.args.self.now.course.left c.args.self.now.image.header.l0 code wide in
     let ended = stage_lent c.end_stripe-follows.new.self (stage_behind c.end_stripe-follows.result) c.end_stripe-follows.new.lent in
     let ends = at_first (λ image. EndsAtMarker image c.resets-reset.result d.walk ended) c.requires.open (c.end_stripe-follows.ensures.ends c.args.behind.code) in

@@ -6,4 +6,5 @@ use Rattle.t85_core.proofs.Decodings.PieceStood.{in_code_entities}
 use Rattle.t85_core.proofs.pieces.PieceDecoder.place_behind.Goals as goal
 
 pub returns : goal.returns
-returns c = λ behind. c.place_of.ensures ∙ ap (place_at c.args.self.now.image.header.yd) (sym (in_code_entities (code_kind behind.code.begun) c.args.self.now.course.entities (in_code_of behind.code.begun)))
+returns c = λ behind. c.place_of.ensures ∙ ap (place_at c.args.self.now.image.header.yd)
+    (sym (in_code_entities (code_kind behind.code.begun) c.args.self.now.course.entities (in_code_of behind.code.begun)))

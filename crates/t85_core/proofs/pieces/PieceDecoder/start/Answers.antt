@@ -15,4 +15,10 @@ returns-clause-none c =
     let none = ap phase_behind phase ∙ first_none _ in
     let at = ap phase_stage phase ∙ first_stage _ in
     rw (window, learned)
-    record { going = refl; stands = started _ (ap phase_is_open phase ∙ first_open _) (ap phase_waits phase ∙ first_waits _ ∙ sym (ap phase_is_open phase)) refl (subst (λ s. IsFirstWalk (stage_lent c.start.result s c.start.new.lent)) (sym at) c.start.ensures.first) (subst (λ s. WalkStands (sized (fields_of c.args.header) c.args.header.yd) (stage_lent c.start.result s c.start.new.lent) [] []) (sym at) c.start.ensures.stands) (ap (λ b. b.at) none) (ap (λ b. b.comment) none) }
+    record {
+      going = refl;
+      stands = started _ (ap phase_is_open phase ∙ first_open _) (ap phase_waits phase ∙ first_waits _ ∙ sym (ap phase_is_open phase)) refl
+          (subst (λ s. IsFirstWalk (stage_lent c.start.result s c.start.new.lent)) (sym at) c.start.ensures.first)
+          (subst (λ s. WalkStands (sized (fields_of c.args.header) c.args.header.yd) (stage_lent c.start.result s c.start.new.lent) [] []) (sym at) c.start.ensures.stands) (ap (λ b. b.at) none)
+          (ap (λ b. b.comment) none);
+    }

@@ -23,7 +23,8 @@ returns-in-Ok-true-clause-leaves c =
     let p = c.args.piece.now.rest.now in
     let p' = c.next.new.piece.rest.now in
     leaves_of (ap (λ z. phase_lent c.args.self.now z c.args.lent.now) (sym c.in-Known.is))
-    (leaves_row c.args.is_all d _ p p' refl refl (turn_on d refl _ p p' _ (record { header = refl; height = refl; is_open = refl; waits = refl; behind = refl; going = refl }) (c.in-Ok-true.ensures.step.row (ap Ok c.in-Ok-true.field-0-test))) (λ late. absurd (true≢false (sym late))))
+    (leaves_row c.args.is_all d _ p p' refl refl (turn_on d refl _ p p' _ (record { header = refl; height = refl; is_open = refl; waits = refl; behind = refl; going = refl })
+    (c.in-Ok-true.ensures.step.row (ap Ok c.in-Ok-true.field-0-test))) (λ late. absurd (true≢false (sym late))))
 
 pub returns-in-Ok-false-clause-leaves : goal.returns-in-Ok-false-clause-leaves
 returns-in-Ok-false-clause-leaves c =
@@ -44,7 +45,8 @@ returns-in-Err-clause-leaves c =
     leaves_of (ap (λ z. phase_lent c.args.self.now z c.args.lent.now) (sym c.in-Known.is))
     (leaves_stop c.args.is_all d _ p p' c.in-Err.fault c.outcome_of.result
     (record { more = c.outcome_of.ensures.more; broken = c.outcome_of.ensures.broken; row = c.outcome_of.ensures.row; done = c.outcome_of.ensures.done }) refl refl refl
-    (λ e. let m = c.in-Err.ensures.step.more (ap Err e) in (turn_on d refl _ p p' [] (record { header = refl; height = refl; is_open = refl; waits = refl; behind = refl; going = refl }) m.0, m.1)) (turn_broken d refl p c.in-Err.fault c.in-Err.ensures.step.err))
+    (λ e. let m = c.in-Err.ensures.step.more (ap Err e) in (turn_on d refl _ p p' [] (record { header = refl; height = refl; is_open = refl; waits = refl; behind = refl; going = refl }) m.0, m.1))
+    (turn_broken d refl p c.in-Err.fault c.in-Err.ensures.step.err))
 
 -- ---- before the first stripe
 
@@ -73,7 +75,8 @@ returns-then-is_some-clause-leaves c =
     (leaves_on c.args.is_all d _ p p refl refl
     (on_none d _ p (λ text out s.
     let w = code_of d text out refl refl s in
-    put_waits _ text out refl refl (known_open refl s.height) (waits_first (fields_of c.args.self.now.image.header) d.walk head_start text out w.walk (inr (w.in_code, marked)) w.ungiven (λ _. w.in_time marked) refl refl)))))
+    put_waits _ text out refl refl (known_open refl s.height) (waits_first (fields_of c.args.self.now.image.header) d.walk head_start text out w.walk (inr (w.in_code, marked)) w.ungiven
+    (λ _. w.in_time marked) refl refl)))))
 
 pub returns-in-Ok-true-row_before_marker-clause-leaves : goal.returns-in-Ok-true-row_before_marker-clause-leaves
 returns-in-Ok-true-row_before_marker-clause-leaves c =
@@ -83,7 +86,9 @@ returns-in-Ok-true-row_before_marker-clause-leaves c =
     let p' = c.row_before_marker.new.piece.rest.now in
     let new = code_lent c.row_before_marker.new.course c.row_before_marker.new.self c.row_before_marker.new.lent in
     let unread = c.end_marker.ensures.none (none_of_some c.end_marker.result (search rules)) in
-    let goes = at_first (λ image. CodeGoes image d.walk new p p' (Ok true)) (old.first (ap phase_looks c.in-Code.is)) (subst (λ b. CodeGoes (sized (fields_of old.image.header) old.image.height) d.walk new p p' (Ok b)) c.in-Ok-true-row_before_marker.field-0-test (c.in-Ok-true-row_before_marker.ensures.goes unread)) in
+    let goes = at_first (λ image. CodeGoes image d.walk new p p' (Ok true)) (old.first (ap phase_looks c.in-Code.is))
+    (subst (λ b. CodeGoes (sized (fields_of old.image.header) old.image.height) d.walk new p p' (Ok b)) c.in-Ok-true-row_before_marker.field-0-test
+    (c.in-Ok-true-row_before_marker.ensures.goes unread)) in
     leaves_of (ap (λ z. phase_lent old z c.args.lent.now) (sym c.in-Code.is))
     (leaves_row c.args.is_all d _ p p' refl refl
     (λ text out s.
@@ -105,7 +110,9 @@ returns-in-Ok-false-row_before_marker-clause-leaves c =
     let p' = c.row_before_marker.new.piece.rest.now in
     let new = code_lent c.row_before_marker.new.course c.row_before_marker.new.self c.row_before_marker.new.lent in
     let unread = c.end_marker.ensures.none (none_of_some c.end_marker.result (search rules)) in
-    let goes = at_first (λ image. CodeGoes image d.walk new p p' (Ok false)) (old.first (ap phase_looks c.in-Code.is)) (subst (λ b. CodeGoes (sized (fields_of old.image.header) old.image.height) d.walk new p p' (Ok b)) c.in-Ok-false-row_before_marker.field-0-test (c.in-Ok-false-row_before_marker.ensures.goes unread)) in
+    let goes = at_first (λ image. CodeGoes image d.walk new p p' (Ok false)) (old.first (ap phase_looks c.in-Code.is))
+    (subst (λ b. CodeGoes (sized (fields_of old.image.header) old.image.height) d.walk new p p' (Ok b)) c.in-Ok-false-row_before_marker.field-0-test
+    (c.in-Ok-false-row_before_marker.ensures.goes unread)) in
     leaves_of (ap (λ z. phase_lent old z c.args.lent.now) (sym c.in-Code.is))
     (rw c.start-in-Ok-false-row_before_marker.ensures
     (leaves_on c.args.is_all d _ p p' refl refl (λ text out s.
@@ -117,7 +124,8 @@ returns-in-Ok-false-row_before_marker-clause-leaves c =
       k.0,
       k.1,
       put_waits _ _ _ refl refl (known_open refl (known_more (fields_of old.image.header) old.image.height true text k.0 s.height))
-          (waits_first (fields_of old.image.header) new head_start _ _ k.2 (inr (l.code, l.marker refl)) (l.place.given ∙ w.ungiven) (λ _. in_time_more [] (subst (λ z. MarkerAfterRows (sized (fields_of old.image.header) old.image.header.yd) (text ++ z) out) same e.2)) refl refl),
+          (waits_first (fields_of old.image.header) new head_start _ _ k.2 (inr (l.code, l.marker refl)) (l.place.given ∙ w.ungiven)
+          (λ _. in_time_more [] (subst (λ z. MarkerAfterRows (sized (fields_of old.image.header) old.image.header.yd) (text ++ z) out) same e.2)) refl refl),
     ))))
 
 pub returns-in-Err-row_before_marker-clause-leaves : goal.returns-in-Err-row_before_marker-clause-leaves
@@ -129,7 +137,8 @@ returns-in-Err-row_before_marker-clause-leaves c =
     let fault = c.in-Err-row_before_marker.fault in
     let outcome = c.outcome_of-in-Err-row_before_marker in
     let new = code_lent c.row_before_marker.new.course c.row_before_marker.new.self c.row_before_marker.new.lent in
-    let goes = at_first (λ image. CodeGoes image d.walk new p p' (Err fault)) (old.first (ap phase_looks c.in-Code.is)) (c.in-Err-row_before_marker.ensures.goes (c.end_marker.ensures.none (none_of_some c.end_marker.result (search rules)))) in
+    let goes = at_first (λ image. CodeGoes image d.walk new p p' (Err fault)) (old.first (ap phase_looks c.in-Code.is))
+    (c.in-Err-row_before_marker.ensures.goes (c.end_marker.ensures.none (none_of_some c.end_marker.result (search rules)))) in
     leaves_of (ap (λ z. phase_lent old z c.args.lent.now) (sym c.in-Code.is))
     (leaves_stop c.args.is_all d _ p p' fault outcome.result
     (record { more = outcome.ensures.more; broken = outcome.ensures.broken; row = outcome.ensures.row; done = outcome.ensures.done }) refl refl refl

@@ -30,28 +30,35 @@ enters : (d : PieceDecoder) (head : Head) (rows : Held) (learned : List Estimate
 enters d head rows learned some =
     let here = at_first d head rows learned in
     let keeps : KeepsDecoder here here = record { header = refl; height = refl; is_open = refl; waits = refl; behind = refl; going = refl } in
-    entered here here (in_head d head rows learned) (closed_none here here refl refl some (not_head _ refl) keeps refl) (record { header = refl; height = refl; is_open = refl; waits = refl; behind = refl; going = refl }) refl refl
+    entered here here (in_head d head rows learned) (closed_none here here refl refl some (not_head _ refl) keeps refl)
+    (record { header = refl; height = refl; is_open = refl; waits = refl; behind = refl; going = refl }) refl refl
 
 pub returns-then-is_open_end-clause-leaves : goal.returns-then-is_open_end-clause-leaves
 returns-then-is_open_end-clause-leaves c = λ rows learned.
     let d = at_first c.args.self.now c.args.head rows learned in
     let here = at_first c.args.self.now c.pass.new.self rows learned in
     let ended = (c.is_open_end.ensures.yes (search rules)).0 in
-    let stops = subst (λ z. StopsBehind (fields_of c.args.self.now.image.header) (behind_at z false) c.pass.new.self c.pass.new.piece.rest.now Truncated) c.place_of.ensures (subst (StopsBehind (fields_of c.args.self.now.image.header) (behind_at c.place_of.result false) c.pass.new.self c.pass.new.piece.rest.now) ended c.in-Err.ensures.err) in
+    let stops = subst (λ z. StopsBehind (fields_of c.args.self.now.image.header) (behind_at z false) c.pass.new.self c.pass.new.piece.rest.now Truncated) c.place_of.ensures
+    (subst (StopsBehind (fields_of c.args.self.now.image.header) (behind_at c.place_of.result false) c.pass.new.self c.pass.new.piece.rest.now) ended c.in-Err.ensures.err) in
     leaves_after c.args.is_all d here here c.args.piece.now.rest.now c.pass.new.piece.rest.now c.pass.new.piece.rest.now refl refl
-    (passed_behind d here c.args.head c.pass.new.self c.args.piece.now.rest.now c.pass.new.piece.rest.now _ false refl refl refl refl refl refl refl refl refl c.place_of.ensures refl (c.pass.ensures.on c.place_of.result.given)) (Some outcome.More)
-    (leaves_more c.args.is_all here here c.pass.new.piece.rest.now c.pass.new.piece.rest.now refl refl (c.is_open_end.ensures.yes (search rules)).1 refl refl (on_none here here c.pass.new.piece.rest.now (λ text out s. s)) (c.in-Err.ensures.err.few ended) (still_open here c.pass.new.piece.rest.now refl refl stops))
+    (passed_behind d here c.args.head c.pass.new.self c.args.piece.now.rest.now c.pass.new.piece.rest.now _ false refl refl refl refl refl refl refl refl refl c.place_of.ensures refl
+    (c.pass.ensures.on c.place_of.result.given)) (Some outcome.More)
+    (leaves_more c.args.is_all here here c.pass.new.piece.rest.now c.pass.new.piece.rest.now refl refl (c.is_open_end.ensures.yes (search rules)).1 refl refl
+    (on_none here here c.pass.new.piece.rest.now (λ text out s. s)) (c.in-Err.ensures.err.few ended) (still_open here c.pass.new.piece.rest.now refl refl stops))
 
 pub returns-else-is_open_end-clause-leaves : goal.returns-else-is_open_end-clause-leaves
 returns-else-is_open_end-clause-leaves c = λ rows learned.
     let d = at_first c.args.self.now c.args.head rows learned in
     let here = at_first c.args.self.now c.pass.new.self rows learned in
-    let stops = subst (λ z. StopsBehind (fields_of c.args.self.now.image.header) (behind_at z false) c.pass.new.self c.pass.new.piece.rest.now c.in-Err.fault) c.place_of.ensures c.in-Err.ensures.err in
+    let stops = subst (λ z. StopsBehind (fields_of c.args.self.now.image.header)
+    (behind_at z false) c.pass.new.self c.pass.new.piece.rest.now c.in-Err.fault) c.place_of.ensures c.in-Err.ensures.err in
     leaves_after c.args.is_all d here here c.args.piece.now.rest.now c.pass.new.piece.rest.now c.pass.new.piece.rest.now refl refl
-    (passed_behind d here c.args.head c.pass.new.self c.args.piece.now.rest.now c.pass.new.piece.rest.now _ false refl refl refl refl refl refl refl refl refl c.place_of.ensures refl (c.pass.ensures.on c.place_of.result.given)) (Some (outcome.Broken c.in-Err.fault))
+    (passed_behind d here c.args.head c.pass.new.self c.args.piece.now.rest.now c.pass.new.piece.rest.now _ false refl refl refl refl refl refl refl refl refl c.place_of.ensures refl
+    (c.pass.ensures.on c.place_of.result.given)) (Some (outcome.Broken c.in-Err.fault))
     (broken_where c.args.is_all here here c.pass.new.piece.rest.now c.pass.new.piece.rest.now refl refl c.in-Err.fault (λ some.
     leaves_broken c.args.is_all here here c.pass.new.piece.rest.now c.pass.new.piece.rest.now c.in-Err.fault refl refl
-    (behind_broken here (in_head c.args.self.now c.pass.new.self rows learned) c.coder_laws.ensures refl refl (enters c.args.self.now c.pass.new.self rows learned some) c.pass.new.piece.rest.now c.in-Err.fault stops c.args.is_all (c.is_open_end.ensures.no (search rules)))))
+    (behind_broken here (in_head c.args.self.now c.pass.new.self rows learned) c.coder_laws.ensures refl refl
+    (enters c.args.self.now c.pass.new.self rows learned some) c.pass.new.piece.rest.now c.in-Err.fault stops c.args.is_all (c.is_open_end.ensures.no (search rules)))))
 
 pub returns-in-Height-clause-leaves : goal.returns-in-Height-clause-leaves
 returns-in-Height-clause-leaves c = λ rows learned.
@@ -69,12 +76,15 @@ returns-in-Height-clause-leaves c = λ rows learned.
     let nothing : 0 * old.image.header.l0 ≡ 0 = omega arith in
     let some_rows = k.1.1 in
     let within = k.1.2 in
-    let left : c.in-Height.height ≡ old.course.left - (old.image.header.yd - c.in-Height.height) = (let counts = old.counts in let first = c.requires.open in omega (arith, none, nothing, counts, first, within)) in
+    let left : c.in-Height.height ≡ old.course.left - (old.image.header.yd - c.in-Height.height) =
+    (let counts = old.counts in let first = c.requires.open in omega (arith, none, nothing, counts, first, within)) in
     leaves_after c.args.is_all d here _ c.args.piece.now.rest.now c.pass.new.piece.rest.now c.in-Ok.coming.rest.now refl refl
-    (passed_behind d here c.args.head c.pass.new.self c.args.piece.now.rest.now c.pass.new.piece.rest.now _ false refl refl refl refl refl refl refl refl refl c.place_of.ensures refl (c.pass.ensures.on c.place_of.result.given)) _
+    (passed_behind d here c.args.head c.pass.new.self c.args.piece.now.rest.now c.pass.new.piece.rest.now _ false refl refl refl refl refl refl refl refl refl c.place_of.ensures refl
+    (c.pass.ensures.on c.place_of.result.given)) _
     (on_where c.args.is_all here _ c.pass.new.piece.rest.now c.in-Ok.coming.rest.now refl refl (λ some.
     leaves_on c.args.is_all here _ c.pass.new.piece.rest.now c.in-Ok.coming.rest.now refl refl
-    (raised_on here (in_head c.args.self.now c.pass.new.self rows learned) _ c.in-Height.height c.pass.new.piece.rest.now c.in-Ok.coming.rest.now refl refl (enters c.args.self.now c.pass.new.self rows learned some) came.0 comes (omega (arith, none, nothing, some_rows))
+    (raised_on here (in_head c.args.self.now c.pass.new.self rows learned) _ c.in-Height.height c.pass.new.piece.rest.now c.in-Ok.coming.rest.now refl refl
+    (enters c.args.self.now c.pass.new.self rows learned some) came.0 comes (omega (arith, none, nothing, some_rows))
     refl refl refl (ap (λ m. record (in_head old c.pass.new.self rows learned).walk { left = m; given = true }) left))))
 
 pub returns-in-Code-clause-leaves : goal.returns-in-Code-clause-leaves
@@ -84,8 +94,10 @@ returns-in-Code-clause-leaves c = λ rows learned.
     let came = c.in-Ok.ensures.ok in
     let k = rw c.in-Code.is at came.1 in
     leaves_after c.args.is_all d here _ c.args.piece.now.rest.now c.pass.new.piece.rest.now c.in-Ok.coming.rest.now refl refl
-    (passed_behind d here c.args.head c.pass.new.self c.args.piece.now.rest.now c.pass.new.piece.rest.now _ false refl refl refl refl refl refl refl refl refl c.place_of.ensures refl (c.pass.ensures.on c.place_of.result.given)) _
+    (passed_behind d here c.args.head c.pass.new.self c.args.piece.now.rest.now c.pass.new.piece.rest.now _ false refl refl refl refl refl refl refl refl refl c.place_of.ensures refl
+    (c.pass.ensures.on c.place_of.result.given)) _
     (on_where c.args.is_all here _ c.pass.new.piece.rest.now c.in-Ok.coming.rest.now refl refl (λ some.
     leaves_on c.args.is_all here _ c.pass.new.piece.rest.now c.in-Ok.coming.rest.now refl refl
-    (code_entered c.coder_laws.ensures here (in_head c.args.self.now c.pass.new.self rows learned) _ c.in-Code.code c.start-self.result c.pass.new.piece.rest.now c.in-Ok.coming.rest.now refl refl (enters c.args.self.now c.pass.new.self rows learned some) came.0 k.0 c.start-self.ensures.stands k.1 refl refl refl refl
+    (code_entered c.coder_laws.ensures here (in_head c.args.self.now c.pass.new.self rows learned) _ c.in-Code.code c.start-self.result c.pass.new.piece.rest.now c.in-Ok.coming.rest.now refl refl
+    (enters c.args.self.now c.pass.new.self rows learned some) came.0 k.0 c.start-self.ensures.stands k.1 refl refl refl refl
     (started_view (record c.args.self.now.course { decoder = c.start-self.result }) rows learned c.start.ensures))))

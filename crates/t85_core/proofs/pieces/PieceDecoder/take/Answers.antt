@@ -15,12 +15,17 @@ returns-clause-call c = record {
   few_left = λ is. let few = (c.go_on-outcome.ensures.leaves.more (ap Some is)).3 in omega (arith, few);
   ended = c.end_of-self.ensures;
   again = λ end is. absurd (c.in_default.not-Some end is);
-  row = λ is. call_on (decoder_lent c.args.self.now c.args.lent.now) (decoder_lent c.go_on-outcome.new.self c.go_on-outcome.new.lent) _ c.args.piece.now c.go_on-outcome.new.piece.rest.now (row_held (decoder_lent c.go_on-outcome.new.self c.go_on-outcome.new.lent)) _ refl refl refl refl refl refl refl (c.end_of-self.ensures ∙ ap end_in is) (c.go_on-outcome.ensures.leaves.row (ap Some is));
+  row = λ is. call_on (decoder_lent c.args.self.now c.args.lent.now) (decoder_lent c.go_on-outcome.new.self c.go_on-outcome.new.lent) _ c.args.piece.now c.go_on-outcome.new.piece.rest.now
+      (row_held (decoder_lent c.go_on-outcome.new.self c.go_on-outcome.new.lent)) _ refl refl refl refl refl refl refl (c.end_of-self.ensures ∙ ap end_in is)
+      (c.go_on-outcome.ensures.leaves.row (ap Some is));
   waits = λ is late marked text out rest n s follows i. c.go_on-outcome.ensures.leaves.waits (ap Some is) late marked text out rest n s.stands follows i;
   more = λ is text out s.
       let k = c.go_on-outcome.ensures.leaves.more (ap Some is) in (
-        subst (HasDecoded _ _) (append-nil out) (call_on (decoder_lent c.args.self.now c.args.lent.now) (decoder_lent c.go_on-outcome.new.self c.go_on-outcome.new.lent) _ c.args.piece.now c.go_on-outcome.new.piece.rest.now [] _ refl refl refl refl refl refl refl (c.end_of-self.ensures ∙ ap end_in is) k.1 text out s),
-        (λ waits. subst (λ z. HandsOut (stream_of (decoder_lent c.args.self.now c.args.lent.now)) z c.go_on-outcome.new.self.image.height Truncated out) (append-nil (text ++ c.args.piece.now)) (k.2 waits text out [] s.stands (λ _. refl))),
+        subst (HasDecoded _ _) (append-nil out) (call_on (decoder_lent c.args.self.now c.args.lent.now)
+            (decoder_lent c.go_on-outcome.new.self c.go_on-outcome.new.lent) _ c.args.piece.now c.go_on-outcome.new.piece.rest.now [] _ refl refl refl refl refl refl refl
+            (c.end_of-self.ensures ∙ ap end_in is) k.1 text out s),
+        (λ waits. subst (λ z. HandsOut (stream_of (decoder_lent c.args.self.now c.args.lent.now)) z c.go_on-outcome.new.self.image.height Truncated out) (append-nil (text ++ c.args.piece.now))
+            (k.2 waits text out [] s.stands (λ _. refl))),
         (λ waits. k.4 waits text out s.stands),
       );
   done = λ n is.

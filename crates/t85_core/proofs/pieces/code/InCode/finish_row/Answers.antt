@@ -41,7 +41,8 @@ shape_in c = record c.shape.result { width = c.width.result }
 
 -- the states of the row before and after it goes on
 abbrev before : {g : Over} → After-go_on_in_row-went g → RowState
-before c = row_state_at (carried_by c.args.lent.now.window.now c.args.course.now.kept c.args.lent.now.learned.now) c.resume.new.self c.args.row.place c.args.self.now.first c.args.self.now.marker c.args.piece.now.rest.now
+before c = row_state_at (carried_by c.args.lent.now.window.now c.args.course.now.kept c.args.lent.now.learned.now) c.resume.new.self c.args.row.place c.args.self.now.first c.args.self.now.marker
+    c.args.piece.now.rest.now
 
 abbrev after : {g : Over} → After-go_on_in_row-went g → RowState
 after c = row_state c.go_on_in_row-went.new.lent c.go_on_in_row-went.new.kept c.go_on_in_row-went.new.decoder c.go_on_in_row-went.new.place c.go_on_in_row-went.new.code
@@ -50,7 +51,9 @@ abbrev Stands : {g : Over} → After-go_on_in_row-went g → List ℕ → List �
 Stands c = WalkStands (sized_of c.args.image.now) (code_lent c.args.course.now (record c.args.self.now { begun = Some c.args.row.place }) c.args.lent.now)
 
 abbrev StandsInRow : {g : Over} → After-go_on_in_row-went g → List ℕ → List ℕ → Type 0
-StandsInRow c = InRowStands (sized_of c.args.image.now) (head_place c.args.course.now.entities c.args.course.now.given c.args.self.now.at (carried_by c.args.lent.now.window.now c.args.course.now.kept c.args.lent.now.learned.now)) (code_place c.args.self.now.row c.args.self.now.first c.args.self.now.marker c.resume.new.self) c.args.row.place
+StandsInRow c = InRowStands (sized_of c.args.image.now) (head_place c.args.course.now.entities c.args.course.now.given c.args.self.now.at
+    (carried_by c.args.lent.now.window.now c.args.course.now.kept c.args.lent.now.learned.now))
+    (code_place c.args.self.now.row c.args.self.now.first c.args.self.now.marker c.resume.new.self) c.args.row.place
 
 module _ {g : Over} (c : After-go_on_in_row-went g) {text out : List ℕ} (w : Stands c text out) where
   wide : c.width.result ≡ c.args.image.now.header.xd
@@ -73,16 +76,20 @@ module _ {g : Over} (c : After-go_on_in_row-went g) {text out : List ℕ} (w : S
 
   abbrev from_here : (P : Shape → OpenStripe → ℕ → Handed → Type 0) → FromRow (shape_in c) (before c) (P (shape_in c)) → P stood.shape stripe c.args.self.now.row parts
   from_here P goes =
-      subst (λ z. FromRow z (before c) (P z)) is_shape goes (fields_of c.args.image.now.header) stood.head.stripes.next stood.head.passed.segments c.args.self.now.row stood.began out stood.code stood.begun stood.code_is
+      subst (λ z. FromRow z (before c) (P z)) is_shape goes (fields_of c.args.image.now.header) stood.head.stripes.next stood.head.passed.segments c.args.self.now.row stood.began out stood.code
+      stood.begun stood.code_is
 
   ended : EndsRow c.args.row.waits (shape_in c) (before c) (after c) →
-      PieceRowTaken stripe stood.shape c.args.self.now.row (after c) parts c.args.piece.now.rest.now × (c.args.row.waits ≡ true → (MarkerRead (before c).marker (before c).first → ⊥) → MarkerRead (after c).marker (after c).first → ⊥)
-  ended = from_here (λ z stripe row parts. PieceRowTaken stripe z row (after c) parts c.args.piece.now.rest.now × (c.args.row.waits ≡ true → (MarkerRead (before c).marker (before c).first → ⊥) → MarkerRead (after c).marker (after c).first → ⊥))
+      PieceRowTaken stripe stood.shape c.args.self.now.row (after c) parts c.args.piece.now.rest.now ×
+      (c.args.row.waits ≡ true → (MarkerRead (before c).marker (before c).first → ⊥) → MarkerRead (after c).marker (after c).first → ⊥)
+  ended = from_here (λ z stripe row parts. PieceRowTaken stripe z row (after c) parts c.args.piece.now.rest.now ×
+      (c.args.row.waits ≡ true → (MarkerRead (before c).marker (before c).first → ⊥) → MarkerRead (after c).marker (after c).first → ⊥))
 
   broken : (fault : Fault) → BreaksRow (shape_in c) (before c) fault → (count : ℕ) → c.args.self.now.row ≤ count → RowBroken stripe count parts c.args.piece.now.rest.now fault
   broken fault = from_here (λ z stripe row parts. (count : ℕ) → row ≤ count → RowBroken stripe count parts c.args.piece.now.rest.now fault)
 
-  waiting : WaitsInRow (shape_in c) (before c) (after c) → RowWaits stripe stood.shape c.args.self.now.row (after c) parts c.args.piece.now.rest.now × ((after c).first ≡ None) × ((after c).marker ≡ None)
+  waiting : WaitsInRow (shape_in c) (before c) (after c) → RowWaits stripe stood.shape c.args.self.now.row (after c) parts c.args.piece.now.rest.now × ((after c).first ≡ None) ×
+      ((after c).marker ≡ None)
   waiting = from_here (λ z stripe row parts. RowWaits stripe z row (after c) parts c.args.piece.now.rest.now × ((after c).first ≡ None) × ((after c).marker ≡ None))
 
   stopped : StopsInRow c.args.row.waits (shape_in c) (before c) (after c) →
@@ -127,15 +134,30 @@ returns-in-Ok-true-clause-leaves g c =
       row = λ _. (refl, refl);
       code = inl refl;
       waited = λ e. absurd (true_not_false e);
-      whole = λ _ marked. (refl, stays_marked k.code m.0.given (whole_text c.args.self.now.first c.args.self.now.marker _ [] _ k.code_is marked) c.go_on_in_row-went.new.code.first c.go_on_in_row-went.new.code.marker _ [] m.0.code_is);
+      whole = λ _ marked. (
+        refl,
+        stays_marked k.code m.0.given (whole_text c.args.self.now.first c.args.self.now.marker _ [] _ k.code_is marked) c.go_on_in_row-went.new.code.first
+            c.go_on_in_row-went.new.code.marker _ [] m.0.code_is,
+      );
       unmarked = λ waits unread _. m.1 waits unread;
       unread = λ e. absurd (not_cut _ _ e);
       other = tt;
     }
 
 -- a row that waits is as far as it was decoded
-kept : {g : Over} (c : After-go_on_in_row-went g) → {text out : List ℕ} (w : Stands c text out) → (m : RowWaits (open_stripe (fields_of c.args.image.now.header) (stood c w).head.stripes.next (stood c w).head.passed.segments) (stood c w).shape c.args.self.now.row (after c) (handed (stood c w).began out (stood c w).code) c.args.piece.now.rest.now) →
-    WalkStands (sized_of c.args.image.now) (code_view (record c.args.course.now { kept = c.go_on_in_row-went.new.kept; decoder = c.go_on_in_row-went.new.decoder }) (record c.args.self.now { begun = Some c.go_on_in_row-went.new.place; first = c.go_on_in_row-went.new.code.first; marker = c.go_on_in_row-went.new.code.marker; small = c.go_on_in_row-went.new.code.small; behind = c.go_on_in_row-went.new.code.behind }) (held c.go_on_in_row-went.new.lent.window.now) c.go_on_in_row-went.new.lent.learned.now) (text ++ m.given) out
+kept : {g : Over} (c : After-go_on_in_row-went g) → {text out : List ℕ} (w : Stands c text out) →
+    (m : RowWaits (open_stripe (fields_of c.args.image.now.header) (stood c w).head.stripes.next (stood c w).head.passed.segments) (stood c w).shape c.args.self.now.row (after c)
+    (handed (stood c w).began out (stood c w).code) c.args.piece.now.rest.now) →
+    WalkStands (sized_of c.args.image.now) (code_view (record c.args.course.now { kept = c.go_on_in_row-went.new.kept; decoder = c.go_on_in_row-went.new.decoder })
+    (record c.args.self.now {
+      begun = Some c.go_on_in_row-went.new.place;
+      first = c.go_on_in_row-went.new.code.first;
+      marker = c.go_on_in_row-went.new.code.marker;
+      small =
+          c.go_on_in_row-went.new.code.small;
+      behind = c.go_on_in_row-went.new.code.behind;
+    }) (held c.go_on_in_row-went.new.lent.window.now) c.go_on_in_row-went.new.lent.learned.now)
+    (text ++ m.given) out
 kept c w m = record {
   left_is = w.left_is;
   width_is = c.go_on_in_row-went.ensures.lent.2.0 ∙ w.width_is;
@@ -154,7 +176,8 @@ returns-in-Ok-false-clause-step g c =
         (λ text out w.
             let m = stopped went w (c.in-Ok-false.ensures.marker (ap Ok c.in-Ok-false.field-0-test)) in
             let at = m.1 unread in
-            on_same (fields_of c.args.image.now.header) c.args.image.now.height _ text out c.args.piece.now.rest.now c.go_on_in_row-went.new.code.piece.rest.now at.waits.given at.waits.taken (kept went w at.waits)),
+            on_same (fields_of c.args.image.now.header) c.args.image.now.height _ text out c.args.piece.now.rest.now c.go_on_in_row-went.new.code.piece.rest.now at.waits.given at.waits.taken
+            (kept went w at.waits)),
         (λ text out w.
             let m = stopped went w (c.in-Ok-false.ensures.marker (ap Ok c.in-Ok-false.field-0-test)) in
             let at = m.1 unread in
@@ -194,7 +217,8 @@ returns-in-Err-clause-step g c =
           let cut = same_fault _ _ e in (
             (λ text out w.
                 let m = waiting went w (c.in-Err.ensures.more (ap Err cut)) in
-                on_same (fields_of c.args.image.now.header) c.args.image.now.height _ text out c.args.piece.now.rest.now c.go_on_in_row-went.new.code.piece.rest.now m.0.given m.0.taken (kept went w m.0)),
+                on_same (fields_of c.args.image.now.header) c.args.image.now.height _ text out c.args.piece.now.rest.now c.go_on_in_row-went.new.code.piece.rest.now m.0.given m.0.taken
+                (kept went w m.0)),
             (let few = c.go_on_in_row-went.new.code.few (c.in-Err.ensures.fault ∙ ap Some cut) in omega (arith, few)),
           );
     }
@@ -211,7 +235,8 @@ returns-in-Err-clause-leaves g c =
       row = λ e. absurd (not_ok _ _ e);
       code = inr refl;
       waited = λ e. absurd (not_ok _ _ e);
-      whole = λ _ marked. absurd (never_breaks (fields_of c.args.image.now.header) before_all k.code c.args.piece.now.rest.now m.bytes c.in-Err.fault (whole_text c.args.self.now.first c.args.self.now.marker _ [] _ k.code_is marked) m.breaks);
+      whole = λ _ marked. absurd (never_breaks (fields_of c.args.image.now.header) before_all k.code c.args.piece.now.rest.now m.bytes c.in-Err.fault
+          (whole_text c.args.self.now.first c.args.self.now.marker _ [] _ k.code_is marked) m.breaks);
       unmarked = λ waits unread e. absurd (not_ok _ _ e);
       unread = λ e.
           let left = waiting went w (c.in-Err.ensures.more (ap Err (same_fault _ _ e))) in

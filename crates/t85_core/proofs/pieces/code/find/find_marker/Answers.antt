@@ -10,7 +10,8 @@ returns-in-Some-clause-ok c = found_before c.args.first.now c.args.marker c.args
 
 pub returns-in-Some-Marker-clause-ok : goal.returns-in-Some-Marker-clause-ok
 returns-in-Some-Marker-clause-ok c =
-    let is : c.args.first.now ≡ Some (code.Marker c.in-Some-Marker.reset) = sym c.take.ensures.value ∙ c.in-Some-Marker.is ∙ ap Some c.in-Some-Marker.field-0-is ∙ ap (λ z. Some (code.Marker z)) (sym c.in-Some-Marker.reset-is) in
+    let is : c.args.first.now ≡ Some (code.Marker c.in-Some-Marker.reset) = sym c.take.ensures.value ∙ c.in-Some-Marker.is ∙ ap Some c.in-Some-Marker.field-0-is
+    ∙ ap (λ z. Some (code.Marker z)) (sym c.in-Some-Marker.reset-is) in
     found_ahead c.args.first.now c.args.marker c.args.piece.now.rest.now c.in-Some-Marker.reset (none_of _ c.in_default.not-Some) is
 
 pub returns-in-Some-Byte-clause-ok : goal.returns-in-Some-Byte-clause-ok
@@ -44,4 +45,5 @@ returns-in-None-clause-err c =
 
 pub returns-in-None-clause-more : goal.returns-in-None-clause-more
 returns-in-None-clause-more c =
-    keeps_on c.args.first.now c.args.marker (none_of _ c.in_default.not-Some) (none_ahead _ (sym c.take.ensures.value ∙ c.in-None.is)) _ _ c.take.new.self c.take.ensures.after c.skip_some-in-None.result c.skip_some-in-None.ensures.err
+    keeps_on c.args.first.now c.args.marker (none_of _ c.in_default.not-Some)
+    (none_ahead _ (sym c.take.ensures.value ∙ c.in-None.is)) _ _ c.take.new.self c.take.ensures.after c.skip_some-in-None.result c.skip_some-in-None.ensures.err

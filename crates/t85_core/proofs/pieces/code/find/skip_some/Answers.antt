@@ -9,13 +9,15 @@ pub code-preserved : goal.code-preserved
 code-preserved c =
     let plain = c.skip_plain.ensures.passed in
     let h = rw c.in-Ok-Byte.field-0-is at c.in-Ok-Byte.ensures.ok in
-    skipped_byte {b = Some c.skip_plain.new.self.rest.now} {c = Some c.whole_code.new.piece.rest.now} c.in-Ok-Byte.field-0-0 (skipped_plain {c = Some c.skip_plain.new.self.rest.now} plain.0 c.code.invariant plain.1 plain.2) h.0 h.1
+    skipped_byte {b = Some c.skip_plain.new.self.rest.now} {c = Some c.whole_code.new.piece.rest.now} c.in-Ok-Byte.field-0-0
+    (skipped_plain {c = Some c.skip_plain.new.self.rest.now} plain.0 c.code.invariant plain.1 plain.2) h.0 h.1
 
 pub returns-in-Ok-Marker-clause-ok : goal.returns-in-Ok-Marker-clause-ok
 returns-in-Ok-Marker-clause-ok c =
     let plain = c.skip_plain.ensures.passed in
     let h = rw c.in-Ok-Marker.field-0-is at c.in-Ok-Marker.ensures.ok in
-    let p = code_ends {b = Some c.skip_plain.new.self.rest.now} {c = Some c.whole_code.new.piece.rest.now} _ (skipped_plain {c = Some c.skip_plain.new.self.rest.now} plain.0 c.code.invariant plain.1 plain.2) h.1 in
+    let p = code_ends {b = Some c.skip_plain.new.self.rest.now} {c = Some c.whole_code.new.piece.rest.now}
+    _ (skipped_plain {c = Some c.skip_plain.new.self.rest.now} plain.0 c.code.invariant plain.1 plain.2) h.1 in
     subst (SkipsSome _ _) (sym c.in-Ok-Marker.reset-is) (record { code = p.code; small = p.bytes; taken = p.taken })
 
 pub returns-in-Err-clause-err : goal.returns-in-Err-clause-err

@@ -28,9 +28,14 @@ abbrev before : After-next_stripe → InCode → WalkView
 before c in_code = stage_lent c.args.self.now (stage.Code in_code) c.args.lent.now
 
 abbrev there : After-next_stripe → Stage → (entities left : ℕ) → WalkView
-there c st entities left = record (stage_lent c.args.self.now st c.args.lent.now) { carried = carried_by c.next_stripe.new.window c.next_stripe.new.kept c.next_stripe.new.learned; entities = entities; left = left }
+there c st entities left = record (stage_lent c.args.self.now st c.args.lent.now) {
+  carried = carried_by c.next_stripe.new.window c.next_stripe.new.kept c.next_stripe.new.learned;
+  entities = entities;
+  left = left;
+}
 
-module _ (c : After-next_stripe) (in_code : InCode) (code : IsInCode (code_kind in_code.begun)) (all : min c.args.self.now.left c.args.image.now.header.l0 ≤ in_code.row) (marker : MarkerIs c.args.reset in_code.marker in_code.first) where
+module _ (c : After-next_stripe) (in_code : InCode) (code : IsInCode (code_kind in_code.begun)) (all : min c.args.self.now.left c.args.image.now.header.l0 ≤ in_code.row)
+    (marker : MarkerIs c.args.reset in_code.marker in_code.first) where
   module _ {text out : List ℕ} (s : WalkStands (sized (fields_of c.args.image.now.header) c.args.image.now.height) (before c in_code) text out) where
     between : code_kind in_code.begun ≡ kind.Code
     between = elim code [
@@ -48,7 +53,8 @@ module _ (c : After-next_stripe) (in_code : InCode) (code : IsInCode (code_kind 
     all_text = ap (λ z. text ++ z) (no_bytes m.given [] m.taken) ∙ append-nil text
 
     -- a walk there
-    stands_there : (at : Kind) (entities left : ℕ) → left ≡ c.args.image.now.height - entities * c.args.image.now.header.l0 → StageStands at (sized (fields_of c.args.image.now.header) c.args.image.now.height) (record (there c stage.Done entities left) { stage = at }) text out →
+    stands_there : (at : Kind) (entities left : ℕ) → left ≡ c.args.image.now.height - entities * c.args.image.now.header.l0 →
+        StageStands at (sized (fields_of c.args.image.now.header) c.args.image.now.height) (record (there c stage.Done entities left) { stage = at }) text out →
         WalkStands (sized (fields_of c.args.image.now.header) c.args.image.now.height) (record (there c stage.Done entities left) { stage = at }) text out
     stands_there at entities left left_is stands =
         record {
@@ -60,37 +66,48 @@ module _ (c : After-next_stripe) (in_code : InCode) (code : IsInCode (code_kind 
           stands = stands;
         }
 
-    carries : (last : RowStart) → IsCarried last (carried_by c.args.lent.now.window.now c.args.self.now.kept c.args.lent.now.learned.now) → IsCarried (first_row_start (next_stripe_start (fields_of c.args.image.now.header).xd c.args.reset last)) (carried_by c.next_stripe.new.window c.next_stripe.new.kept c.next_stripe.new.learned)
-    carries = kept_wide (held c.args.lent.now.window.now).width (fields_of c.args.image.now.header).xd c.args.reset (carried_by c.args.lent.now.window.now c.args.self.now.kept c.args.lent.now.learned.now) (carried_by c.next_stripe.new.window c.next_stripe.new.kept c.next_stripe.new.learned) s.width_is c.next_stripe.ensures.next
+    carries : (last : RowStart) → IsCarried last (carried_by c.args.lent.now.window.now c.args.self.now.kept c.args.lent.now.learned.now) →
+        IsCarried (first_row_start (next_stripe_start (fields_of c.args.image.now.header).xd c.args.reset last)) (carried_by c.next_stripe.new.window c.next_stripe.new.kept c.next_stripe.new.learned)
+    carries = kept_wide (held c.args.lent.now.window.now).width (fields_of c.args.image.now.header).xd c.args.reset
+        (carried_by c.args.lent.now.window.now c.args.self.now.kept c.args.lent.now.learned.now)
+        (carried_by c.next_stripe.new.window c.next_stripe.new.kept c.next_stripe.new.learned) s.width_is c.next_stripe.ensures.next
 
     -- all stripes before it
-    came : StripesRead (fields_of c.args.image.now.header) c.args.image.now.height (passage (Some text) (Some []) (Some []) (Some out)) (c.args.self.now.entities + 1) (cond c.args.self.now.given 1 0) (carried_by c.next_stripe.new.window c.next_stripe.new.kept c.next_stripe.new.learned)
+    came : StripesRead (fields_of c.args.image.now.header) c.args.image.now.height (passage (Some text) (Some []) (Some []) (Some out)) (c.args.self.now.entities + 1) (cond c.args.self.now.given 1 0)
+        (carried_by c.next_stripe.new.window c.next_stripe.new.kept c.next_stripe.new.learned)
     came =
-        subst (λ z. StripesRead (fields_of c.args.image.now.header) c.args.image.now.height (passage (Some z) (Some []) (Some []) (Some out)) (c.args.self.now.entities + 1) (cond c.args.self.now.given 1 0) (carried_by c.next_stripe.new.window c.next_stripe.new.kept c.next_stripe.new.learned)) all_text
-        (whole k c.coder_laws.ensures (in_use c.args.image.now) (rows_all between s all) [] [] c.args.reset m (carried_by c.next_stripe.new.window c.next_stripe.new.kept c.next_stripe.new.learned) (carries k.read.last k.read.is_carried))
+        subst (λ z. StripesRead (fields_of c.args.image.now.header) c.args.image.now.height (passage (Some z) (Some []) (Some []) (Some out)) (c.args.self.now.entities + 1)
+        (cond c.args.self.now.given 1 0) (carried_by c.next_stripe.new.window c.next_stripe.new.kept c.next_stripe.new.learned)) all_text
+        (whole k c.coder_laws.ensures (in_use c.args.image.now) (rows_all between s all) [] [] c.args.reset m (carried_by c.next_stripe.new.window c.next_stripe.new.kept c.next_stripe.new.learned)
+        (carries k.read.last k.read.is_carried))
 
     times : (c.args.self.now.entities + 1) * c.args.image.now.header.l0 ≡ c.args.self.now.entities * c.args.image.now.header.l0 + c.args.image.now.header.l0
     times = omega arith
 
     -- it was the last
-    done : c.args.self.now.left ≤ c.args.image.now.header.l0 → WalkStands (sized (fields_of c.args.image.now.header) c.args.image.now.height) (there c stage.Done c.args.self.now.entities c.args.self.now.left) text out
+    done : c.args.self.now.left ≤ c.args.image.now.header.l0 → WalkStands (sized (fields_of c.args.image.now.header) c.args.image.now.height)
+        (there c stage.Done c.args.self.now.entities c.args.self.now.left) text out
     done few =
         let left : c.args.self.now.left ≡ c.args.image.now.height - c.args.self.now.entities * c.args.image.now.header.l0 = s.left_is in
         let product = times in
         let last = last_stripe c.args.image.now.height c.args.image.now.header.l0 c.args.self.now.entities c.args.image.now.header.some_rows k.head.fewer (omega (arith, left, product, few)) in
         stands_there kind.Done c.args.self.now.entities c.args.self.now.left left
         (subst (λ z. StageStands kind.Done (sized (fields_of c.args.image.now.header) c.args.image.now.height) (there c stage.Done c.args.self.now.entities c.args.self.now.left) z out) all_text
-        (stripe_last k c.coder_laws.ensures (in_use c.args.image.now) (rows_all between s all) [] [] c.args.reset m (carried_by c.next_stripe.new.window c.next_stripe.new.kept c.next_stripe.new.learned) (carries k.read.last k.read.is_carried) last))
+        (stripe_last k c.coder_laws.ensures (in_use c.args.image.now) (rows_all between s all) [] [] c.args.reset m
+        (carried_by c.next_stripe.new.window c.next_stripe.new.kept c.next_stripe.new.learned) (carries k.read.last k.read.is_carried) last))
 
     -- another one follows
-    goes_on : c.args.image.now.header.l0 < c.args.self.now.left → WalkStands (sized (fields_of c.args.image.now.header) c.args.image.now.height) (there c (stage.Head head_start) (c.args.self.now.entities + 1) (c.args.self.now.left - c.args.image.now.header.l0)) text out
+    goes_on : c.args.image.now.header.l0 < c.args.self.now.left → WalkStands (sized (fields_of c.args.image.now.header) c.args.image.now.height)
+        (there c (stage.Head head_start) (c.args.self.now.entities + 1) (c.args.self.now.left - c.args.image.now.header.l0)) text out
     goes_on some =
         let left : c.args.self.now.left ≡ c.args.image.now.height - c.args.self.now.entities * c.args.image.now.header.l0 = s.left_is in
         let product = times in
         let on = next_stripe c.args.image.now.height c.args.image.now.header.l0 c.args.self.now.entities c.args.image.now.header.some_rows (omega (arith, left, product, some)) in
         stands_there kind.Head (c.args.self.now.entities + 1) (c.args.self.now.left - c.args.image.now.header.l0) (omega (arith, left, product))
-        (subst (λ z. StageStands kind.Head (sized (fields_of c.args.image.now.header) c.args.image.now.height) (there c (stage.Head head_start) (c.args.self.now.entities + 1) (c.args.self.now.left - c.args.image.now.header.l0)) z out) all_text
-        (stripe_on k c.coder_laws.ensures (in_use c.args.image.now) (rows_all between s all) [] [] c.args.reset m (carried_by c.next_stripe.new.window c.next_stripe.new.kept c.next_stripe.new.learned) (carries k.read.last k.read.is_carried) on))
+        (subst (λ z. StageStands kind.Head (sized (fields_of c.args.image.now.header) c.args.image.now.height)
+        (there c (stage.Head head_start) (c.args.self.now.entities + 1) (c.args.self.now.left - c.args.image.now.header.l0)) z out) all_text
+        (stripe_on k c.coder_laws.ensures (in_use c.args.image.now) (rows_all between s all) [] [] c.args.reset m (carried_by c.next_stripe.new.window c.next_stripe.new.kept c.next_stripe.new.learned)
+        (carries k.read.last k.read.is_carried) on))
 
 pub returns-then-self-image-clause-ends : goal.returns-then-self-image-clause-ends
 returns-then-self-image-clause-ends c = λ in_code code all marker. record {

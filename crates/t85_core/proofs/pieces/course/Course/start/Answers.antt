@@ -11,7 +11,8 @@ returns-clause-stands c = record {
   code_is = tt;
   behind = tt;
   within = omega (arith, c.args.image.now.header.some_width);
-  stands = head_first (fields_of c.args.image.now.header) c.args.image.now.height _ (carried_by c.restart.new.window c.restart.new.kept c.restart.new.learned) c.args.image.now.from c.args.image.now.header.some_rows (c.restart.ensures.window.0.0 ∙ c.requires.width) c.restart.ensures.first;
+  stands = head_first (fields_of c.args.image.now.header) c.args.image.now.height _ (carried_by c.restart.new.window c.restart.new.kept c.restart.new.learned) c.args.image.now.from
+      c.args.image.now.header.some_rows (c.restart.ensures.window.0.0 ∙ c.requires.width) c.restart.ensures.first;
 }
 
 pub returns-clause-first : goal.returns-clause-first

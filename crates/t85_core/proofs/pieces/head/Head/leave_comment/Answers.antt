@@ -21,5 +21,9 @@ returns-clause-on c = λ before back s.
     let all : c.min-len.result ≡ c.in-Some.left = omega (arith, c.min-len.ensures, c.if-len-left.false) in
     let within : c.min-len.result ≤ length c.args.piece.now.rest.now = omega (arith, c.min-len.ensures) in
     let taken : c.args.piece.now.rest.now ≡ take c.min-len.result c.args.piece.now.rest.now ++ c.split_at.result.1.now =
-    sym (take-append-drop c.min-len.result c.args.piece.now.rest.now) ∙ ap (λ (z : List ℕ). take c.min-len.result c.args.piece.now.rest.now ++ z) (sym c.split_at.ensures.back) in
-    (take c.min-len.result c.args.piece.now.rest.now, taken, behind_ends s c.in-Some.left c.in-Some.is (take c.min-len.result c.args.piece.now.rest.now) (length-take-le c.min-len.result c.args.piece.now.rest.now within ∙ all))
+    sym (take-append-drop c.min-len.result c.args.piece.now.rest.now) ∙ ap (λ (z : List ℕ). take c.min-len.result c.args.piece.now.rest.now ++ z) (sym c.split_at.ensures.back) in (
+      take c.min-len.result c.args.piece.now.rest.now,
+      taken,
+      behind_ends s c.in-Some.left c.in-Some.is (take c.min-len.result c.args.piece.now.rest.now)
+          (length-take-le c.min-len.result c.args.piece.now.rest.now within ∙ all),
+    )

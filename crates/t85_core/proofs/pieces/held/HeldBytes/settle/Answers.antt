@@ -15,12 +15,14 @@ returns-in-More c = record {
 
 pub returns-in_default : goal.returns-in_default
 returns-in_default c =
-    let held : held_bytes c.keep-in_default.new.self ≡ drop (min c.args.call.taken c.args.count) (take c.args.count c.args.bytes.now) = c.keep-in_default.ensures ∙ c.split_at-in_default-2.ensures.back ∙ ap (drop c.min-taken.result) c.split_at-in_default.ensures.front ∙ ap (λ n. drop n (take c.args.count c.args.bytes.now)) c.min-taken.ensures in
+    let held : held_bytes c.keep-in_default.new.self ≡ drop (min c.args.call.taken c.args.count) (take c.args.count c.args.bytes.now) = c.keep-in_default.ensures ∙ c.split_at-in_default-2.ensures.back
+    ∙ ap (drop c.min-taken.result) c.split_at-in_default.ensures.front ∙ ap (λ n. drop n (take c.args.count c.args.bytes.now)) c.min-taken.ensures in
     let sum : c.args.call.taken - c.min-taken.result ≡ c.args.call.taken - c.args.count = omega (arith, c.min-taken.ensures) in
     record {
       outcome_is = refl;
       bound = omega (arith, sum, c.requires.bound);
-      rest = ap (λ n. held_bytes c.keep-in_default.new.self ++ drop n (drop c.args.count c.args.bytes.now)) sum ∙ settled_first c.args.bytes.now (held_bytes c.keep-in_default.new.self) c.args.count c.args.call.taken c.requires.within held;
+      rest = ap (λ n. held_bytes c.keep-in_default.new.self ++ drop n (drop c.args.count c.args.bytes.now)) sum
+          ∙ settled_first c.args.bytes.now (held_bytes c.keep-in_default.new.self) c.args.count c.args.call.taken c.requires.within held;
       all = λ e. absurd (c.in_default.not-More e);
       earlier = λ _. settled_earlier c.args.bytes.now (held_bytes c.keep-in_default.new.self) c.args.count c.args.call.taken (c.args.call.taken - c.min-taken.result) c.requires.within held sum;
       none = λ z _.

@@ -10,4 +10,5 @@ returns-in-Head-clause-all c = λ phase k s fits.
 
 pub returns-in-Code-clause-all : goal.returns-in-Code-clause-all
 returns-in-Code-clause-all c = λ phase k s fits.
-    code_phase_of c.args.self.now phase c.in-Code.code c.phase_in.result c.if-self-eq0.false k (sym c.in-Code.is ∙ some_is (c.in_ok-stage.ensures.all (phase_stage phase) s fits)) c.phase_in.ensures.code c.phase_in.ensures.behind
+    code_phase_of c.args.self.now phase c.in-Code.code c.phase_in.result c.if-self-eq0.false k
+    (sym c.in-Code.is ∙ some_is (c.in_ok-stage.ensures.all (phase_stage phase) s fits)) c.phase_in.ensures.code c.phase_in.ensures.behind
