@@ -1,28 +1,31 @@
 -- From the engine's effect on a buffer to the contents of the caller's memory.
-use Rattle.std.proofs.Common.{◌≡◌, ◌≢◌, ◌≤◌, ◌<◌, ℕ, zero, suc, Bool, true, false, List, [], ◌∷◌, ◌++◌, length, take, Option, Some, None, Result, Ok, Err, refl, sym, ap, ◌∙◌, subst, arith, append-nil, append_assoc, length-append, true≢false}
+use Rattle.std.proofs.Common.{◌≡◌, ◌≢◌, ◌≤◌, ◌<◌, ◌⊎◌, inl, inr, ℕ, zero, suc, Bool, true, false, List, [], ◌∷◌, ◌++◌, length, take, flat_map, Option, Some, None, Result, Ok, Err, refl, sym, ap, ◌∙◌, subst, arith, append-nil, append_assoc, length-append, true≢false}
 use Rattle.std.specs.Prelude.{is_some, option_to_list}
+use Rattle.std.specs.Io.KnownBytes.{Appends}
 use Rattle.std.proofs.lemmas.Grind.{common_steps}
-use Rattle.t85_core.specs.Change.{between}
+use Rattle.pbm_core.specs.Device.{AppendsBeginning}
+use Rattle.pbm_core.specs.Pbm.{header_text}
+use Rattle.raster_core.specs.Packed.{packed_row}
 use Rattle.t85_core.specs.declared.fault.Fault.{Fault}
 use Rattle.t85_core.specs.declared.fault.Fault.TheVariants.{Read, Write}
+use Rattle.t85_core.specs.DecodeRows.{PutsRows}
 use Rattle.t85_core.specs.Header.{Fields}
-use Rattle.t85_core.specs.Decode.{Decode, WritesImageFront}
-use Rattle.t85_core.specs.Failures.{CountsFault, reads_after, writes_after}
+use Rattle.t85_core.specs.Failures.{reads_after, writes_after}
 use Rattle.t85_core.specs.Laws.{HasOutcome}
-use Rattle.t85_core.specs.Outcome.{IsOutcome}
+use Rattle.t85_core.specs.Outcome.{IsOutcome, pbm_rows}
+use Rattle.t85_core.specs.Steps.Buffers.{TargetView}
 use Rattle.t85.specs.Delivered.{fault_status, answer_status, Fits, IsFull}
 
 -- what an empty room holds
 pub emptied : (len : ℕ) (memory : List ℕ) (spilled : Option ℕ) → len ≡ 0 → spilled ≡ None → take len memory ++ option_to_list spilled ≡ []
 emptied len memory spilled empty none = ap (λ n. take n memory ++ option_to_list spilled) empty ∙ ap option_to_list none
 
-pub unread : (f : Fault) → CountsFault 0 0 f → f ≢ Read
-unread f counts same = (let counted : CountsFault 0 0 Read = subst (λ z. CountsFault 0 0 z) same counts in omega (arith, counted))
-
+-- no read was counted
 pub unread_once : (f : Fault) → 0 ≡ reads_after f 0 → f ≢ Read
 unread_once f counts same = (let counted : 0 ≡ reads_after Read 0 = subst (λ z. 0 ≡ reads_after z 0) same counts in omega (arith, counted))
 
-pub unfailed : (f : Fault) → 0 ≡ writes_after f 0 → f ≢ Write
+-- no write was counted
+unfailed : (f : Fault) → 0 ≡ writes_after f 0 → f ≢ Write
 unfailed f counts same = (let counted : 0 ≡ writes_after Write 0 = subst (λ z. 0 ≡ writes_after z 0) same counts in omega (arith, counted))
 
 -- a room with nothing spilled has not failed
@@ -48,41 +51,57 @@ full_of text memory b rest len is all =
       answer_is = refl;
     }
 
-module _ (h : Fields) (height : ℕ) (body : List ℕ) (in_new : Option (List ℕ)) (o : HasOutcome h height body) (old : List ℕ) where
-  -- the contents of an output that has not failed are the outcome, and this is reported
-  pub held : (taken : List ℕ) (answer : Result (Unit {0}) Fault) → Decode h height (between (Some body) in_new 0 0) (between (Some old) (Some taken) 0 0) answer →
-      (taken ≡ old ++ o.text) × (answer_status answer ≡ fault_status o.fault)
-  held taken (Ok u) d =
-      let w = d.whole in
-      let same = o.only None _ (w.raster, w.denotes, refl) in
-      (w.appends ∙ ap (λ l. old ++ l) same.1, ap fault_status same.0)
-  held taken (Err f) d =
-      let w = d.broken (unread f d.reads) (unfailed f d.writes) in
-      let same = o.only (Some f) _ (w.rows, w.fixes, refl) in
-      (w.appends ∙ ap (λ l. old ++ l) same.1, ap fault_status same.0)
+-- ---- a room that was empty
 
-  -- whatever happened, it is a beginning of the outcome
-  pub begins : (taken : List ℕ) → WritesImageFront h height (Some body) in_new (Some old) (Some taken) → (front : List ℕ) × (rest : List ℕ) × (taken ≡ old ++ front) × (o.text ≡ front ++ rest)
-  begins taken w = went in_new w where
-    went : (left : Option (List ℕ)) → WritesImageFront h height (Some body) left (Some old) (Some taken) → (front : List ℕ) × (rest : List ℕ) × (taken ≡ old ++ front) × (o.text ≡ front ++ rest)
-    went None w = absurd w.taken
-    went (Some left) w = (let a = w.appends left o.fault o.text (subst (λ l. IsOutcome h height l o.fault o.text) w.taken o.is) in (a.front, a.rest, a.appends, a.text_is))
+-- it has the whole text
+pub unspilled : {old text memory : List ℕ} {len status answer : ℕ} (spilled : Option ℕ) → old ≡ [] → is_some spilled ≡ false → len ≤ length memory → answer ≡ status →
+    Appends (Some old) (Some (take len memory ++ option_to_list spilled)) text → Fits text status memory len answer
+unspilled (Some b) empty none within told put = absurd (true≢false none)
+unspilled {old} {text} {memory} {len} {status} {answer} None empty none within told put =
+    fits_in text status memory len answer (sym (append-nil (take len memory)) ∙ put ∙ ap (λ l. l ++ text) empty) within told
 
-module _ (h : Fields) (height : ℕ) (body memory : List ℕ) (len : ℕ) (old : List ℕ) (in_new : Option (List ℕ)) (answer : Result (Unit {0}) Fault) (o : HasOutcome h height body) (empty : old ≡ []) where
-  pub unspilled : (spilled : Option ℕ) (before failures : ℕ) → before ≡ 0 → is_some spilled ≡ false → (0 < failures → is_some spilled ≡ true) → len ≤ length memory →
-      Decode h height (between (Some body) in_new 0 0) (between (Some old) (Some (take len memory ++ option_to_list spilled)) before failures) answer →
-      Fits o.text (fault_status o.fault) memory len (answer_status answer)
-  unspilled (Some b) before failures fresh none full within d = absurd (true≢false none)
-  unspilled None before failures fresh none full within d =
-      let D : ℕ → ℕ → Type 0 = λ m n. Decode h height (between (Some body) in_new 0 0) (between (Some old) (Some (take len memory ++ [])) m n) answer in
-      let f : D 0 failures = subst (λ m. D m failures) fresh d in
-      let stands = held h height body in_new o old (take len memory ++ []) answer (subst (λ n. D 0 n) (none_failed failures false none full) f) in
-      fits_in o.text (fault_status o.fault) memory len (answer_status answer) (sym (append-nil (take len memory)) ∙ stands.0 ∙ ap (λ l. l ++ o.text) empty) within stands.1
+-- it has spilled, so it has a beginning of the text
+pub spilled_over : {old text memory : List ℕ} {len : ℕ} (spilled : Option ℕ) → old ≡ [] → is_some spilled ≡ true → (is_some spilled ≡ true → len ≡ length memory) →
+    AppendsBeginning (Some old) (Some (take len memory ++ option_to_list spilled)) text → IsFull text memory len 18
+spilled_over None empty some last cut = absurd (true≢false (sym some))
+spilled_over {old} {text} {memory} {len} (Some b) empty some last cut =
+    full_of text memory b cut.rest len (cut.text_is ∙ ap (λ l. l ++ cut.rest) (sym (cut.appends ∙ ap (λ l. l ++ cut.front) empty))) (last some)
 
-  pub spilled_over : (spilled : Option ℕ) (before failures : ℕ) → is_some spilled ≡ true → (is_some spilled ≡ true → len ≡ length memory) →
-      Decode h height (between (Some body) in_new 0 0) (between (Some old) (Some (take len memory ++ option_to_list spilled)) before failures) answer → IsFull o.text memory len 18
-  spilled_over None before failures some last d = absurd (true≢false (sym some))
-  spilled_over (Some b) before failures some last d =
-      let whole = begins h height body in_new o old (take len memory ++ b ∷ []) d.front in
-      let front_is : take len memory ++ b ∷ [] ≡ whole.0 = whole.2 ∙ ap (λ l. l ++ whole.0) empty in
-      full_of o.text memory b whole.1 len (whole.3 ∙ ap (λ l. l ++ whole.1) (sym front_is)) (last some)
+-- ---- the rows of an outcome
+
+-- every outcome begins with the header of its image
+pub begins_so : (h : Fields) (height : ℕ) (body : List ℕ) (fault : Option Fault) (text : List ℕ) → IsOutcome h height body fault text →
+    (rest : List ℕ) × (text ≡ header_text h.xd height ++ rest)
+begins_so h height body None text o =
+    let raster = o.0 in
+    let d = o.1 in (
+      flat_map packed_row raster.rows,
+      o.2 ∙ ap (λ w. pbm_rows w (length raster.rows) raster.rows) d.width ∙ ap (λ n. pbm_rows h.xd n raster.rows) d.height,
+    )
+begins_so h height body (Some f) text o = (flat_map packed_row o.0, o.2)
+
+-- an error is that of a write, or another
+write_or : (f : Fault) → (f ≡ Write) ⊎ (f ≢ Write)
+write_or Write = inl refl
+write_or f = inr (λ e. (let bot : ⊥ = cc in bot))
+
+-- the rows that a sink has received
+module _ {h : Fields} {height : ℕ} {body : List ℕ} (o : HasOutcome h height body) where
+  pub rows_are : {old new : TargetView} {answer : Result (Unit {0}) Fault} (d : PutsRows h height body old new answer) → o.text ≡ pbm_rows h.xd height d.rows
+  rows_are d = sym (o.only d.fault _ d.is).1
+
+  -- a sink that has not failed has received all rows, and the outcome is reported
+  pub all_put : {old new : TargetView} (answer : Result (Unit {0}) Fault) (d : PutsRows h height body old new answer) → old.failures ≡ 0 → new.failures ≡ 0 →
+      Appends old.text new.text (flat_map packed_row d.rows) × (answer_status answer ≡ fault_status o.fault)
+  all_put (Ok u) d fresh none = (d.whole.1, ap fault_status (sym d.whole.0 ∙ (o.only d.fault _ d.is).0))
+  all_put (Err f) d fresh none =
+      let w = d.broken (unfailed f (sym none ∙ d.writes.counts ∙ ap (writes_after f) fresh)) in
+      (w.1, ap fault_status (sym w.0 ∙ (o.only d.fault _ d.is).0))
+
+  -- whatever happened, it has received a beginning of them
+  pub some_put : {old new : TargetView} (answer : Result (Unit {0}) Fault) (d : PutsRows h height body old new answer) → AppendsBeginning old.text new.text (flat_map packed_row d.rows)
+  some_put (Ok u) d = record { front = flat_map packed_row d.rows; rest = []; text_is = sym (append-nil (flat_map packed_row d.rows)); appends = d.whole.1 }
+  some_put (Err f) d = elim (write_or f) [
+    | inl is ↦ d.cut (ap Err is)
+    | inr other ↦ record { front = flat_map packed_row d.rows; rest = []; text_is = sym (append-nil (flat_map packed_row d.rows)); appends = (d.broken other).1 }
+  ]

@@ -6,10 +6,10 @@ pub mod EncoderCalls
 pub mod EncoderStart
 pub mod EncoderSteps
 pub mod Entities
+pub mod Beginnings
 pub mod BestCalls
 pub mod Bytes
 pub mod Delivery
-pub mod Digits
 pub mod Headers
 pub mod Lines
 pub mod Meaning

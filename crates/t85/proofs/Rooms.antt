@@ -4,6 +4,7 @@ use Rattle.std.specs.Prelude.{IfErr, OnOk, is_some, is_ok, option_to_list}
 use Rattle.std.proofs.lemmas.List.{length-take-le}
 use Rattle.pbm_core.specs.Device.{AppendsBeginning, one_more}
 use Rattle.t85_core.specs.Failures.{CountsWrite, writes_after}
+use Rattle.t85_core.specs.Steps.Buffers.{Writer}
 use Rattle.t85_core.specs.Steps.MostBytes.{AppendsAtMost}
 use Rattle.t85_core.specs.declared.fault.Fault.{Fault}
 use Rattle.t85_core.specs.declared.fault.Fault.TheVariants.{AnnouncedLow, Write}
@@ -15,6 +16,11 @@ use Rattle.t85.proofs.Taken.{not_spilled}
 -- the bytes that a room has taken
 abbrev pub text_of : Room → List ℕ
 text_of r = take r.len r.bytes.now ++ option_to_list r.spilled
+
+-- the writer that a room reports
+pub writer_same : {target target' flushes flushes' : ℕ} → target' ≡ target → flushes' ≡ flushes →
+    ◌≡◌ {A = Writer} (record { reference = 0; target = target'; flushes = flushes' }) (record { reference = 0; target = target; flushes = flushes })
+writer_same t f = λ i. record { reference = 0; target = t i; flushes = f i }
 
 pub nothing_in : (r : Room) → IsEmptyRoom r → text_of r ≡ []
 nothing_in r empty = emptied r.len r.bytes.now r.spilled empty.1 empty.2

@@ -2,12 +2,11 @@
 use Rattle.std.specs.Prelude.{ℕ, ◌+◌, ◌*◌, ◌≡◌, ◌≤◌, ◌<◌, ◌⊎◌, Bool, List, length, take, drop, flat_map, None}
 use Rattle.std.specs.Int.{div_ceil}
 use Rattle.std.specs.List.{AllByRecursion}
-use Rattle.pbm_core.specs.Pbm.{header_text}
 use Rattle.raster_core.specs.Packed.{packed_row}
 use Rattle.t85_core.specs.Header.{Fields}
 use Rattle.t85_core.specs.Laws.{HasOutcome}
 use Rattle.t85_core.specs.Outcome.{pbm_rows}
-use Rattle.t85.specs.declared.lined_output.LinedOutput.{LinedOutput}
+use Rattle.t85.specs.declared.lined_sink.LinedSink.{LinedSink}
 use Rattle.t85.specs.Decoded.{Opens, window_bytes, RefusesByHeader, RefusesHeight}
 use Rattle.t85.specs.Delivered.{Lending, RefusesLending, fault_status, lined, outside}
 
@@ -17,13 +16,10 @@ pub record HaveRoom (wanted row stride room fit : ℕ) : Type 0 where
   pub each : (y : ℕ) → y < fit → y * stride + row ≤ room
   pub most : fit < wanted → room < fit * stride + row
 
--- An output of rows to which nothing of an image of this size has been written.
-pub record HasTakenNothing (h : Fields) (height : ℕ) (s : LinedOutput) : Type 0 where
+-- A consumer of rows that has received nothing of an image of this size.
+pub record HasTakenNothing (h : Fields) (height : ℕ) (s : LinedSink) : Type 0 where
   pub row : s.row ≡ div_ceil h.xd 8
-  pub head : s.skip ≡ length (header_text h.xd height)
-  pub empty : s.at ≡ 0
   pub no_row : s.y ≡ 0
-  pub no_byte : s.x ≡ 0
   pub fresh : s.failures ≡ 0
   pub unspilled : s.spilled ≡ None
   pub room : HaveRoom height s.row s.stride (length s.bytes.now) s.fit

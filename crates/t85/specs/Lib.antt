@@ -25,6 +25,6 @@ pub mod Pbm
 -- Laws: the meaning of status 0.
 pub mod Laws
 -- Definitions that only serve the proofs.
-pub mod LinedOutput
+pub mod LinedSink
 pub mod DecoderSteps
 pub mod EncoderSteps

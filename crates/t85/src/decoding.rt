@@ -5,12 +5,13 @@ ghost use Rattle.t85_core.specs.Options.{fields_of};
 ghost use Rattle.t85.specs.Decoded.{DecodesImage, DeliversText, window_bytes as window_of};
 ghost use Rattle.t85.specs.Delivered.{answer_status, lending};
 
-use crate::devices::{Room, Whole};
+use crate::devices::Room;
 use crate::opened::open;
 use crate::status::FULL;
+use pbm_core::{Size, WriteFault, write_header};
 use raster_core::{Window, window_bytes};
 use t85_core::laws::outcomes;
-use t85_core::{Fault, Header, decode_in_memory};
+use t85_core::{Fault, Header, decode_rows};
 
 /// The status for a result of the engine.
 pub fn answer_status(answer: &Result<(), Fault>) -> u8
@@ -105,8 +106,15 @@ fn write_image(
     // The proof uses these laws about streams.
     outcomes();
     let mut lines = Window::over(window, header.xd);
-    let mut input = Whole { rest: body };
-    let answer = decode_in_memory(header, height, &mut lines, &mut input, room);
+    let size = Size {
+        width: header.xd,
+        height,
+    };
+    match write_header(room, size) {
+        Ok(()) => {}
+        Err(WriteFault) => return FULL,
+    }
+    let answer = decode_rows(header, height, &mut lines, body, room);
     if room.spilled.is_some() {
         return FULL;
     }

@@ -1,23 +1,20 @@
 //! Decodes a stream in memory to rows in memory.
 
 ghost use Rattle.std.specs.Prelude.{◌≡◌, ◌≤◌, ◌<◌, ◌+◌, ◌*◌, length};
-ghost use Rattle.std.specs.Fmt.{decimal};
 ghost use Rattle.std.specs.Int.{div_ceil};
-ghost use Rattle.pbm_core.specs.Pbm.{header_text};
 ghost use Rattle.t85_core.specs.Options.{fields_of};
 ghost use Rattle.t85.specs.Decoded.{window_bytes as window_of};
 ghost use Rattle.t85.specs.Delivered.{lending};
 ghost use Rattle.t85.specs.DecodedRows.{DecodesRows, HasTakenNothing, HaveRoom, DeliversRows};
 
 use crate::decoding::answer_status;
-use crate::devices::Whole;
-use crate::lined_output::LinedOutput;
+use crate::lined_sink::LinedSink;
 use crate::opened::open;
 use crate::status::{FULL, SHORT_STRIDE};
 use pbm_core::row_bytes;
 use raster_core::{Window, window_bytes};
 use t85_core::laws::outcomes;
-use t85_core::{Fault, Header, decode_in_memory};
+use t85_core::{Fault, Header, decode_rows};
 
 /// Decodes the rows of a stream's image, at most `max_rows` of them. Row y begins at byte `y * stride`; a row has one
 /// bit per pixel, the first pixel in the most significant bit, in a whole number of bytes, and its padding is 0.
@@ -84,29 +81,11 @@ fn fill_rows(
         (lending rows.old rows.new rows_written.new result) }
 {
     let row = row_bytes(header.xd);
-    let skip = head_length(header.xd, height);
     let fit = rows_that_fit(height, row, stride, rows.len());
-    let mut output = LinedOutput::new(rows, skip, row, stride, fit);
+    let mut output = LinedSink::new(rows, row, stride, fit);
     let status = write_rows(header, height, body, window, &mut output);
     *rows_written = output.y;
     status
-}
-
-/// The number of decimal digits of a number.
-#[tactic(auto, using(crate::proofs::Digits::digits))]
-fn digits(n: u32) -> usize
-    ensures is { result ≡ length (decimal n) }
-    ensures few { result ≤ 10 }
-{
-    if n >= 10 { digits(n / 10) + 1 } else { 1 }
-}
-
-/// The length of an image's PBM header.
-fn head_length(width: u32, height: u32) -> usize
-    ensures is { result ≡ length (header_text width height) }
-    ensures few { result ≤ 32 }
-{
-    5 + digits(width) + digits(height)
 }
 
 /// The number of these rows that fit.
@@ -126,13 +105,13 @@ fn rows_that_fit(wanted: u32, row: usize, stride: usize, room: usize) -> u32
     }
 }
 
-/// Decodes the rows of a body into an output, and returns the status.
+/// Decodes the rows of a body into a consumer of rows, and returns the status.
 fn write_rows(
     header: &Header,
     height: u32,
     body: &[u8],
     window: &mut [u8],
-    output: &mut LinedOutput<'_>,
+    output: &mut LinedSink<'_>,
 ) -> u8
     requires window { length window.old ≡ window_of header.now.xd }
     requires from { 1 ≤ height }
@@ -145,8 +124,7 @@ fn write_rows(
     // The proof uses these laws about streams.
     outcomes();
     let mut lines = Window::over(window, header.xd);
-    let mut input = Whole { rest: body };
-    let answer = decode_in_memory(header, height, &mut lines, &mut input, output);
+    let answer = decode_rows(header, height, &mut lines, body, output);
     if output.spilled.is_some() {
         return FULL;
     }

@@ -2,7 +2,8 @@
 
 ghost use Rattle.std.specs.Prelude.{◌≡◌, ◌≤◌, ◌<◌, ◌-◌, ◌^◌, ◌++◌, [], Some, None, length, take, is_some, true, option_to_list};
 
-use pbm_core::{DeviceFailed, Input, Output};
+use pbm_core::{DeviceFailed, Input, Output, WriteFault, write_bytes};
+use t85_core::{Fault, RowSink};
 
 /// An input over bytes that are all available.
 #[derive(Drop)]
@@ -109,6 +110,30 @@ impl Output for Room<'_> {
     fn flush(&mut self) -> Result<(), DeviceFailed> {
         self.flushes = self.flushes.wrapping_add(1);
         self.flushed = true;
+        Ok(())
+    }
+}
+
+impl RowSink for Room<'_> {
+    ghost view = { λ s. record {
+      text = Some (take s.len s.bytes.now ++ option_to_list s.spilled);
+      held = [];
+      written = 0;
+      failures = s.failures;
+      writer = record { reference = 0; target = s.bytes.ghost_name; flushes = s.flushes };
+    } };
+
+    ghost row_bytes = { λ s. None };
+
+    fn put_rows(&mut self, bytes: &[u8], count: u32) -> Result<(), Fault> {
+        let mut copy = 0;
+        while copy < count {
+            match write_bytes(self, bytes) {
+                Ok(()) => {}
+                Err(WriteFault) => return Err(Fault::Write),
+            }
+            copy += 1;
+        }
         Ok(())
     }
 }

@@ -11,13 +11,13 @@ ghost use Rattle.t85.specs.Delivered.{IsEmptyRoom, lending, lined};
 
 use crate::decoding::answer_status;
 use crate::devices::Room;
-use crate::lined_input::LinedInput;
+use crate::lined_source::LinedSource;
 use crate::options::{T85Options, accept};
 use crate::status::{FULL, OTHER_VERSION, SHORT_STRIDE, TOO_WIDE, ZERO_SIZE};
-use pbm_core::{Form, Size, row_bytes};
+use pbm_core::{Size, row_bytes};
 use raster_core::{Window, window_bytes};
 use t85_core::laws::{code_denotes, lengths};
-use t85_core::{Fault, Options, encode_in_memory};
+use t85_core::{Fault, Options, encode_rows};
 
 /// The version of `T85Options`.
 pub const VERSION: u32 = 1;
@@ -184,8 +184,8 @@ fn write_stream(
     // The proof uses these laws about streams.
     code_denotes();
     let mut lines = Window::over(window, size.width);
-    let mut input = LinedInput::new(rows, size.height, row_bytes(size.width), stride);
-    let answer = encode_in_memory(size, Form::Raw, options, &mut lines, &mut input, room);
+    let mut source = LinedSource::new(rows, size.height, row_bytes(size.width), stride);
+    let answer = encode_rows(size, options, &mut lines, &mut source, room);
     if room.spilled.is_some() {
         return FULL;
     }

@@ -13,6 +13,7 @@ pub mod StripePut
 pub mod ImagePut
 pub mod BufferDecoded
 pub mod Decoded
+pub mod RowsDecoded
 pub mod Converted
 pub mod LowerHeight
 pub mod PieceCode

@@ -18,6 +18,7 @@ pub mod Options
 pub mod Info
 pub mod Parts
 pub mod Decode
+pub mod DecodeRows
 pub mod Outcomes
 pub mod Stages
 pub mod Lent
@@ -29,6 +30,7 @@ pub mod RowNumbers
 pub mod RowImage
 pub mod BestOffset
 pub mod ToPbm
+pub mod RowSource
 pub mod Encode
 pub mod ToJbg
 -- Laws.

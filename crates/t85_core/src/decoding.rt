@@ -1,22 +1,23 @@
 //! Decoding an image.
 
-ghost use Rattle.std.specs.Prelude.{◌≡◌, ◌≢◌, ◌≤◌, ◌<◌, [], true, Ok, Err, OnOk, IfErr, IsErrOf};
+ghost use Rattle.std.specs.Prelude.{◌≡◌, ◌≢◌, ◌<◌, true, Ok, Err, OnOk, IfErr, IfSome};
+ghost use Rattle.raster_core.specs.Packed.{row_bytes};
 ghost use Rattle.raster_core.specs.Window.{held, width_of};
 ghost use Rattle.t85_core.specs.Steps.HeightWalk.{MayBeHeight};
 ghost use Rattle.t85_core.specs.Options.{fields_of};
 ghost use Rattle.t85_core.specs.Change.{input_change, output_change};
 ghost use Rattle.t85_core.specs.Decode.{Decode};
+ghost use Rattle.t85_core.specs.DecodeRows.{PutsRows};
 ghost use Rattle.t85_core.specs.Lent.{walk_lent as over};
 ghost use Rattle.t85_core.specs.Steps.Buffers.{ReadsOn, WritesOn, reading};
-ghost use Rattle.t85_core.specs.Steps.Views.{text_taken, passage_of, WritesBehind};
-ghost use Rattle.t85_core.specs.Steps.Passage.{passage};
+ghost use Rattle.t85_core.specs.Steps.Views.{passage_of};
 ghost use Rattle.t85_core.specs.Steps.DecodeStripes.{ImageRead, ImageCut, ImageUnwritten};
-ghost use Rattle.t85_core.specs.Steps.Pieces.{SomeStands, WalkStands};
+ghost use Rattle.t85_core.specs.Steps.Pieces.{SomeStands};
 ghost use Rattle.t85_core.specs.Steps.SizedImage.{sized_of};
 ghost use Rattle.t85_core.specs.Steps.Reading.{HeldTurn, ReadTurn, RowsTurn, SameSource, still_left};
-ghost use Rattle.t85_core.specs.Failures.{CountsBoth, SameOutput};
+ghost use Rattle.t85_core.specs.Failures.{SameOutput};
 ghost use Rattle.t85_core.specs.declared.fault.Fault.{Fault};
-ghost use Rattle.t85_core.specs.declared.fault.Fault.TheVariants.{Read, Truncated, Write};
+ghost use Rattle.t85_core.specs.declared.fault.Fault.TheVariants.{Truncated, Write};
 ghost use Rattle.t85_core.specs.Stages as stage;
 
 use crate::fault::Fault;
@@ -24,9 +25,10 @@ use crate::header::{Header, SizedImage};
 use crate::input_buffer::{HeldSource, InputBuffer, READ_AHEAD};
 use crate::laws::coder_laws;
 use crate::lent::Lent;
-use crate::output_buffer::{ByteTarget, IMAGE_HELD, OutputBuffer, put_copies};
+use crate::output_buffer::{IMAGE_HELD, OutputBuffer};
 use crate::pieces::piece::Piece;
 use crate::pieces::walk::Walk;
+use crate::row_sink::RowSink;
 use pbm_core::{Input, Output, Size, WriteFault, write_header};
 use qm_core::Learned;
 use raster_core::Window;
@@ -47,135 +49,89 @@ pub fn decode<R: Input, W: Output>(
         (output_change W.view output.old output.new) result }
     ensures same_output { SameOutput (W.view output.old) (W.view output.new) }
 {
+    // The proof uses these laws of the coder.
+    coder_laws();
     let image = SizedImage {
         header: *header,
         height,
     };
-    decode_by::<R, W, READ_AHEAD, IMAGE_HELD>(&image, window, input, output)
+    let size = Size {
+        width: header.xd,
+        height,
+    };
+    match write_header(output, size) {
+        Ok(()) => {}
+        Err(WriteFault) => return Err(Fault::Write),
+    }
+    let mut stream: InputBuffer<'_, R, READ_AHEAD> = InputBuffer::new(input);
+    let mut buffer: OutputBuffer<'_, W, IMAGE_HELD> = OutputBuffer::new(output);
+    let outcome = decode_image(&image, window, &mut stream, &mut buffer);
+    buffer.finish(outcome)
 }
 
-/// The number of bytes that are read ahead and buffered for in-memory devices. Each row is written directly.
-const MEMORY_AHEAD: usize = 256;
-
-const MEMORY_HELD: usize = 1;
-
-/// Like `decode`, for in-memory devices. It buffers little, since reads and writes make no system calls.
-pub fn decode_in_memory<R: Input, W: Output>(
+/// Decodes the bytes after the header of a stream, and passes the rows of the image to a sink, equal rows together.
+///
+/// If the stream is broken, it passes the rows that the bytes before the error determine, and returns the error. Returns
+/// `Fault::Write` if the sink fails.
+pub fn decode_rows<K: RowSink>(
     header: &Header,
     height: u32,
     window: &mut Window<'_>,
-    input: &mut R,
-    output: &mut W,
+    body: &[u8],
+    sink: &mut K,
 ) -> Result<(), Fault>
     requires width { width_of window.old ≡ header.now.xd }
     requires height { MayBeHeight header.now.yd height }
-    ensures outcome { Decode (fields_of header.now) height (input_change R.view input.old input.new)
-        (output_change W.view output.old output.new) result }
-    ensures same_output { SameOutput (W.view output.old) (W.view output.new) }
+    requires row { IfSome (K.row_bytes sink.old) (λ n. n ≡ row_bytes header.now.xd) }
+    ensures rows { PutsRows (fields_of header.now) height body.now (K.view sink.old)
+        (K.view sink.new) result }
 {
+    // The proof uses these laws of the coder.
+    coder_laws();
     let image = SizedImage {
         header: *header,
         height,
     };
-    decode_by::<R, W, MEMORY_AHEAD, MEMORY_HELD>(&image, window, input, output)
+    let mut stream = Piece { rest: body };
+    decode_image(&image, window, &mut stream, sink)
 }
 
-/// Like `decode`, with buffers of the given sizes.
-fn decode_by<R: Input, W: Output, const AHEAD: usize, const HELD: usize>(
+/// Passes the rows of an image to a sink.
+fn decode_image<S: HeldSource, K: RowSink>(
     image: &SizedImage,
     window: &mut Window<'_>,
-    input: &mut R,
-    output: &mut W,
+    stream: &mut S,
+    sink: &mut K,
 ) -> Result<(), Fault>
     requires width { width_of window.old ≡ image.now.header.xd }
-    requires ahead { 7 < AHEAD }
-    requires few_ahead { AHEAD ≤ 4096 }
-    requires held { 0 < HELD }
-    requires few_held { HELD ≤ 4096 }
-    ensures outcome { Decode (fields_of image.now.header) image.now.height (input_change R.view
-        input.old input.new) (output_change W.view output.old output.new) result }
-    ensures same_output { SameOutput (W.view output.old) (W.view output.new) }
+    requires row { IfSome (K.row_bytes sink.old) (λ n. n ≡ row_bytes image.now.header.xd) }
+    ensures ok { OnOk result (ImageRead (fields_of image.now.header) image.now.height (passage_of
+        (S.view stream.old) (S.view stream.new) (K.view sink.old) (K.view sink.new))) }
+    ensures err { IfErr result (λ f. f ≢ Write → ImageCut (fields_of image.now.header)
+        image.now.height (passage_of (S.view stream.old) (S.view stream.new)
+        (K.view sink.old) (K.view sink.new)) f) }
+    ensures unwritten { IfErr result (λ _. ImageUnwritten (fields_of image.now.header)
+        image.now.height (passage_of (S.view stream.old) (S.view stream.new)
+        (K.view sink.old) (K.view sink.new))) }
+    ensures reads { ReadsOn (S.view stream.old) (S.view stream.new) result }
+    ensures writes { WritesOn (K.view sink.old) (K.view sink.new) result }
 {
     // The proof uses these laws of the coder.
     coder_laws();
-    let size = Size {
-        width: image.header.xd,
-        height: image.height,
-    };
     let mut learned = Learned::new();
     let mut lent = Lent {
         window,
         learned: &mut learned,
     };
     let mut walk = Walk::start(image, &mut lent);
-    match write_header(output, size) {
-        Ok(()) => {}
-        Err(WriteFault) => return Err(Fault::Write),
-    }
-    let mut stream: InputBuffer<'_, R, AHEAD> = InputBuffer::new(input);
-    let mut buffer: OutputBuffer<'_, W, HELD> = OutputBuffer::new(output);
-    decode_buffered(image, &mut walk, &mut lent, &mut stream, &mut buffer)
-}
-
-/// Writes the rows of an image, and then the buffer, except after a failed write.
-fn decode_buffered<S: HeldSource, W: Output, const HELD: usize>(
-    image: &SizedImage,
-    walk: &mut Walk,
-    lent: &mut Lent<'_, '_>,
-    stream: &mut S,
-    buffer: &mut OutputBuffer<'_, W, HELD>,
-) -> Result<(), Fault>
-    requires stands { WalkStands (sized_of image.now) (over walk.old lent.old) [] [] }
-    ensures ok { OnOk result (ImageRead (fields_of image.now.header) image.now.height
-        (passage (S.view stream.old).known (S.view stream.new).known
-        (text_taken buffer.old) (W.view buffer.new.output.now).contents)) }
-    ensures err { IfErr result (λ f. f ≢ Write → ImageCut (fields_of image.now.header)
-        image.now.height (passage (S.view stream.old).known (S.view stream.new).known
-        (text_taken buffer.old) (W.view buffer.new.output.now).contents) f) }
-    ensures begun { ImageUnwritten (fields_of image.now.header) image.now.height
-        (passage (S.view stream.old).known (S.view stream.new).known
-        (text_taken buffer.old) (text_taken buffer.new)) }
-    ensures drained { IsErrOf result Read → (S.view stream.new).known ≡ (S.view stream.new).beyond }
-    ensures reads { CountsBoth (S.view stream.old).failures (S.view stream.new).failures result }
-    ensures writes { WritesBehind buffer.old buffer.new result }
-    ensures same_source { (S.view stream.new).source ≡ (S.view stream.old).source }
-{
-    // The proof uses these laws of the coder.
-    coder_laws();
-    let outcome = decode_image(image, walk, lent, stream, buffer);
-    buffer.finish(outcome)
-}
-
-/// Writes the rows of an image to the buffer.
-fn decode_image<S: HeldSource, P: ByteTarget>(
-    image: &SizedImage,
-    walk: &mut Walk,
-    lent: &mut Lent<'_, '_>,
-    stream: &mut S,
-    target: &mut P,
-) -> Result<(), Fault>
-    requires stands { WalkStands (sized_of image.now) (over walk.old lent.old) [] [] }
-    ensures ok { OnOk result (ImageRead (fields_of image.now.header) image.now.height (passage_of
-        (S.view stream.old) (S.view stream.new) (P.view target.old) (P.view target.new))) }
-    ensures err { IfErr result (λ f. f ≢ Write → ImageCut (fields_of image.now.header)
-        image.now.height (passage_of (S.view stream.old) (S.view stream.new)
-        (P.view target.old) (P.view target.new)) f) }
-    ensures unwritten { IfErr result (λ _. ImageUnwritten (fields_of image.now.header)
-        image.now.height (passage_of (S.view stream.old) (S.view stream.new)
-        (P.view target.old) (P.view target.new))) }
-    ensures reads { ReadsOn (S.view stream.old) (S.view stream.new) result }
-    ensures writes { WritesOn (P.view target.old) (P.view target.new) result }
-{
-    // The proof uses these laws of the coder.
-    coder_laws();
     // The image has no more rows than its height, so it ends within the loop.
     let mut row = 0;
     'rows: while row <= image.height {
-        let count = next_rows(image, walk, lent, stream)?;
+        let count = next_rows(image, &mut walk, &mut lent, stream)?;
         if count == 0 {
             return Ok(());
         }
-        put_copies(lent.window.row(0), count, target)?;
+        sink.put_rows(lent.window.row(0), count)?;
         row += count;
     }
     Ok(())

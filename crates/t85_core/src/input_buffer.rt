@@ -1,7 +1,7 @@
 //! Reads the bytes of an input ahead into an array of fixed size, and returns them one at a time.
 
 ghost use Rattle.std.specs.Prelude.{◌≡◌, ◌≤◌, ◌<◌, ◌+◌, ◌-◌, ◌^◌, ◌++◌, ℕ, List, None, length, slice_index, take, IfOk, IfErr, MatchResult};
-ghost use Rattle.std.specs.Io.KnownBytes.{Consumes, IsAtEnd, Keeps, prepend_known};
+ghost use Rattle.std.specs.Io.KnownBytes.{Consumes, IsAtEnd, Keeps};
 ghost use Rattle.pbm_core.specs.Device.{Counts};
 ghost use Rattle.t85_core.specs.Steps.Reading.{KeepsLast, Refills};
 ghost use Rattle.t85_core.specs.Steps.Buffers.{SourceView, GivesNextByte, GivesPlain, SkipsPlain, held_of, ArePlain};
@@ -87,13 +87,9 @@ impl<'a, R: Input, const SIZE: usize> InputBuffer<'a, R, SIZE> {
 }
 
 impl<R: Input, const SIZE: usize> ByteSource for InputBuffer<'_, R, SIZE> {
-    ghost view = { λ s. record {
-      known = prepend_known (held_of s.bytes s.at s.end) (R.view s.input.now).remaining;
-      beyond = (R.view s.input.now).remaining;
-      left = (s.end - s.at) + (R.view s.input.now).left;
-      failures = (R.view s.input.now).failures;
-      source = s.input.ghost_name;
-    } };
+    ghost use Rattle.t85_core.specs.Steps.Views.{buffer_source};
+
+    ghost view = { λ s. buffer_source s };
 
     fn next(&mut self) -> Result<u8, Fault> {
         if self.at == self.end {
@@ -130,13 +126,9 @@ impl<R: Input, const SIZE: usize> ByteSource for InputBuffer<'_, R, SIZE> {
 }
 
 impl<R: Input, const SIZE: usize> HeldSource for InputBuffer<'_, R, SIZE> {
-    ghost view = { λ s. record {
-      known = prepend_known (held_of s.bytes s.at s.end) (R.view s.input.now).remaining;
-      beyond = (R.view s.input.now).remaining;
-      left = (s.end - s.at) + (R.view s.input.now).left;
-      failures = (R.view s.input.now).failures;
-      source = s.input.ghost_name;
-    } };
+    ghost use Rattle.t85_core.specs.Steps.Views.{buffer_source};
+
+    ghost view = { λ s. buffer_source s };
 
     ghost bytes = { λ s. held_of s.bytes s.at s.end };
 

@@ -3,7 +3,7 @@
 ghost use Rattle.std.specs.Prelude.{◌≡◌, ◌≤◌, ◌<◌, ◌-◌, length, take, OnOk, IfErr};
 ghost use Rattle.std.specs.Io.KnownBytes.{Appends, Keeps};
 ghost use Rattle.t85_core.specs.declared.fault.Fault.TheVariants.{Write};
-ghost use Rattle.t85_core.specs.Steps.Buffers.{TargetView, PutsBytes, Pushes, HandsOn, copies};
+ghost use Rattle.t85_core.specs.Steps.Buffers.{TargetView, PutsBytes, Pushes, HandsOn};
 
 use crate::fault::Fault;
 use pbm_core::{Output, WriteFault, write_bytes, write_counted};
@@ -192,16 +192,4 @@ impl<W: Output, const SIZE: usize> ByteTarget for OutputBuffer<'_, W, SIZE> {
     fn failures(&self) -> u64 {
         self.output.failures()
     }
-}
-
-/// Writes the same bytes `count` times.
-pub fn put_copies<P: ByteTarget>(bytes: &[u8], count: u32, target: &mut P) -> Result<(), Fault>
-    ensures { PutsBytes (copies count bytes.now) (P.view target.old) (P.view target.new) result }
-{
-    let mut copy = 0;
-    while copy < count {
-        target.put(bytes)?;
-        copy += 1;
-    }
-    Ok(())
 }

@@ -1,6 +1,7 @@
 -- A walk that ends in the middle, seen from its beginning.
-use Rattle.std.proofs.Common.{◌≡◌, ◌≢◌, ◌⊎◌, inl, inr, subst, ℕ, List, [], ◌++◌, Option, Result, Ok, Err, append-nil}
+use Rattle.std.proofs.Common.{◌≡◌, ◌≢◌, ◌⊎◌, inl, inr, subst, ℕ, List, [], ◌++◌, Option, None, Some, Result, Ok, Err, append-nil}
 use Rattle.std.specs.Io.KnownBytes.{Consumes}
+use Rattle.std.specs.Prelude.{IfSome}
 use Rattle.std.specs.Result.{IfOk, OnOk, OnErr, IfErr, IsErrAnd, IsErrOf}
 use Rattle.t85_core.specs.declared.fault.Fault.{Fault}
 use Rattle.t85_core.specs.declared.fault.Fault.TheVariants.{Truncated}
@@ -50,6 +51,10 @@ on_ok (Err e) k p q = tt
 pub map_ok : {T E : Type 0} (r : Result T E) {P Q : Type 0} → (P → Q) → OnOk r P → OnOk r Q
 map_ok (Ok x) k p = k p
 map_ok (Err e) k p = tt
+
+pub map_if_some : {T : Type 0} (o : Option T) {P Q : T → Type 0} → ((x : T) → P x → Q x) → IfSome o P → IfSome o Q
+map_if_some None k p = tt
+map_if_some (Some x) k p = k x p
 
 pub map_if_ok : {T E : Type 0} (r : Result T E) {P Q : T → Type 0} → ((x : T) → P x → Q x) → IfOk r P → IfOk r Q
 map_if_ok (Ok x) k p = k x p

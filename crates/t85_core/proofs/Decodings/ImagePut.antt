@@ -6,6 +6,7 @@ use Rattle.std.proofs.lemmas.Grind.{flat_map-append}
 use Rattle.raster_core.specs.Packed.{packed_row}
 use Rattle.t85_core.specs.declared.fault.Fault.{Fault}
 use Rattle.t85_core.specs.Lent.{Carried}
+use Rattle.t85_core.specs.declared.header.Header.{Header}
 use Rattle.t85_core.specs.declared.header.SizedImage.{SizedImage}
 use Rattle.t85_core.specs.Header.{Fields}
 use Rattle.t85_core.specs.Options.{fields_of}
@@ -20,6 +21,7 @@ use Rattle.t85_core.specs.Steps.DecodeRows.{IsCarried}
 use Rattle.pbm_core.specs.Device.{AppendsBeginning}
 use Rattle.t85_core.specs.Steps.CoderLaws.{CoderLaws}
 use Rattle.t85_core.specs.Coding.{flagged}
+use Rattle.t85_core.specs.Steps.HeightWalk.{MayBeHeight}
 use Rattle.t85_core.specs.Steps.Passage.{passage}
 use Rattle.t85_core.proofs.Decodings.CarriedDenotes.{carried_denotes, stripes_whole}
 use Rattle.t85_core.proofs.Decodings.CarriedFixes.{carried_fixes}
@@ -146,12 +148,11 @@ image_read h height known known' count heights carried text text' r use_ all = r
 }
 
 -- a header, and a height from 1 to its own
+pub header_in_use : (header : Header) (height : ℕ) → MayBeHeight header.yd height → IsInUse (fields_of header) height
+header_in_use header height within = record { accepted = accepted header; from = within.0; to = within.1 }
+
 pub in_use : (image : SizedImage) → IsInUse (fields_of image.header) image.height
-in_use image = record {
-  accepted = accepted image.header;
-  from = image.from;
-  to = image.to;
-}
+in_use image = header_in_use image.header image.height (image.from, image.to)
 
 pub few_rows : (image : SizedImage) → image.height < 2 ^ 32
 few_rows image = let to = image.to in let few = image.header.not_too_tall in omega (arith, to, few)

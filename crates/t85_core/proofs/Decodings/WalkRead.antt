@@ -325,6 +325,9 @@ module _ (h : Fields) (height : ℕ) (w w' : WalkView) (known known' known'' tex
     some_bytes : 1 ≤ row_bytes h.xd
     some_bytes = let t = (div_ceil_times h.xd 8 (omega arith)).0 in let w = use_.accepted.width_from in omega (arith, t, w)
 
+    pub row_long : length w'.carried.held.current ≡ row_bytes h.xd
+    row_long = code_wide here next.2.width_is
+
     pub rows_few : row + n ≤ height
     rows_few = went (cases_lt height (row + n)) where
       went : (height < row + n) ⊎ (row + n ≤ height) → row + n ≤ height

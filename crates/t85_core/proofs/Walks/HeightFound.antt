@@ -13,6 +13,7 @@ use Rattle.t85_core.specs.Height.{GivesHeight, IsHeight, IsOpen}
 use Rattle.t85_core.specs.Failures.{Ends}
 use Rattle.t85_core.specs.Steps.HeightWalk.{moved_behind, SearchPlace, SearchEnd, SkipsStripes, SkipsStripesTo, SkipsFault, LooksTo, LookEnds, LookOpen, FindsGiven, FindsNone, Finds, FindsOpen, BodyRefused, BodyUnfinished, search_place}
 use Rattle.t85_core.specs.Steps.Buffers.{reading}
+use Rattle.t85_core.proofs.Bytes.Ends.{map_if_some}
 use Rattle.t85_core.proofs.Bytes.Streams.{Consumes-more, known_behind, longer_or_all}
 use Rattle.t85_core.proofs.Bytes.Lengths.{lengths_append, gives_none, valid_parts}
 use Rattle.t85_core.proofs.Walks.Segments.{unnamed_spot, length_whole}
@@ -56,10 +57,6 @@ broken_at height q =
         rest_has = same_rest t (spot_behind (spot_after height q.stripes) t.segments) (count_by is_move t.segments) (omega arith) (omega arith) (omega arith);
       };
     }
-
-some_map : {P Q : List ℕ → Type 0} (o : Option (List ℕ)) → ((x : List ℕ) → P x → Q x) → IfSome o P → IfSome o Q
-some_map None k p = tt
-some_map (Some x) k p = k x p
 
 -- what is after the bytes that came belongs to the body, too
 pub skipped_whole : {h : Fields} {at : SearchPlace} {count : ℕ} (old : Option (List ℕ)) {new : Option (List ℕ)} {f : Fault} → Ends Truncated old new (SkipsFault h at count) f → f ≢ Read →
@@ -119,10 +116,10 @@ module _ {h : Fields} (ok : IsAccepted h) where
 
   -- the body is refused at the header's height
   pub skipped_refused : (old : Option (List ℕ)) {new : Option (List ℕ)} {f : Fault} → Ends Truncated old new (Breaks h) f → f ≢ Read → IfSome old (BodyRefused h f)
-  skipped_refused old e other = some_map old (λ body q. record { height = h.yd; height_is = height_of_skipped q; broken = broken_at h.yd q }) (skipped_whole old e other)
+  skipped_refused old e other = map_if_some old (λ body q. record { height = h.yd; height_is = height_of_skipped q; broken = broken_at h.yd q }) (skipped_whole old e other)
 
   pub skipped_height : (old : Option (List ℕ)) {new : Option (List ℕ)} {f : Fault} → Ends Truncated old new (Breaks h) f → f ≢ Read → IfSome old (λ body. IsHeight h body h.yd)
-  skipped_height old e other = some_map old (λ body q. height_of_skipped q) (skipped_whole old e other)
+  skipped_height old e other = map_if_some old (λ body q. height_of_skipped q) (skipped_whole old e other)
 
   pub open_unfinished : {given : List ℕ} → FindsOpen h given → BodyUnfinished h given
   open_unfinished (inl q) = inl (record { height = h.yd; height_is = height_of_skipped q; broken = broken_at h.yd q })

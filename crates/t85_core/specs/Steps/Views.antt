@@ -1,7 +1,10 @@
 -- The views of structs that contain a device.
-use Rattle.std.specs.Prelude.{ℕ, List, Option, Result, ◌≡◌, ◌≤◌, ◌++◌}
-use Rattle.std.specs.Io.KnownBytes.{append_known}
+use Rattle.std.specs.Prelude.{ℕ, List, [], Option, Some, Result, length, ◌≡◌, ◌≤◌, ◌+◌, ◌-◌, ◌++◌}
+use Rattle.std.specs.Io.KnownBytes.{append_known, prepend_known}
+use Rattle.pbm_core.specs.declared.device.Input as input_device
 use Rattle.pbm_core.specs.declared.device.Output as device
+use Rattle.t85_core.specs.declared.input_buffer.InputBuffer.{InputBuffer}
+use Rattle.t85_core.specs.declared.pieces.piece.Piece.{Piece}
 use Rattle.t85_core.specs.declared.pieces.piece.PieceCode.{PieceCode}
 use Rattle.t85_core.specs.declared.encoding.sink.EntitySink.{EntitySink}
 use Rattle.t85_core.specs.declared.output_buffer.OutputBuffer.{OutputBuffer}
@@ -10,6 +13,26 @@ use Rattle.t85_core.specs.Failures.{CountsWrite}
 use Rattle.t85_core.specs.Steps.Buffers.{Writer, SourceView, SinkView, TargetView, held_of, known_length}
 use Rattle.t85_core.specs.Steps.Passage.{Passage, passage}
 use Rattle.t85_core.specs.Steps.Entity.{EntityView, ahead_bytes}
+
+-- a piece as a source
+abbrev pub piece_source : Piece → SourceView
+piece_source s = record {
+  known = Some s.rest.now;
+  beyond = Some [];
+  left = length s.rest.now;
+  failures = 0;
+  source = 0;
+}
+
+-- a buffer as a source
+abbrev pub buffer_source : {R : Type 0} {N : ℕ} {G : input_device.Ghosts R} → InputBuffer R N G → SourceView
+buffer_source {R} {N} {G} s = record {
+  known = prepend_known (held_of s.bytes s.at s.end) (G.view s.input.now).remaining;
+  beyond = (G.view s.input.now).remaining;
+  left = (s.end - s.at) + (G.view s.input.now).left;
+  failures = (G.view s.input.now).failures;
+  source = s.input.ghost_name;
+}
 
 -- a code of which a piece arrived
 abbrev pub piece_view : {F : ℕ} → PieceCode F → EntityView

@@ -8,7 +8,7 @@ ghost use Rattle.t85_core.specs.Steps.Entity.{CodeEnds};
 ghost use Rattle.t85_core.specs.Steps.Segments.{IsByteOrMarker, code_bytes};
 
 use crate::fault::Fault;
-use crate::input_buffer::{ByteSource, plain_len};
+use crate::input_buffer::{ByteSource, HeldSource, plain_len};
 use crate::segments::{Code, ESCAPE, next_code};
 use qm_core::{CodeBytes, Pulled};
 
@@ -19,13 +19,9 @@ pub struct Piece<'a> {
 }
 
 impl ByteSource for Piece<'_> {
-    ghost view = { λ s. record {
-      known = Some s.rest.now;
-      beyond = Some [];
-      left = length s.rest.now;
-      failures = 0;
-      source = 0;
-    } };
+    ghost use Rattle.t85_core.specs.Steps.Views.{piece_source};
+
+    ghost view = { λ s. piece_source s };
 
     fn next(&mut self) -> Result<u8, Fault> {
         match self.rest {
@@ -54,6 +50,30 @@ impl ByteSource for Piece<'_> {
     fn skip_plain(&mut self) {
         let len = plain_len(self.rest);
         self.rest = &self.rest[len..];
+    }
+}
+
+impl HeldSource for Piece<'_> {
+    ghost use Rattle.t85_core.specs.Steps.Views.{piece_source};
+
+    ghost view = { λ s. piece_source s };
+
+    ghost bytes = { λ s. s.rest.now };
+
+    #[inline(always)]
+    fn held(&self) -> &[u8] {
+        self.rest
+    }
+
+    #[inline(always)]
+    fn keep(&mut self, left: usize) {
+        let held = self.rest.len();
+        self.rest = &self.rest[held - left.min(held)..];
+    }
+
+    fn refill(&mut self) -> Result<(), Fault> {
+        self.rest = &self.rest[self.rest.len()..];
+        Err(Fault::Truncated)
     }
 }
 

@@ -4,7 +4,7 @@ use crate::options::Options;
 use pbm_core::{row_bytes, DeviceFailed, Form, FromRead, Output};
 use raster_core::{window_bytes, Window};
 use std::io::{self, Write};
-use t85_core::{encode_in_memory, Fault, Learning, RowEncoder};
+use t85_core::{Fault, Learning, RowEncoder};
 
 /// Encodes an image, and returns the stream.
 ///
@@ -16,7 +16,7 @@ pub fn encode(image: &Image, options: &Options) -> Result<Vec<u8>, Error> {
     let mut memory = vec![0; window_bytes(image.width())];
     let mut window = Window::over(&mut memory, image.width());
     let mut output = Kept::new(Vec::new());
-    encode_in_memory(
+    t85_core::encode(
         image.size(),
         Form::Raw,
         &accepted,

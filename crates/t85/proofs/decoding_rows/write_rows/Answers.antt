@@ -9,10 +9,10 @@ returns-clause-writes c =
     let used = in_use c.args.header.now c.args.height c.requires.from c.requires.to in
     let o = c.outcomes.ensures.one_outcome (fields_of c.args.header.now) c.args.height c.args.body.now used (bytes_each c.args.body.now (λ i. omega (arith, c.type_inv.body i))) in
     rw c.answer_status.ensures
-    (rows_fit o c.requires.output c.decode_in_memory-answer.new.output c.decode_in_memory-answer.ensures.outcome (sym c.is_some.ensures ∙ c.if-is_some.false))
+    (rows_fit o c.requires.output c.decode_rows-answer.new.sink c.decode_rows-answer.ensures.rows (sym c.is_some.ensures ∙ c.if-is_some.false))
 
 pub returns-then-is_some-clause-writes : goal.returns-then-is_some-clause-writes
 returns-then-is_some-clause-writes c =
     let used = in_use c.args.header.now c.args.height c.requires.from c.requires.to in
     let o = c.outcomes.ensures.one_outcome (fields_of c.args.header.now) c.args.height c.args.body.now used (bytes_each c.args.body.now (λ i. omega (arith, c.type_inv.body i))) in
-    rows_fill o c.requires.output c.decode_in_memory-answer.new.output c.decode_in_memory-answer.ensures.outcome (sym c.is_some.ensures ∙ c.if-is_some.true)
+    rows_fill o c.requires.output c.decode_rows-answer.new.sink c.decode_rows-answer.ensures.rows (sym c.is_some.ensures ∙ c.if-is_some.true)

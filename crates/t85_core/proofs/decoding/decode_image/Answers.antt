@@ -1,25 +1,28 @@
-use Rattle.std.proofs.Common.{◌<◌, ◌∙◌, sym, refl, subst, arith}
+use Rattle.std.proofs.Common.{◌≡◌, ◌<◌, ◌∙◌, ap, length, sym, refl, subst, arith}
+use Rattle.std.specs.Prelude.{IfSome}
 use Rattle.std.specs.Io.KnownBytes.{Appends}
 use Rattle.pbm_core.specs.Device.{AppendsBeginning}
+use Rattle.raster_core.specs.Packed.{row_bytes}
 use Rattle.t85_core.specs.Options.{fields_of}
 use Rattle.t85_core.specs.Lent.{walk_lent}
 use Rattle.t85_core.specs.Steps.Buffers.{WritesOn, copies}
 use Rattle.t85_core.specs.Steps.DecodeStripes.{ImageUnwritten}
 use Rattle.t85_core.specs.Steps.Passage.{passage}
-use Rattle.t85_core.proofs.Bytes.Ends.{exit}
+use Rattle.t85_core.proofs.Bytes.Ends.{exit, map_if_some}
 use Rattle.t85_core.proofs.Walks.InfoEnds.{exit_all}
 use Rattle.t85_core.proofs.Decodings.ImagePut.{in_use, few_rows}
 use Rattle.t85_core.proofs.Decodings.PieceSteps.{over_done}
-use Rattle.t85_core.proofs.Decodings.WalkRead.{so_far_first, so_far_next, rows_few, image_off, image_off_begun, image_off_unwritten, image_whole, image_rows_unset}
+use Rattle.t85_core.proofs.Decodings.WalkRead.{so_far_first, so_far_next, rows_few, row_long, image_off, image_off_begun, image_off_unwritten, image_whole, image_rows_unset}
 use Rattle.t85_core.proofs.decoding.decode_image.Goals as goal
 
 pub rows-init : goal.rows-init
 rows-init g c = record {
-  so_far = so_far_first (fields_of c.args.image.now.header) c.args.image.now.height (walk_lent c.args.walk.now c.args.lent.now) _ _ c.requires.stands;
+  so_far = so_far_first (fields_of c.args.image.now.header) c.args.image.now.height (walk_lent c.start-walk.result c.start-walk.new.lent) _ _ c.start-walk.ensures.stands;
   unfailed = refl;
   unwritten = refl;
   grows = omega arith;
   same_source = refl;
+  same_row = refl;
   same_writer = refl;
 }
 
@@ -47,15 +50,24 @@ returns-then-count-eq0-clause-ok g c =
     image_whole (fields_of c.args.image.now.header) c.args.image.now.height (walk_lent c.rows.walk c.rows.lent)
     (walk_lent c.next_rows.new.walk c.next_rows.new.lent) _ _ _ _ _ _ c.rows.invariant.so_far done.0 (over_done _ done.1)
 
-pub returns-in_err-put_copies-clause-unwritten : goal.returns-in_err-put_copies-clause-unwritten
-returns-in_err-put_copies-clause-unwritten g c =
+pub returns-in_err-put_rows-clause-unwritten : goal.returns-in_err-put_rows-clause-unwritten
+returns-in_err-put_rows-clause-unwritten g c =
     let some : 0 < c.in_ok-count.count = omega (arith, c.if-count-eq0.false) in
-    exit (λ _. ImageUnwritten _ _ (passage _ _ _ _)) _ c.from_residual-in_err-put_copies.ensures.1
+    exit (λ _. ImageUnwritten _ _ (passage _ _ _ _)) _ c.from_residual-in_err-put_rows.ensures.1
     (image_rows_unset (fields_of c.args.image.now.header) c.args.image.now.height (walk_lent c.rows.walk c.rows.lent)
     (walk_lent c.next_rows.new.walk c.next_rows.new.lent) _ _ _ _ _ _ c.rows.invariant.so_far c.in_ok-count.count some
     (in_use c.args.image.now) c.coder_laws.ensures (c.in_ok-count.ensures.turn.some some) _
-    (subst (λ z. AppendsBeginning (g.P.ByteTarget.view c.rows.target).text (g.P.ByteTarget.view c.put_copies.new.target).text
-    (copies c.in_ok-count.count z)) c.row.ensures c.in_err-put_copies.ensures.cut))
+    (subst (λ z. AppendsBeginning (g.K.RowSink.view c.rows.sink).text (g.K.RowSink.view c.put_rows.new.self).text (copies c.in_ok-count.count z)) c.row.ensures c.in_err-put_rows.ensures.put.cut))
+
+pub put_rows-requires : goal.put_rows-requires
+put_rows-requires g c =
+    let some : 0 < c.in_ok-count.count = omega (arith, c.if-count-eq0.false) in
+    let long = row_long (fields_of c.args.image.now.header) c.args.image.now.height (walk_lent c.rows.walk c.rows.lent)
+    (walk_lent c.next_rows.new.walk c.next_rows.new.lent) _ _ _ _ _ _ c.rows.invariant.so_far c.in_ok-count.count some
+    (in_use c.args.image.now) c.coder_laws.ensures (c.in_ok-count.ensures.turn.some some) in
+    subst (λ z. IfSome z (λ n. length c.row.result.now ≡ n)) (sym c.rows.invariant.same_row)
+    (map_if_some (g.K.RowSink.row_bytes c.args.sink.now) {P = λ n. n ≡ row_bytes c.args.image.now.header.xd} {Q = λ n. length c.row.result.now ≡ n}
+    (λ n is. ap length c.row.ensures ∙ long ∙ sym is) c.requires.row)
 
 pub overflow_add-row : goal.overflow_add-row
 overflow_add-row g c =
@@ -82,10 +94,11 @@ rows-preserved g c =
       so_far = so_far_next (fields_of c.args.image.now.header) c.args.image.now.height (walk_lent c.rows.walk c.rows.lent)
           (walk_lent c.next_rows.new.walk c.next_rows.new.lent) _ _ _ _ _ _ c.rows.invariant.so_far c.in_ok-count.count some
           (in_use c.args.image.now) c.coder_laws.ensures (c.in_ok-count.ensures.turn.some some) _
-          (subst (λ z. Appends (g.P.ByteTarget.view c.rows.target).text (g.P.ByteTarget.view c.put_copies.new.target).text (copies c.in_ok-count.count z)) c.row.ensures c.in_ok-put_copies.ensures.ok);
+          (subst (λ z. Appends (g.K.RowSink.view c.rows.sink).text (g.K.RowSink.view c.put_rows.new.self).text (copies c.in_ok-count.count z)) c.row.ensures c.in_ok-put_rows.ensures.put.ok);
       unfailed = reads.counts ∙ c.rows.invariant.unfailed;
-      unwritten = c.in_ok-put_copies.ensures.counts ∙ c.rows.invariant.unwritten;
-      grows = (let more = c.in_ok-put_copies.ensures.grows in let before = c.rows.invariant.grows in omega (arith, more, before));
+      unwritten = c.in_ok-put_rows.ensures.put.counts ∙ c.rows.invariant.unwritten;
+      grows = (let more = c.in_ok-put_rows.ensures.put.grows in let before = c.rows.invariant.grows in omega (arith, more, before));
       same_source = reads.same_source ∙ c.rows.invariant.same_source;
-      same_writer = c.in_ok-put_copies.ensures.same_writer ∙ c.rows.invariant.same_writer;
+      same_row = c.in_ok-put_rows.ensures.same_row ∙ c.rows.invariant.same_row;
+      same_writer = c.in_ok-put_rows.ensures.put.same_writer ∙ c.rows.invariant.same_writer;
     }

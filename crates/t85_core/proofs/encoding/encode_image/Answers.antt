@@ -1,11 +1,13 @@
-use Rattle.std.proofs.Common.{◌≡◌, ◌++◌, ◌∷◌, [], ◌∙◌, refl, subst, arith, length-append}
+use Rattle.std.proofs.Common.{ℕ, List, Option, ◌≡◌, ◌++◌, ◌∷◌, [], ◌∙◌, refl, subst, ap, arith, length-append}
 use Rattle.pbm_core.specs.declared.fault.PbmFault.{PbmFault}
-use Rattle.raster_core.specs.Packed.{HasLines, white_lines}
+use Rattle.pbm_core.specs.declared.form.Form.{Form}
+use Rattle.raster_core.specs.Packed.{HasLines, Held, white_lines}
 use Rattle.raster_core.specs.Window.{held}
 use Rattle.t85_core.specs.declared.fault.Fault.{Fault}
 use Rattle.t85_core.specs.declared.fault.Fault.TheVariants.{Pbm}
 use Rattle.t85_core.specs.Options.{settings_of}
 use Rattle.t85_core.specs.Steps.ByRow.{view_of}
+use Rattle.t85_core.specs.Steps.EncodeRows.{EndsInRow, RowTaken}
 use Rattle.t85_core.specs.RowImage.{image_of}
 use Rattle.t85_core.proofs.Bytes.Ends.{map_ok, exit_of, err_of}
 use Rattle.t85_core.proofs.Bytes.Sendings.{here_sent}
@@ -30,11 +32,19 @@ rows-init g c =
       width = c.clear.ensures.width ∙ c.requires.width;
       lined = (white_lines c.args.size.width, white);
       reads = refl;
+      same_origin = refl;
       same_source = refl;
       writes = put.counts;
       grows = put.grows;
       same_writer = put.same_writer;
     }
+
+row_in : {a b : Form} {width : ℕ} {known known' : Option (List ℕ)} {old new : Held} → a ≡ b → RowTaken a width known known' old new → RowTaken b width known known' old new
+row_in {width = width} {known = known} {known' = known'} {old = old} {new = new} is taken = subst (λ form. RowTaken form width known known' old new) is taken
+
+ends_in : {a b : Form} {width : ℕ} {known known' : Option (List ℕ)} {one other : PbmFault} → a ≡ b → one ≡ other → EndsInRow a width known known' one → EndsInRow b width known known' other
+ends_in {b = b} {width = width} {known = known} {known' = known'} {one = one} form is ends =
+    subst (λ fault. EndsInRow b width known known' fault) is (subst (λ f. EndsInRow f width known known' one) form ends)
 
 same_fault : (a b : PbmFault) (e : Fault) → e ≡ Pbm a → e ≡ Pbm b → a ≡ b
 same_fault a b e p q = cc
@@ -46,7 +56,7 @@ returns-in_err-read_next_row-clause-short g c fault is =
     let short = c.in_err-read_next_row.ensures.short in
     exit_of c.from_residual-in_err-read_next_row.result c.from_residual-in_err-read_next_row.ensures.1 (λ told.
     front_short s c.args.size.height _ _ _ so.2 (omega arith)
-    (rw (← same_fault short.0 fault _ short.1 told) short.2)
+    (ends_in (ap (λ o. o.form) c.rows.invariant.same_origin) (same_fault short.0 fault _ short.1 told) short.2)
     (c.fronts.ensures (image_of s c.args.size.width c.args.size.height) so.0 (view_of c.rows.encoder c.rows.learning) (held c.rows.window) _ _ so.3)) is
 
 pub put_taken-requires-clause-lined : goal.put_taken-requires-clause-lined
@@ -56,8 +66,8 @@ pub returns-in_err-put_taken-clause-unwritten : goal.returns-in_err-put_taken-cl
 returns-in_err-put_taken-clause-unwritten g c is =
     let s = settings_of c.args.options.now in
     let so = c.rows.invariant.come in
-    let taken = c.in_ok-read_next_row.ensures.ok in
-    cut_refused s c.args.size.height (g.R.Input.view c.args.source.now).remaining _ _ (reads_join so.2 taken.read)
+    let taken = row_in (ap (λ o. o.form) c.rows.invariant.same_origin) c.in_ok-read_next_row.ensures.ok in
+    cut_refused s c.args.size.height (g.S.RowSource.view c.args.source.now).remaining _ _ (reads_join so.2 taken.read)
     (let sum = length-append so.0 (taken.row ∷ []) in omega arith)
     (c.in_err-put_taken.ensures.cut c.rows.invariant.going taken.row (held c.rows.window) taken.below (image_of s c.args.size.width c.args.size.height) so.0 _ so.3)
 
@@ -65,7 +75,7 @@ pub rows-preserved : goal.rows-preserved
 rows-preserved g c =
     let s = settings_of c.args.options.now in
     let so = c.rows.invariant.come in
-    let taken = c.in_ok-read_next_row.ensures.ok in
+    let taken = row_in (ap (λ o. o.form) c.rows.invariant.same_origin) c.in_ok-read_next_row.ensures.ok in
     record {
       come = (
         so.0 ++ taken.row ∷ [],
@@ -80,6 +90,7 @@ rows-preserved g c =
       width = c.in_ok-put_taken.ensures.window.0.0 ∙ c.in_ok-read_next_row.ensures.width ∙ c.rows.invariant.width;
       lined = c.in_ok-put_taken.ensures.lined;
       reads = c.in_ok-read_next_row.ensures.reads ∙ c.rows.invariant.reads;
+      same_origin = c.in_ok-read_next_row.ensures.same_origin ∙ c.rows.invariant.same_origin;
       same_source = c.in_ok-read_next_row.ensures.same_input.same_source ∙ c.rows.invariant.same_source;
       writes = (c.in_ok-put_taken.ensures.writes c.rows.invariant.going).counts ∙ c.rows.invariant.writes;
       grows = (let more = (c.in_ok-put_taken.ensures.writes c.rows.invariant.going).grows in let before = c.rows.invariant.grows in omega arith);
@@ -98,5 +109,5 @@ returns-clause-unwritten g c is =
     let s = settings_of c.args.options.now in
     let so = c.rows.invariant.come in
     let ended : c.rows.counter ≡ c.args.size.height = omega arith in
-    end_refused s c.args.size.height (g.R.Input.view c.args.source.now).remaining _ _ so.2 (so.1 ∙ ended)
+    end_refused s c.args.size.height (g.S.RowSource.view c.args.source.now).remaining _ _ so.2 (so.1 ∙ ended)
     (err_of c.end.result is (c.end.ensures.cut c.rows.invariant.going) (image_of s c.args.size.width c.args.size.height) so.0 _ so.3)

@@ -9,8 +9,8 @@ use Rattle.t85_core.proofs.encoding.encode_image.Given as goal
 
 abbrev pub invariant-rows : goal.invariant-rows
 invariant-rows g l = record {
-  come : ComeTo l.form (image_of (settings_of l.options) l.size.width l.size.height) l.counter
-      (passage (g.R.Input.view l.fn.source).remaining (g.R.Input.view l.source).remaining (g.P.ByteTarget.view l.fn.target).text (g.P.ByteTarget.view l.target).text)
+  come : ComeTo (g.S.RowSource.origin l.fn.source).form (image_of (settings_of l.options) l.size.width l.size.height) l.counter
+      (passage (g.S.RowSource.view l.fn.source).remaining (g.S.RowSource.view l.source).remaining (g.P.ByteTarget.view l.fn.target).text (g.P.ByteTarget.view l.target).text)
       (view_of l.encoder l.learning) (held l.window);
   going : l.encoder.is_closed ≡ false;
   ready : MayGoOn l.encoder;
@@ -18,8 +18,9 @@ invariant-rows g l = record {
   size_is : l.encoder.size ≡ l.size;
   width : width_of l.window ≡ l.size.width;
   lined : IsLined (held l.window);
-  reads : (g.R.Input.view l.source).failures ≡ (g.R.Input.view l.fn.source).failures;
-  same_source : (g.R.Input.view l.source).source ≡ (g.R.Input.view l.fn.source).source;
+  reads : (g.S.RowSource.view l.source).failures ≡ (g.S.RowSource.view l.fn.source).failures;
+  same_origin : g.S.RowSource.origin l.source ≡ g.S.RowSource.origin l.fn.source;
+  same_source : (g.S.RowSource.view l.source).source ≡ (g.S.RowSource.view l.fn.source).source;
   writes : (g.P.ByteTarget.view l.target).failures ≡ (g.P.ByteTarget.view l.fn.target).failures;
   grows : (g.P.ByteTarget.view l.fn.target).written ≤ (g.P.ByteTarget.view l.target).written;
   same_writer : (g.P.ByteTarget.view l.target).writer ≡ (g.P.ByteTarget.view l.fn.target).writer;
