@@ -56,8 +56,12 @@ static void ours_decode(void)
             end += piece < stream_len - end ? piece : stream_len - end;
         status = t85_decode_bytes(&decoder, stream + at, end - at, window, 3 * row, &taken, &place);
         at += taken;
-        if (status == T85_ROW)
-            memcpy(back + row * given++, window + place, row);
+        if (status == T85_ROW) {
+            uint8_t *last = memcpy(back + row * given++, window + place, row);
+            uint32_t count = t85_decode_again(&decoder, window, 3 * row);
+            for (; count > 0; count--)
+                memcpy(back + row * given++, last, row);
+        }
     }
     if (status || given != height)
         stop("t85_decode_bytes");

@@ -435,6 +435,16 @@ uint8_t t85_decode_bytes(t85_decoder *decoder, const uint8_t *bytes, size_t len,
 T85_NO_NULL((1, 4))
 uint8_t t85_decode_end(t85_decoder *decoder, uint8_t *window, size_t window_len, size_t *row);
 
+/* Decodes further rows that equal the row returned last, and returns how many. Call it after
+   T85_ROW, with the same window, once you have read the row. These rows count as returned: the
+   next call of t85_decode_bytes or t85_decode_end returns the row behind them. A page with much
+   white is decoded several times as fast, since many rows are decoded at once.
+
+   Returns 0 if the next row may differ, has not arrived, or is above the limit, and if
+   t85_decode_bytes would return 19 or 53. Then nothing is changed. */
+T85_NO_NULL((1))
+uint32_t t85_decode_again(t85_decoder *decoder, uint8_t *window, size_t window_len);
+
 /* Consumes what still belongs to the stream, after t85_decode_bytes has returned 0: the empty
    stripe data entity behind a height (NEWLEN) that followed the last stripe, if there is one. Pass
    the bytes that were not consumed, and those that follow them.
@@ -715,6 +725,9 @@ size_t t85_message(uint8_t status, uint8_t *text, size_t room);
 
 #define t85_decode_end(decoder, window, window_len, row) \
     t85_decode_end(decoder, t85_room_or_nothing(window), window_len, row)
+
+#define t85_decode_again(decoder, window, window_len) \
+    t85_decode_again(decoder, t85_room_or_nothing(window), window_len)
 
 #define t85_decode_rest(decoder, bytes, len, taken) \
     t85_decode_rest(decoder, t85_bytes_or_nothing(bytes), len, taken)

@@ -101,12 +101,22 @@ static void takes_rest(t85_decoder *decoder, uint8_t status, buffer stream, size
         fail("t85_decode_rest: goes on behind the stream");
 }
 
-/* Decodes in pieces of `step` bytes, with a decoder and a window that move before each call. */
-static void decode_pieces_in(buffer stream, uint32_t width, uint8_t wanted, buffer rows, size_t step)
+/* Compares `count` rows, as far as there are expected ones, with a row. */
+static void equal_rows(const uint8_t *row, size_t bytes, buffer rows, size_t given, uint32_t count, size_t step)
+{
+    for (; count > 0 && (given + 1) * bytes <= rows.len; given++, count--)
+        if (memcmp(row, rows.bytes + given * bytes, bytes))
+            fail("row %zu is another, in pieces of %zu", given, step);
+}
+
+/* Decodes in pieces of `step` bytes, with a decoder and a window that move before each call. If
+   `repeats` is set, rows that equal the one before are decoded by t85_decode_again. */
+static void decode_pieces_in(buffer stream, uint32_t width, uint8_t wanted, buffer rows, size_t step,
+                             bool repeats)
 {
     size_t row = t85_row_bytes(width), at = 0, given = 0, len, taken, place, turn = 0;
-    uint32_t certain = 0;
-    buffer windows[2], states[2];
+    uint32_t certain = 0, again;
+    buffer windows[2], states[2], last = filled(row);
     t85_decoder *decoder;
     uint8_t status = T85_MORE;
     for (turn = 0; turn < 2; turn++) {
@@ -127,10 +137,12 @@ static void decode_pieces_in(buffer stream, uint32_t width, uint8_t wanted, buff
         if (taken > len || (status == T85_MORE && taken != len))
             fail("t85_decode_bytes: takes %zu bytes of %zu", taken, len);
         at += taken;
-        if (status == T85_ROW && given * row < rows.len &&
-            memcmp(windows[turn].bytes + place, rows.bytes + given * row, row))
-            fail("t85_decode_bytes: row %zu is another, in pieces of %zu", given, step);
-        given += status == T85_ROW;
+        if (status == T85_ROW) {
+            memcpy(last.bytes, windows[turn].bytes + place, row);
+            again = repeats ? t85_decode_again(decoder, windows[turn].bytes, windows[turn].len) : 0;
+            equal_rows(last.bytes, row, rows, given, 1 + again, step);
+            given += 1 + again;
+        }
         if (t85_decode_certain(decoder) < certain)
             fail("t85_decode_certain: %u after %u", t85_decode_certain(decoder), certain);
         certain = t85_decode_certain(decoder);
@@ -153,6 +165,7 @@ static void decode_pieces_in(buffer stream, uint32_t width, uint8_t wanted, buff
         give_back(states[turn]);
         give_back(windows[turn]);
     }
+    give_back(last);
 }
 
 /* Decodes in pieces of several lengths. */
@@ -161,7 +174,7 @@ static void decode_pieces(buffer stream, uint32_t width, uint8_t wanted, buffer 
     static const size_t steps[] = {1, 7, 40, 1500};
     size_t i;
     for (i = 0; i < sizeof steps / sizeof *steps; i++)
-        decode_pieces_in(stream, width, wanted, rows, steps[i]);
+        decode_pieces_in(stream, width, wanted, rows, steps[i], i % 2);
 }
 
 /* Decodes the stream when others follow it, and lists its parts, each of which begins where the
@@ -373,7 +386,7 @@ static void cut_anywhere(buffer stream, buffer rows)
         status = t85_decode_rows(lent.bytes, lent.len, UINT32_MAX, t85_row_bytes(fields.width), window.bytes,
                                  window.len, rows.bytes, rows.len, &written);
         all.len = written * t85_row_bytes(fields.width);
-        decode_pieces_in(lent, fields.width, status, all, 1 + roll(roll(2) ? 20 : 1000));
+        decode_pieces_in(lent, fields.width, status, all, 1 + roll(roll(2) ? 20 : 1000), roll(2));
         give_back(window);
     }
     give_back(lent);

@@ -10,7 +10,7 @@ const isWide = typeof calls.t85_window_bytes(8) === "bigint", called = new Set()
 const KINDS = {
   t85_version: "", t85_window_bytes: "w", t85_message: "wpp", t85_header: "ppp", t85_info: "ppp", t85_stream_facts: "ppp", t85_next_part: "ppp",
   t85_encode: "wwppppppppppp", t85_encode_bound: "wwpp", t85_decode: "ppwppppp", t85_decode_rows: "ppwpppppp", t85_decode_start: "ppw",
-  t85_decode_bytes: "ppppppp", t85_decode_end: "pppp", t85_decode_rest: "pppp", t85_decode_height: "p", t85_decode_certain: "p", t85_encode_start: "ppwwpppppppp",
+  t85_decode_bytes: "ppppppp", t85_decode_end: "pppp", t85_decode_again: "ppp", t85_decode_rest: "pppp", t85_decode_height: "p", t85_decode_certain: "p", t85_encode_start: "ppwwpppppppp",
   t85_encode_row: "pppppppp", t85_encode_offset: "pw", t85_best_offset: "pppppppp", t85_choice_start: "ppwp", t85_choice_row: "ppppp",
   t85_choice_offset: "pwp", t85_encode_end: "pppppp", t85_encode_abort: "pppp", t85_encode_rows_left: "p", t85_encode_room: "p",
   t85_pbm_start: "pp", t85_pbm_header: "pppp", t85_pbm_row: "pppppp", t85_pbm_end: "p",
@@ -97,6 +97,7 @@ assert.deepEqual([call("t85_decode_bytes", decoder, sound, 23, window, 0, taken,
 assert.equal(call("t85_decode_bytes", decoder, sound + 20, 3, window, 2, taken, row), 19);
 assert.equal(call("t85_decode_bytes", decoder, sound + 20, 3, window, 3, taken, row), 61);
 assert.equal(bytes(window + word(row), 1)[0], 0xff);
+assert.equal(call("t85_decode_again", decoder, window, 3), 0);
 const left = 3 - word(taken);
 if (left > 0) call("t85_decode_bytes", decoder, sound + 23 - left, left, window, 3, taken, row);
 assert.equal(call("t85_decode_rest", decoder, sound, 0, taken), 53);

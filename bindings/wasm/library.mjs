@@ -9,7 +9,7 @@ const WASM_PAGE = 65536, ALIGNMENT = 16, PBM_BYTES = 64;
 const CALLS = {
   t85_version: "w", t85_message: "wppp", t85_window_bytes: "wp", t85_header: "pppw", t85_info: "pppw", t85_stream_facts: "pppw",
   t85_next_part: "pppw", t85_decode_start: "ppww", t85_decode_bytes: "pppppppw", t85_decode_end: "ppppw", t85_decode_height: "pw",
-  t85_decode_certain: "pw", t85_encode: "wwppppppppppppw", t85_pbm_start: "ppw", t85_pbm_header: "ppppw", t85_pbm_row: "ppppppw",
+  t85_decode_certain: "pw", t85_decode_again: "pppw", t85_encode: "wwppppppppppppw", t85_pbm_start: "ppw", t85_pbm_header: "ppppw", t85_pbm_row: "ppppppw",
   t85_pbm_end: "pw",
 };
 

@@ -227,6 +227,7 @@ def _load() -> ctypes.CDLL:
         "t85_decode_start": (c_uint8, [POINTER(_Decoder), size, word]),
         "t85_decode_bytes": (c_uint8, [POINTER(_Decoder), *read, *write, POINTER(size), POINTER(size)]),
         "t85_decode_end": (c_uint8, [POINTER(_Decoder), *write, POINTER(size)]),
+        "t85_decode_again": (word, [POINTER(_Decoder), *write]),
         "t85_decode_rest": (c_uint8, [POINTER(_Decoder), *read, POINTER(size)]),
         "t85_decode_height": (word, [POINTER(_Decoder)]),
         "t85_decode_certain": (word, [POINTER(_Decoder)]),
@@ -703,7 +704,7 @@ class Decoder:
                 self.header = header(self._front)
                 self._window = _window(self.header.width)
             elif self._status == _numbers.ROW:
-                yield self._row(row.value)
+                yield from self._equal_rows(row.value)
             else:
                 self.unused = piece
                 self.is_done = not self._status
@@ -718,11 +719,15 @@ class Decoder:
             if self._status != _numbers.ROW:
                 self.is_done = not self._status
                 return
-            yield self._row(row.value)
+            yield from self._equal_rows(row.value)
 
-    def _row(self, place: int) -> bytes:
+    def _equal_rows(self, place: int) -> Iterator[bytes]:
+        """Yields the row at this place of the window, and the rows behind it that equal it."""
         assert self.header is not None
-        return self._window.raw[place : place + _row_bytes(self.header.width)]
+        row = self._window.raw[place : place + _row_bytes(self.header.width)]
+        yield row
+        for _ in range(_LIBRARY.t85_decode_again(byref(self._state), self._window, len(self._window))):
+            yield row
 
     def _raise_error(self, rows: list[bytes]) -> None:
         """Raises the stream's error, if there is one, with the rows of the call."""

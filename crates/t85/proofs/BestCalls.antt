@@ -1,10 +1,10 @@
 -- The best offset for the next stripe of an encoder that a C caller holds.
-use Rattle.std.proofs.Common.{◌≡◌, ◌≤◌, ◌<◌, ◌+◌, ◌-◌, ◌*◌, ◌/◌, ◌%◌, ℕ, zero, suc, ◌==◌, Bool, true, false, not, ◌||◌, ◌&&◌, nat_lt, nat_le, List, [], ◌∷◌, ◌++◌, length, take, drop, Option, None, Some, refl, sym, ap, subst, ◌∙◌, arith, length-take-le, true≢false, take_all, drop-drop, length-drop}
+use Rattle.std.proofs.Common.{◌≡◌, ◌≤◌, ◌<◌, ◌+◌, ◌-◌, ◌*◌, ◌/◌, ◌%◌, ℕ, zero, suc, ◌==◌, Bool, true, false, not, ◌||◌, ◌&&◌, nat_lt, nat_le, List, [], ◌∷◌, ◌++◌, length, take, drop, Option, None, Some, refl, sym, ap, subst, ◌∙◌, arith, length-take-le, true≢false}
 use Rattle.std.specs.Prelude.{is_some, map, min, slice_range, if◌then◌else◌, unwrap_or}
 use Rattle.std.specs.Int.{div_ceil}
 use Rattle.std.proofs.lemmas.Bool.Decides.{nat_tests}
 use Rattle.std.proofs.Math.Nat.{add-mul, mul-div_cancel, mul-mod_left, mul-le-mul_right}
-use Rattle.std.proofs.lemmas.List.{drop-take, take-take, take-append-drop}
+use Rattle.std.proofs.lemmas.List.{drop-take, take-take}
 use Rattle.std.proofs.lemmas.Slice.{drop-append-drop}
 use Rattle.pbm_core.specs.Image.{pixels_of}
 use Rattle.pbm_core.specs.Pbm.{bytes_of_row}
@@ -13,7 +13,6 @@ use Rattle.t85_core.specs.Steps.RowCalls.{takes_name}
 use Rattle.t85_core.specs.Steps.ByRow.{view_of}
 use Rattle.t85_core.specs.Steps.Sent.{behind}
 use Rattle.t85_core.specs.Steps.Trial.{FindsOffset, all_rows_in, are_stripe_rows, may_come_next, packed_rows}
-use Rattle.raster_core.specs.Packed.{row_placed, rows_at}
 use Rattle.raster_core.specs.Raster.{height}
 use Rattle.raster_core.specs.Window.{held as rows_held, width_of}
 use Rattle.raster_core.specs.declared.window.Window.{Window}
@@ -28,7 +27,7 @@ use Rattle.t85.specs.BestOffset.{FindsBest, IsBestNext, are_too_few, best_memory
 use Rattle.t85.specs.declared.encoder.T85Encoder.{T85Encoder}
 use Rattle.t85.proofs.EncoderCalls.{ready_begun, ready_ended, window_alone}
 use Rattle.t85.proofs.EncoderSteps.{IsLent, offers_same, stands_lent}
-use Rattle.t85.proofs.Windows.{window_rows}
+use Rattle.t85.proofs.Windows.{same_memory, window_rows}
 
 -- ---- the stripe's rows
 
@@ -190,26 +189,6 @@ best_found {d} {e} {rows} {scratch = scratch} {best = best} {used} {needed} scra
     }
 
 -- ---- the engine's result
-
--- the memory of a window is its three rows
-three_rows : (l : ℕ) (m : List ℕ) → length m ≡ 3 * l → row_placed l m 0 ++ (row_placed l m 1 ++ row_placed l m 2) ≡ m
-three_rows l m long =
-    let first : 0 * l ≡ 0 = omega arith in
-    let next : 1 * l ≡ l = omega arith in
-    let last : 2 * l ≡ l + l = omega arith in
-    let short : length (drop l (drop l m)) ≤ l = omega (arith, length-drop l (drop l m), length-drop l m, long) in
-    rw (first, next, last, ← drop-drop l l m, take_all l (drop l (drop l m)) short, take-append-drop l (drop l m)) (take-append-drop l m)
-
-same_three : {m m' : List ℕ} (l : ℕ) → length m ≡ 3 * l → length m' ≡ 3 * l → row_placed l m 0 ≡ row_placed l m' 0 → row_placed l m 1 ≡ row_placed l m' 1 →
-    row_placed l m 2 ≡ row_placed l m' 2 → m ≡ m'
-same_three {m} {m'} l long long' first next last = sym (three_rows l m long) ∙ rw (first, next, last) (three_rows l m' long')
-
--- so the same rows are in the same memory
-same_memory : {m m' : List ℕ} (width place : ℕ) → place < 3 → length m ≡ 3 * div_ceil width 8 → length m' ≡ 3 * div_ceil width 8 → rows_at place width m ≡ rows_at place width m' → m ≡ m'
-same_memory width zero small long long' same = same_three (div_ceil width 8) long long' (ap (λ w. w.current) same) (ap (λ w. w.above) same) (ap (λ w. w.second) same)
-same_memory width (suc zero) small long long' same = same_three (div_ceil width 8) long long' (ap (λ w. w.second) same) (ap (λ w. w.current) same) (ap (λ w. w.above) same)
-same_memory width (suc (suc zero)) small long long' same = same_three (div_ceil width 8) long long' (ap (λ w. w.above) same) (ap (λ w. w.second) same) (ap (λ w. w.current) same)
-same_memory width (suc (suc (suc place))) small long long' same = absurd (omega (arith, small))
 
 pub window_kept : {d : T85Encoder} {e : RowEncoder} {memory : List ℕ} {window : Window} → IsLent d e memory window → width_of window ≡ d.width → window.rows.now ≡ memory
 window_kept {d} {window = window} lent wide =

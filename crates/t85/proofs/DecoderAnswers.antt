@@ -202,6 +202,7 @@ module _ {old kept : T85Decoder} {memory memory' : List ℕ} {header : Header} {
       told_as answer.Row is.what_is tt (λ stream out k. record {
         row = row';
         stands = stands_placed (div_ceil header.xd 8) kept.place told.row memory' done.small done.long' at;
+        place_is = at ∙ ap (λ w. kept.place * w) (sym (row_long ∙ ap (λ f. div_ceil f.xd 8) fields_same)) ∙ ap (λ n. n * length row') (sym is.counts.place);
         has = record {
           rows = rows_moved (one_moved is.counts) (with_row e1 k);
           count_is = length-append out row' ∙ one_more (length out) (length row') kept.given new.given (div_ceil e'.image.header.xd 8) (count_of k) row_long is.counts.given;

@@ -1,5 +1,5 @@
 -- A decoder that a C caller holds.
-use Rattle.std.proofs.Common.{◌≡◌, ◌≤◌, ◌<◌, ◌⊎◌, inl, inr, ℕ, Bool, List, None, ◌++◌, length, take, refl, sym, ap, subst, ◌∙◌, arith, append_assoc, length-take, take_all}
+use Rattle.std.proofs.Common.{◌≡◌, ◌≤◌, ◌<◌, ◌*◌, ◌⊎◌, inl, inr, ℕ, Bool, List, None, ◌++◌, length, take, drop, take-append-drop, refl, sym, ap, subst, ◌∙◌, arith, append_assoc, length-take, take_all}
 use Rattle.std.proofs.lemmas.List.{take-append-le}
 use Rattle.qm_core.specs.Place.{Estimate}
 use Rattle.raster_core.specs.Packed.{Held, rows_at}
@@ -15,8 +15,10 @@ use Rattle.t85_core.specs.Numbers.{ArePieceNumbers, StaysInImage}
 use Rattle.t85_core.specs.Options.{fields_of}
 use Rattle.t85_core.specs.Outcomes.{end_in}
 use Rattle.t85_core.specs.Pieces.{AreCertain, HasDecoded, IsLeastHeight}
+use Rattle.t85_core.specs.Steps.Buffers.{copies}
 use Rattle.t85.specs.Decoded.{window_bytes}
-use Rattle.t85.specs.Decoder.{Answers, BytesCall, DecoderIsNotBegun, GivesRowAt, HasNoDecoder, IsShort, LacksWindow, TellsCertain, bytes_of_call, bytes_call}
+use Rattle.t85.specs.Decoder.{Answers, BytesCall, DecoderIsNotBegun, GivesRowAt, HasNoDecoder, IsShort, LacksWindow, StandAt, TellsCertain, bytes_of_call, bytes_call}
+use Rattle.t85.specs.DecoderAgain.{ReturnsAgain}
 use Rattle.t85.specs.DecoderLimit.{IsWithinLimit, StaysWithinLimit}
 use Rattle.t85.specs.DecoderState.{CountsRows, HasRead, Hold, InRows, hold_of}
 use Rattle.t85.specs.DecoderSteps.{CountsOneMore, IsOfEngine, IsToldOf}
@@ -147,6 +149,15 @@ read_with d memory memory' same stream out (inl h) = inl h
 read_with d memory memory' same stream out (inr (inl h)) = inr (inl h)
 read_with d memory memory' same stream out (inr (inr k)) = inr (inr (counted_with d memory memory' stream out k (same stream out k.rows)))
 
+-- bytes that are part of others are part of longer ones
+stands_before : {place : ℕ} {bytes others : List ℕ} (rest : List ℕ) → StandAt place bytes others → StandAt place bytes (others ++ rest)
+stands_before {place} {bytes} rest s = record {
+  front = s.front;
+  back = s.back ++ rest;
+  others_are = rw (s.others_are, append_assoc s.front (bytes ++ s.back) rest, append_assoc bytes s.back rest);
+  place_is = s.place_is;
+}
+
 module _ (laws : HeaderLaws) (d d' : T85Decoder) (window memory' rest : List ℕ) (needed : ℕ) (header : Header) (header_of : HeaderOf d.header (fields_of header)) (same : d'.header ≡ d.header)
     (needed_is : needed ≡ window_bytes header.xd) (long' : length memory' ≡ needed) where
   wide : (hold : Hold) (stream out : List ℕ) → hold.decoder.header ≡ d.header → (k : InRows hold stream out) → window_bytes k.decoder.image.header.xd ≡ needed
@@ -165,16 +176,27 @@ module _ (laws : HeaderLaws) (d d' : T85Decoder) (window memory' rest : List ℕ
   unfolding rows_with counted_with
   row_back call stream out g = record {
     row = g.row;
-    stands = record {
-      front = g.stands.front;
-      back = g.stands.back ++ rest;
-      others_are = rw (g.stands.others_are, append_assoc g.stands.front (g.row ++ g.stands.back) rest, append_assoc g.row g.stands.back rest);
-      place_is = g.stands.place_is;
-    };
+    stands = stands_before rest g.stands;
+    place_is = g.place_is;
     has = counted_with d' memory' (memory' ++ rest) stream (out ++ g.row) g.has (same_back stream (out ++ g.row) g.has.rows);
     whole = g.whole;
     within = g.within;
   }
+
+  -- rows that were returned again
+  pub again_cut : {count : ℕ} → ((stream out : List ℕ) → HasRead (hold_of d (take needed window)) stream out →
+      ReturnsAgain (hold_of d (take needed window)) (hold_of d' memory') count stream out) →
+      (stream out : List ℕ) → HasRead (hold_of d window) stream out → ReturnsAgain (hold_of d window) (hold_of d' (memory' ++ rest)) count stream out
+  unfolding rows_with counted_with
+  again_cut {count} returns stream out h =
+      let g = returns stream out (lent stream out h) in
+      record {
+        row = g.row;
+        stands = subst (StandAt (d.place * length g.row) g.row) (take-append-drop needed window) (stands_before (drop needed window) g.stands);
+        stays = stands_before rest g.stays;
+        has = counted_with d' memory' (memory' ++ rest) stream (out ++ copies count g.row) g.has (same_back stream (out ++ copies count g.row) g.has.rows);
+        whole = g.whole;
+      }
 
   pub window_cut : (call : BytesCall) (what : Answer) → IsOfEngine what → Answers (HasRead (hold_of d (take needed window))) (hold_of d (take needed window)) (hold_of d' memory') call what →
       Answers (HasRead (hold_of d window)) (hold_of d window) (hold_of d' (memory' ++ rest)) call what

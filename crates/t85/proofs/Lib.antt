@@ -1,3 +1,4 @@
+pub mod DecoderAgain
 pub mod DecoderAnswers
 pub mod DecoderCalls
 pub mod DecoderHeader

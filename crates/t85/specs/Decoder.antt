@@ -1,5 +1,5 @@
 -- The effect of the calls of a decoder in a C caller's struct.
-use Rattle.std.specs.Prelude.{ℕ, ◌+◌, ◌≡◌, ◌≢◌, ◌≤◌, ◌<◌, ◌⊎◌, ◌==◌, ◌||◌, ◌&&◌, not, if◌then◌else◌, Bool, true, false, List, [], ◌++◌, length, take, drop, Some}
+use Rattle.std.specs.Prelude.{ℕ, ◌+◌, ◌*◌, ◌≡◌, ◌≢◌, ◌≤◌, ◌<◌, ◌⊎◌, ◌==◌, ◌||◌, ◌&&◌, not, if◌then◌else◌, Bool, true, false, List, [], ◌++◌, length, take, drop, Some}
 use Rattle.std.specs.Int.{div_ceil}
 use Rattle.t85_core.specs.declared.fault.Fault.{Fault}
 use Rattle.t85_core.specs.declared.fault.Fault.TheVariants.{Truncated}
@@ -59,10 +59,11 @@ pub record StandAt (place : ℕ) (bytes others : List ℕ) : Type 0 where
   pub others_are : others ≡ front ++ (bytes ++ back)
   pub place_is : length front ≡ place
 
--- One more row was returned, and with it no more than the limit. It is in the window, packed.
+-- One more row was returned, and with it no more than the limit. It is in the window, packed, at the struct's place.
 pub record GivesRowAt (new : Hold) (call : BytesCall) (stream out : List ℕ) : Type 0 where
   pub row : List ℕ
   pub stands : StandAt call.row row new.window
+  pub place_is : call.row ≡ new.decoder.place * length row
   pub has : CountsRows new stream (out ++ row)
   pub whole : length row ≡ div_ceil has.rows.decoder.image.header.xd 8
   pub within : new.decoder.given ≤ new.decoder.max_rows

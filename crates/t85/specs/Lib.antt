@@ -9,6 +9,7 @@ pub mod Summary
 pub mod Decoded
 pub mod DecodedRows
 pub mod Decoder
+pub mod DecoderAgain
 pub mod DecoderLimit
 pub mod DecoderStart
 pub mod DecoderRest

@@ -7,6 +7,7 @@ ghost use Rattle.t85.specs.DecoderState.{HasRead, height_of_decoder, hold_of};
 ghost use Rattle.t85.specs.DecoderStart.{IsDecoderBegun};
 ghost use Rattle.t85.specs.declared.decoder.Answer.TheVariants as answer;
 
+pub mod again;
 mod header;
 mod limit;
 pub mod rest;

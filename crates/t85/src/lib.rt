@@ -32,6 +32,7 @@ ghost use Rattle.std.specs.Prelude.{◌≡◌};
 ghost use Rattle.t85.specs.Decoded.{window_bytes};
 
 pub use crate::choice::{T85Choice, t85_choice_offset, t85_choice_row, t85_choice_start};
+pub use crate::decoder::again::t85_decode_again;
 pub use crate::decoder::rest::t85_decode_rest;
 pub use crate::decoder::{
     T85Decoder, t85_decode_bytes, t85_decode_certain, t85_decode_end, t85_decode_height,

@@ -1,6 +1,7 @@
 //! Tests of the library's functions on worked examples.
 
 mod abort;
+mod again;
 mod choice;
 mod decoding;
 mod decoding_rows;

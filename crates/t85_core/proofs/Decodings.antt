@@ -34,6 +34,7 @@ pub mod PieceLate
 pub mod PieceInTime
 pub mod PieceStood
 pub mod PieceFeeds
+pub mod PieceRepeats
 pub mod PieceNumbers
 pub mod PieceLook
 pub mod LookOver

@@ -25,6 +25,7 @@ pub mod Lent
 pub mod Phases
 pub mod Pieces
 pub mod Feeds
+pub mod Repeats
 pub mod Numbers
 pub mod RowNumbers
 pub mod RowImage

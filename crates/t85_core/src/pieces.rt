@@ -15,6 +15,7 @@ pub mod held;
 pub mod numbers;
 pub mod phase;
 pub mod piece;
+mod repeat;
 pub mod rows;
 pub mod steps;
 pub mod walk;

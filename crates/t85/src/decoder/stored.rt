@@ -39,6 +39,7 @@ impl T85Decoder {
     pub(super) fn keep(&mut self, decoder: &PieceDecoder, place: u8)
         ensures numbers { ArePieceNumbers self.new.numbers decoder.now }
         ensures place { self.new.place ≡ place }
+        ensures held { bytes_held_by self.new ≡ bytes_held_by self.old }
         ensures same { KeepsRest self.old self.new }
     {
         decoder.store(&mut self.numbers);

@@ -44,7 +44,7 @@ impl InCode {
     ghost use Rattle.t85_core.specs.Steps.Buffers.{copies};
     ghost use Rattle.t85_core.specs.Steps.InTime.{ReachesMarker};
     ghost use Rattle.t85_core.specs.Steps.PieceCode.{MarkerIs, MarkerRead};
-    ghost use Rattle.t85_core.specs.Steps.Pieces.{AfterRows, SomeStands, Step, WalkStands};
+    ghost use Rattle.t85_core.specs.Steps.Pieces.{AfterRows, KeepsStripes, SomeStands, Step, WalkStands};
     ghost use Rattle.t85_core.specs.Steps.SizedImage.{sized_of};
 
     /// Before the first row of a stripe with this move. The first element of its code has been read.
@@ -79,26 +79,35 @@ impl InCode {
         matches!(self.end_marker(), Some(true))
     }
 
-    /// Decodes rows that equal the one before, if the bits already read determine them, and returns how many. The
-    /// window contains the last of them.
+    /// Decodes rows that equal the one before, at most `most`, if the bits already read determine them, and returns how
+    /// many. The window contains the last of them.
     #[inline(always)]
     pub fn repeat(
         &mut self,
         image: &SizedImage,
         course: &mut Course,
         lent: &mut Lent<'_, '_>,
+        most: u32,
     ) -> u32
         ensures on { (text out : List ℕ) → WalkStands (sized_of image.now) (code_lent course.old
             self.old lent.old) text out → WalkStands (sized_of image.now) (code_lent course.new
             self.new lent.new) text (out ++ copies result (held lent.new.window.now).current) }
+        ensures few { result ≤ most }
         ensures begun { 0 < result → self.new.begun ≡ None }
+        ensures row { (held lent.new.window.now).current ≡ (held lent.old.window.now).current }
+        ensures same { (self.new.first ≡ self.old.first) × (self.new.marker ≡ self.old.marker) ×
+            (course.new.given ≡ course.old.given) }
+        ensures stripe { KeepsStripes course.old course.new }
+        ensures none { result ≡ 0 → (self.new ≡ self.old) × (course.new ≡ course.old) ×
+            (lent.new.window.now ≡ lent.old.window.now) ×
+            (lent.new.learned.now ≡ lent.old.learned.now) }
         ensures lent { KeepsLent lent.old lent.new }
     {
         let rows = course.left.min(image.header.l0);
         if self.begun.is_some() || self.row >= rows || !is_settled(self.at, self.row) {
             return 0;
         }
-        let (shape, left) = (image.header.shape(), rows - self.row);
+        let (shape, left) = (image.header.shape(), (rows - self.row).min(most));
         let count = skip_many(shape, course.kept, lent.learned, &mut course.decoder, left);
         if count == 0 {
             return 0;

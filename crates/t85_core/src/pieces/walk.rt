@@ -43,7 +43,7 @@ impl Walk {
         ensures code { 0 < result → (over self.new lent.new).stage ≡ stage.Code }
     {
         match &mut self.stage {
-            Stage::Code(code) => code.repeat(image, &mut self.course, lent),
+            Stage::Code(code) => code.repeat(image, &mut self.course, lent, u32::MAX),
             _ => 0,
         }
     }

@@ -1,0 +1,67 @@
+//! Rows of a stream in pieces that equal the one before.
+
+ghost use Rattle.std.specs.Prelude.{◌≡◌};
+ghost use Rattle.t85_core.specs.Lent.{KeepsLent, KeepsWindow, decoder_lent, decoder_over};
+ghost use Rattle.t85_core.specs.Repeats.{Repeats};
+
+use crate::lent::Lent;
+use crate::pieces::PieceDecoder;
+use crate::pieces::course::Stage;
+use crate::pieces::phase::Phase;
+use qm_core::Learned;
+use raster_core::Window;
+
+impl PieceDecoder {
+    /// Decodes further rows, at most `most`, that equal the row decoded last, and returns how many. These rows count as
+    /// returned; the window contains the last of them. It stops before a row that may differ, or whose code has not
+    /// arrived. It may return 0 in any case.
+    pub fn repeat(&mut self, window: &mut Window<'_>, learned: &mut Learned, most: u32) -> u32
+        ensures repeats { Repeats most (decoder_over self.old window.old learned.old)
+            (decoder_over self.new window.new learned.new) result }
+        ensures window { KeepsWindow window.old window.new }
+        ensures none { result ≡ 0 → window.new ≡ window.old }
+    {
+        let mut lent = Lent { window, learned };
+        self.repeat_all(&mut lent, most)
+    }
+
+    /// Decodes such rows as long as there are any.
+    fn repeat_all(&mut self, lent: &mut Lent<'_, '_>, most: u32) -> u32
+        ensures repeats { Repeats most (decoder_lent self.old lent.old)
+            (decoder_lent self.new lent.new) result }
+        ensures lent { KeepsLent lent.old lent.new }
+        ensures none { result ≡ 0 → lent.new.window.now ≡ lent.old.window.now }
+    {
+        let mut count = 0;
+        'rows: while count < most {
+            let more = self.repeat_some(lent, most - count);
+            if more == 0 {
+                return count;
+            }
+            count += more;
+        }
+        count
+    }
+
+    /// Decodes several such rows at once.
+    fn repeat_some(&mut self, lent: &mut Lent<'_, '_>, most: u32) -> u32
+        ensures repeats { Repeats most (decoder_lent self.old lent.old)
+            (decoder_lent self.new lent.new) result }
+        ensures lent { KeepsLent lent.old lent.new }
+        ensures none { result ≡ 0 → lent.new.window.now ≡ lent.old.window.now }
+    {
+        match &mut self.phase {
+            Phase::Known(stage) => match stage {
+                Stage::Code(code) => code.repeat(&self.image, &mut self.course, lent, most),
+                _ => 0,
+            },
+            Phase::Code(code) => {
+                if code.end_marker().is_some() {
+                    return 0;
+                }
+                code.repeat(&self.image, &mut self.course, lent, most)
+            }
+            _ => 0,
+        }
+    }
+}
