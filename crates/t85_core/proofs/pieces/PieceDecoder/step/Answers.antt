@@ -1,5 +1,4 @@
-use Rattle.std.proofs.Common.{◌≡◌, ◌++◌, ◌∙◌, [], true, false, Ok, Err, None, Some, Option, refl, ap, sym, subst, inr, true≢false, rules}
-use Rattle.std.specs.Prelude.{is_some}
+use Rattle.std.proofs.Common.{◌≡◌, ◌++◌, ◌∙◌, [], true, false, Ok, Err, refl, ap, sym, subst, inr, true≢false, rules}
 use Rattle.t85_core.specs.declared.pieces.phase.Phase.TheVariants as phase
 use Rattle.t85_core.specs.Lent.{code_lent, phase_lent, stage_lent}
 use Rattle.t85_core.specs.Options.{fields_of}
@@ -11,6 +10,7 @@ use Rattle.t85_core.specs.Steps.RowTurns.{CodeGoes}
 use Rattle.t85_core.specs.Steps.SizedImage.{sized}
 use Rattle.t85_core.proofs.Decodings.PieceBehind.{some_of}
 use Rattle.t85_core.proofs.Decodings.PieceInTime.{in_time_more}
+use Rattle.t85_core.proofs.Decodings.PieceRepeats.{none_of_some}
 use Rattle.t85_core.proofs.Decodings.PieceSteps.{over_done}
 use Rattle.t85_core.proofs.Decodings.PieceStood.{at_first, code_broken, code_of, known_more, known_open, leaves_done, leaves_of, leaves_on, leaves_row, leaves_stop, on_none, put_code, put_waits, some_code, taken_is, turn_broken, turn_consumed, turn_on, turn_whole, waits_first}
 use Rattle.t85_core.proofs.pieces.PieceDecoder.step.Goals as goal
@@ -56,10 +56,6 @@ returns-in-First-clause-leaves c =
     (c.step_first.ensures.leaves _ _)
 
 -- ---- in a code
-
-none_of_some : {A : Type 0} (m : Option A) → is_some m ≡ false → m ≡ None
-none_of_some None e = refl
-none_of_some (Some x) e = absurd (let bot : ⊥ = cc in bot)
 
 no : {P : Type 0} → ⊥ → P
 no bot = absurd bot
