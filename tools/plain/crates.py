@@ -51,9 +51,21 @@ class Crate:
             text, count = re.subn(rf"(?m)^((?:pub )?mod|pub use) {module}\b", rf"{STD_ONLY}\g<0>", text)
             if count != 2:
                 raise Rejected(f"{self.source}/lib.rt:1: `{module}` is not one module with one export")
+        if self.name in tables.STD_EXPORTS:
+            text = self.with_std_exports(text, *tables.STD_EXPORTS[self.name])
         if self.name == "t85":
             text = re.sub(r"(?m)^mod ", "mod c_abi;\nmod ", text, count=1) + tables.PANIC_LINES
         return text
+
+    def with_std_exports(self, text: str, module: str, names: list[str]) -> str:
+        """Moves the names that need std out of the list of a module's exports."""
+        found = re.search(rf"(?m)^pub use {module}::\{{([^}}]*)\}};\n", text)
+        exported = re.findall(r"\w+", found[1]) if found else []
+        if not found or not set(names) <= set(exported):
+            raise Rejected(f"{self.source}/lib.rt:1: `{module}` is not exported as a list with {names}")
+        lists = [[name for name in exported if name not in names], names]
+        lines = [f"pub use {module}::{{{', '.join(each)}}};\n" for each in lists]
+        return text[: found.start()] + lines[0] + STD_ONLY + lines[1] + text[found.end() :]
 
     def manifest(self) -> str:
         lines = ["[package]", f'name = "{self.package}"', f'version = "{self.version}"', 'edition = "2021"']
@@ -62,7 +74,7 @@ class Crate:
             # A Rust caller's crate has the same library name, so no rlib is made here.
             lines += ["", "[lib]", 'name = "t85"', 'crate-type = ["staticlib", "cdylib"]', "doc = false"]
         features = tables.STD_FEATURES.get(self.name)
-        if features:
+        if features is not None:
             lines += ["", "[features]", 'default = ["std"]', f"std = {_list(features)}"]
         wanted = tables.CRATES[self.name] + ["newer"] * self.needs_newer
         only_tests = ["kit"] if self.name == "t85" else []

@@ -3,21 +3,23 @@ from __future__ import annotations
 
 # The crates, lowest first, and their dependencies besides std: crates of the workspace, and of crates.io.
 CRATES = {
-    "pbm_core": ["thiserror"],
+    "devices": [],
+    "pbm_core": ["devices", "thiserror"],
     "qm_core": [],
     "raster_core": ["qm_core"],
-    "t85_core": ["pbm_core", "qm_core", "raster_core", "kit", "byteorder", "memchr", "thiserror"],
-    "t85": ["pbm_core", "qm_core", "raster_core", "t85_core", "kit", "byteorder"],
-    "program_core": ["t85_core", "pbm_core", "kit", "clap"],
-    "jbgtopbm85": ["pbm_core", "program_core", "kit"],
-    "pbmtojbg85": ["pbm_core", "program_core", "kit"],
-    "layer_tests": ["pbm_core", "qm_core", "raster_core", "kit"],
-    "tests": ["pbm_core", "qm_core", "raster_core", "t85_core", "program_core", "kit"],
+    "t85_core": ["devices", "pbm_core", "qm_core", "raster_core", "kit", "byteorder", "memchr", "thiserror"],
+    "t85": ["devices", "pbm_core", "qm_core", "raster_core", "t85_core", "kit", "byteorder"],
+    "program_core": ["t85_core", "devices", "kit", "clap"],
+    "jbgtopbm85": ["devices", "program_core", "kit"],
+    "pbmtojbg85": ["devices", "program_core", "kit"],
+    "layer_tests": ["devices", "pbm_core", "qm_core", "raster_core", "kit"],
+    "tests": ["devices", "pbm_core", "qm_core", "raster_core", "t85_core", "program_core", "kit"],
 }
 # The C library is the package libt85: a Rust caller's crate is called t85.
 PACKAGES = {"t85": "libt85"}
 ABOUT = {
-    "pbm_core": "Devices, and images in the PBM format",
+    "devices": "Sources and destinations of bytes",
+    "pbm_core": "Images in the PBM format",
     "qm_core": "The arithmetic coder of JBIG1",
     "raster_core": "Rows, templates and typical prediction of JBIG1",
     "t85_core": "The stream layer of JBIG1 in the fax profile T.85",
@@ -25,7 +27,7 @@ ABOUT = {
     "program_core": "The command lines of pbmtojbg85 and jbgtopbm85",
     "jbgtopbm85": "Converts a JBIG1 stream of the fax profile T.85 to a PBM image",
     "pbmtojbg85": "Converts a PBM image to a JBIG1 stream of the fax profile T.85",
-    "layer_tests": "Tests of the lowest three crates",
+    "layer_tests": "Tests of the lowest four crates",
     "tests": "Tests of the engine and of both programs",
 }
 DEPENDENCIES = {
@@ -35,11 +37,13 @@ DEPENDENCIES = {
     "clap": 'clap = { path = "../kit_clap", package = "kit_clap" }',
 }
 # Crates that need only Rust's core, unless the feature `std` is on: the modules, the exports and the dependencies that need it.
-WITHOUT_STD = {"pbm_core", "qm_core", "raster_core", "t85_core", "t85"}
-STD_MODULES = {"pbm_core": ["adapters"], "t85_core": ["conversion"]}
+WITHOUT_STD = {"devices", "pbm_core", "qm_core", "raster_core", "t85_core", "t85"}
+STD_MODULES = {"devices": ["adapters"], "t85_core": ["conversion"]}
+STD_EXPORTS = {"pbm_core": ("devices", ["FromRead", "ToWrite"])}
 STD_DEPENDENCIES = {"thiserror", "kit"}
 STD_FEATURES = {
-    "pbm_core": ["dep:thiserror"],
+    "devices": [],
+    "pbm_core": ["devices/std", "dep:thiserror"],
     "t85_core": ["pbm_core/std", "memchr/std", "dep:kit", "dep:thiserror"],
     "t85": ["pbm_core/std", "t85_core/std"],
 }

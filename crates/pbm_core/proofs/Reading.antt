@@ -4,7 +4,7 @@ use Rattle.std.specs.Io.KnownBytes.{Consumes}
 use Rattle.std.specs.Result.{IsErrAnd}
 use Rattle.pbm_core.specs.declared.fault.PbmFault.{PbmFault}
 use Rattle.pbm_core.specs.declared.fault.PbmFault.TheVariants.{Truncated, Read}
-use Rattle.pbm_core.specs.Device.{InputView, SameInput}
+use Rattle.devices.specs.Device.{InputView, SameInput}
 use Rattle.pbm_core.specs.Reading.{Reads, CountsPbmRead, fault_of_given}
 use Rattle.pbm_core.specs.Steps.{IsCut}
 use Rattle.pbm_core.proofs.Streams.{Consumes-none, Consumes-more}

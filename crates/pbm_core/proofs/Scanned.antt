@@ -3,7 +3,7 @@ use Rattle.std.proofs.Common.{◌≡◌, ◌≤◌, inl, ℕ, Bool, List, [], �
 use Rattle.std.specs.List.{AllByRecursion}
 use Rattle.pbm_core.specs.Pbm.{IsWhite}
 use Rattle.pbm_core.specs.Image.{digit_of, ArePixels}
-use Rattle.pbm_core.specs.Device.{InputView}
+use Rattle.devices.specs.Device.{InputView}
 use Rattle.pbm_core.specs.Reading.{Reads}
 use Rattle.pbm_core.specs.Steps.{MakeByte, FindsPixels, TakesPixels}
 use Rattle.pbm_core.specs.declared.fault.PbmFault.{PbmFault}

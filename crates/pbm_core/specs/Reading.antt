@@ -3,7 +3,7 @@ use Rattle.std.specs.Prelude.{ℕ, ◌≡◌, ◌+◌, List, length, Result, Err
 use Rattle.std.specs.Io.KnownBytes.{Consumes, IsAtEnd}
 use Rattle.pbm_core.specs.declared.fault.PbmFault.{PbmFault}
 use Rattle.pbm_core.specs.declared.fault.PbmFault.TheVariants.{Truncated, Read}
-use Rattle.pbm_core.specs.Device.{InputView, SameInput, one_more}
+use Rattle.devices.specs.Device.{InputView, SameInput, one_more}
 
 -- The count increases if and only if the error is a failed read.
 abbrev pub CountsPbmRead : {T : Type 0} → ℕ → ℕ → Result T PbmFault → Type 0

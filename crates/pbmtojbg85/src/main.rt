@@ -1,7 +1,7 @@
 //! Turns a PBM image into a JBIG1 image.
 #![tactic(auto)]
 
-use pbm_core::ToWrite;
+use devices::ToWrite;
 use program_core::pbmtojbg85::{Job, NAME, job, open, run};
 use program_core::{Places, end, refuse, words_of};
 use std::process::ExitCode;

@@ -7,8 +7,8 @@
 ghost use Rattle.std.specs.Prelude.{◌≡◌};
 ghost use Rattle.raster_core.specs.Window.{width_of};
 
-use pbm_core::ToWrite;
-use pbm_core::trial::Pieces;
+use devices::ToWrite;
+use devices::trial::Pieces;
 use qm_core::Learned;
 use raster_core::{Window, window_bytes};
 use std::alloc::Global;

@@ -1,7 +1,7 @@
 -- The message of a program about an error.
 use Rattle.std.specs.Prelude.{◌≡◌, ◌≢◌, ◌++◌, ℕ, List, All, Result, Ok, Err, codes}
-use Rattle.pbm_core.specs.Device.{OutputView, WritesText}
-use Rattle.pbm_core.specs.declared.write.WriteFault.{WriteFault}
+use Rattle.devices.specs.Device.{OutputView, WritesText}
+use Rattle.devices.specs.declared.write.WriteFault.{WriteFault}
 use Rattle.t85_core.specs.declared.fault.Fault.{Fault}
 
 -- the line of a program about an error: its name, a colon and a space, the error's text, and a line feed

@@ -1,7 +1,7 @@
 -- The effect of a command line that gives no job.
 use Rattle.std.specs.Prelude.{◌≡◌, ℕ, List, Result, MatchResult, string_bytes}
-use Rattle.pbm_core.specs.Device.{WritesText}
-use Rattle.pbm_core.specs.declared.write.WriteFault.{WriteFault}
+use Rattle.devices.specs.Device.{WritesText}
+use Rattle.devices.specs.declared.write.WriteFault.{WriteFault}
 use Rattle.program_core.specs.Line.{status_of}
 use Rattle.program_core.specs.Message.{TellsFault}
 use Rattle.program_core.specs.Run.{Written}

@@ -7,7 +7,7 @@ use Rattle.program_core.specs.declared.files.Readable.TheVariants as readable
 use Rattle.program_core.specs.declared.files.Writable.{Writable}
 use Rattle.program_core.specs.declared.files.Writable.TheVariants as writable
 use Rattle.t85_core.specs.declared.fault.Fault.{Fault}
-use Rattle.pbm_core.specs.Device.{OutputView}
+use Rattle.devices.specs.Device.{OutputView}
 use Rattle.t85_core.specs.Change.{between}
 use Rattle.t85_core.specs.ToPbm.{Delivery, delivery}
 

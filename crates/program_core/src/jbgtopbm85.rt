@@ -14,7 +14,7 @@ mod work;
 use crate::files::{Readable, Writable};
 use crate::message::report;
 use crate::program::{create_output, open_input};
-use pbm_core::{FromRead, Input, Output, ToWrite};
+use devices::{FromRead, Input, Output, ToWrite};
 use std::alloc::Global;
 use std::process::ExitCode;
 use t85_core::{Fault, info, to_pbm};

@@ -6,7 +6,7 @@ ghost use Rattle.std.specs.Fmt.InlineText.{inline_text};
 ghost use Rattle.program_core.specs.Message.{fault_line, IsInOneLine, Reports, TellsFault};
 ghost use Rattle.program_core.specs.Run.{exit_status};
 
-use pbm_core::{Output, write_bytes};
+use devices::{Output, write_bytes};
 use std::fmt::InlineText;
 use t85_core::Fault;
 

@@ -11,7 +11,7 @@ ghost use Rattle.program_core.specs.Refused.{RefusesArguments};
 use crate::files::{Readable, Writable};
 use crate::line_fault::LineFault;
 use crate::message::report;
-use pbm_core::{Output, ToWrite, write_bytes};
+use devices::{Output, ToWrite, write_bytes};
 use std::env::Args;
 use std::io;
 use std::process::ExitCode;

@@ -1,6 +1,6 @@
 -- Beginnings of a text, and of copies of a row.
 use Rattle.std.proofs.Common.{◌≡◌, ◌<◌, ◌+◌, ◌-◌, ℕ, zero, suc, List, ◌++◌, Some, sym, ap, ◌∙◌, subst, arith, append_assoc, append-nil}
-use Rattle.pbm_core.specs.Device.{AppendsBeginning}
+use Rattle.devices.specs.Device.{AppendsBeginning}
 use Rattle.t85_core.specs.Steps.Buffers.{copies}
 
 -- a beginning of a text that begins another

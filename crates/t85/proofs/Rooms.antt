@@ -2,7 +2,7 @@
 use Rattle.std.proofs.Common.{◌≡◌, ◌≤◌, ◌+◌, ◌⊎◌, inl, inr, ℕ, true, List, [], ◌++◌, length, take, Option, None, Some, Result, Ok, Err, refl, sym, ap, subst, ◌∙◌, arith, append-nil, length-append, true≢false}
 use Rattle.std.specs.Prelude.{IfErr, OnOk, is_some, is_ok, option_to_list}
 use Rattle.std.proofs.lemmas.List.{length-take-le}
-use Rattle.pbm_core.specs.Device.{AppendsBeginning, one_more}
+use Rattle.devices.specs.Device.{AppendsBeginning, one_more}
 use Rattle.t85_core.specs.Failures.{CountsWrite, writes_after}
 use Rattle.t85_core.specs.Steps.Buffers.{Writer}
 use Rattle.t85_core.specs.Steps.MostBytes.{AppendsAtMost}

@@ -2,7 +2,7 @@
 
 ghost use Rattle.std.specs.Prelude.{◌≡◌, ◌≤◌, ◌<◌, ◌-◌, ◌^◌, ◌++◌, [], Some, None, length, take, is_some, true, option_to_list};
 
-use pbm_core::{DeviceFailed, Input, Output, WriteFault, write_bytes};
+use devices::{DeviceFailed, Input, Output, WriteFault, write_bytes};
 use t85_core::{Fault, RowSink};
 
 /// An input over bytes that are all available.

@@ -28,7 +28,7 @@ pub struct LinedSink<'a> {
 }
 
 impl<'a> LinedSink<'a> {
-    ghost use Rattle.pbm_core.specs.Device.{AppendsBeginning, one_more};
+    ghost use Rattle.devices.specs.Device.{AppendsBeginning, one_more};
     ghost use Rattle.t85.specs.LinedSink.{lined_state, taken};
 
     /// No rows yet, in this memory.

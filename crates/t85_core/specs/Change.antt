@@ -1,7 +1,7 @@
 -- The state of a device before and after a call.
 use Rattle.std.specs.Prelude.{ℕ, List, Option}
 use Rattle.std.specs.Io.KnownBytes.{prepend_known}
-use Rattle.pbm_core.specs.Device.{InputView, OutputView}
+use Rattle.devices.specs.Device.{InputView, OutputView}
 
 -- A device in contracts: its bytes, if they are known (those that an input has left, or that an output has received), and its
 -- count of failures.

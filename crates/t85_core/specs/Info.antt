@@ -2,7 +2,7 @@
 use Rattle.std.specs.Prelude.{ℕ, List, [], ◌∷◌, ◌++◌, ◌≡◌, ◌≢◌, ◌⊎◌, ◌-◌, ◌^◌, ⊤, Bool, true, length, drop, sum_by, min, IfSome, Result, OnOk, IfOk, IfErr, IsErrOf}
 use Rattle.std.specs.Fmt.{decimal}
 use Rattle.std.specs.Io.KnownBytes.{Consumes, Appends, Keeps}
-use Rattle.pbm_core.specs.Device.{AppendsBeginning}
+use Rattle.devices.specs.Device.{AppendsBeginning}
 use Rattle.t85_core.specs.Change.{Change}
 use Rattle.t85_core.specs.declared.fault.Fault.{Fault}
 use Rattle.t85_core.specs.declared.fault.Fault.TheVariants.{ShortHeader, Truncated, Changed, SecondLength, LengthRefused, SecondMove, MoveRefused, Aborted, BadEscape, Read, Write, OutOfMemory, OptionBits, StripeZero, MoveLarge, AnnouncedLow, TooManyRows, VariableHeight, CommentLong, Pbm}

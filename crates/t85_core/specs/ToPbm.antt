@@ -1,7 +1,7 @@
 -- The effect of `to_pbm`. A stream with VLENGTH is read twice, first for its height and then for its rows.
 use Rattle.std.specs.Prelude.{ℕ, ◌≡◌, ◌≢◌, ◌≤◌, ◌<◌, ◌⊎◌, Bool, true, false, ◌&&◌, ◌==◌, List, length, Option, Some, None, is_some, IfSome, Result, Ok, Err, OnOk, IfErr, IsErrOf}
 use Rattle.std.specs.Io.KnownBytes.{Appends, Consumes, Keeps}
-use Rattle.pbm_core.specs.Device.{InputView, OutputView}
+use Rattle.devices.specs.Device.{InputView, OutputView}
 use Rattle.t85_core.specs.Change.{Change, between, known_from, output_change}
 use Rattle.raster_core.specs.Raster.{Raster}
 use Rattle.t85_core.specs.declared.fault.Fault.{Fault}

@@ -8,7 +8,7 @@ ghost use Rattle.t85_core.specs.Header.{is_variable};
 ghost use Rattle.t85_core.specs.Failures.{FlushesOutput};
 ghost use Rattle.t85_core.specs.ToPbm.{ToPbmAt, ToPbmBehind, ToPbm, is_same_header, second_reading, second_reading_of, delivery_of};
 ghost use Rattle.t85_core.specs.ToJbg.{ToJbg, ToJbgAhead};
-ghost use Rattle.pbm_core.specs.Device.{SameInput};
+ghost use Rattle.devices.specs.Device.{SameInput};
 ghost use Rattle.t85_core.specs.Jbg.{is_low};
 ghost use Rattle.t85_core.specs.declared.fault.Fault.TheVariants.{Write, Pbm};
 
@@ -19,8 +19,9 @@ use crate::header::Header;
 use crate::height::find_height;
 use crate::laws::coder_laws;
 use crate::options::Options;
+use devices::{Buffered, DeviceFailed, Input, Output};
 use pbm_core::laws::headers;
-use pbm_core::{Buffered, DeviceFailed, Input, Output, read_header};
+use pbm_core::read_header;
 use raster_core::{Window, window_bytes};
 use std::alloc::Global;
 

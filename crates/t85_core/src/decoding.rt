@@ -29,7 +29,8 @@ use crate::output_buffer::{IMAGE_HELD, OutputBuffer};
 use crate::pieces::piece::Piece;
 use crate::pieces::walk::Walk;
 use crate::row_sink::RowSink;
-use pbm_core::{Input, Output, Size, WriteFault, write_header};
+use devices::{Input, Output, WriteFault};
+use pbm_core::{Size, write_header};
 use qm_core::Learned;
 use raster_core::Window;
 

@@ -2,7 +2,7 @@
 
 ghost use Rattle.std.specs.Prelude.{◌≡◌, ◌≤◌, ◌<◌, OnOk, IfErr, IfSome, IsErrOf, false};
 ghost use Rattle.t85_core.specs.Change.{input_change, output_change};
-ghost use Rattle.pbm_core.specs.Device.{SameInput};
+ghost use Rattle.devices.specs.Device.{SameInput};
 ghost use Rattle.pbm_core.specs.Pbm.{bytes_of_row};
 ghost use Rattle.pbm_core.specs.declared.fault.PbmFault.{PbmFault};
 ghost use Rattle.raster_core.specs.Window.{held, width_of};
@@ -32,7 +32,8 @@ use crate::laws::{code_denotes, fronts};
 use crate::options::Options;
 use crate::output_buffer::{ByteTarget, IMAGE_HELD, OutputBuffer, ROW_HELD};
 use crate::row_source::{PbmRows, RowSource};
-use pbm_core::{Form, Input, Output, Size};
+use devices::{Input, Output};
+use pbm_core::{Form, Size};
 use raster_core::{Window, current_row};
 
 /// Encodes an image of this size. The input is positioned after the header of the image.

@@ -7,7 +7,7 @@ ghost use Rattle.t85_core.specs.Failures.{CountsRead, Ends};
 
 use crate::fault::Fault;
 use byteorder::{BigEndian, ByteOrder};
-use pbm_core::{DeviceFailed, Input};
+use devices::{DeviceFailed, Input};
 use raster_core::Shape;
 
 /// The fields of an accepted header. Its other bytes have no meaning.

@@ -18,7 +18,7 @@ use crate::fault::Fault;
 use crate::header::Header;
 use crate::input_buffer::{ByteSource, InputBuffer, READ_AHEAD};
 use crate::segments::{Code, Element, Next, Place, next_element, read_segments, skip_code};
-use pbm_core::Input;
+use devices::Input;
 
 /// The number of moves and comments skipped. Comments are counted up to 2^64 - 1.
 #[derive(Clone, Copy)]

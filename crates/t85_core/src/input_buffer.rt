@@ -2,14 +2,14 @@
 
 ghost use Rattle.std.specs.Prelude.{◌≡◌, ◌≤◌, ◌<◌, ◌+◌, ◌-◌, ◌^◌, ◌++◌, ℕ, List, None, length, slice_index, take, IfOk, IfErr, MatchResult};
 ghost use Rattle.std.specs.Io.KnownBytes.{Consumes, IsAtEnd, Keeps};
-ghost use Rattle.pbm_core.specs.Device.{Counts};
+ghost use Rattle.devices.specs.Device.{Counts};
 ghost use Rattle.t85_core.specs.Steps.Reading.{KeepsLast, Refills};
 ghost use Rattle.t85_core.specs.Steps.Buffers.{SourceView, GivesNextByte, GivesPlain, SkipsPlain, held_of, ArePlain};
 
 use crate::fault::Fault;
 use crate::segments::ESCAPE;
+use devices::{DeviceFailed, Input};
 use memchr::memchr;
-use pbm_core::{DeviceFailed, Input};
 
 /// The number of bytes that are read ahead of a file.
 pub const READ_AHEAD: usize = 4096;

@@ -4,12 +4,12 @@ ghost use Rattle.std.specs.Prelude.{◌≡◌, ◌*◌, ◌<◌, ◌≤◌, ◌+
 ghost use Rattle.std.specs.Fmt.{decimal};
 ghost use Rattle.std.specs.Io.KnownBytes.{Appends};
 ghost use Rattle.t85_core.specs.declared.fault.Fault.TheVariants.{Write};
-ghost use Rattle.pbm_core.specs.Device.{AppendsBeginning};
+ghost use Rattle.devices.specs.Device.{AppendsBeginning};
 ghost use Rattle.t85_core.specs.Failures.{CountsWrite, FlushesOutput};
 ghost use Rattle.t85_core.specs.Info.{line_text};
 
 use crate::fault::Fault;
-use pbm_core::{Output, write_bytes};
+use devices::{Output, write_bytes};
 use std::marker::Model;
 
 /// A line under construction, with space for nine numbers of twenty digits, each followed by one byte.

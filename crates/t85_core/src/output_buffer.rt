@@ -6,7 +6,7 @@ ghost use Rattle.t85_core.specs.declared.fault.Fault.TheVariants.{Write};
 ghost use Rattle.t85_core.specs.Steps.Buffers.{TargetView, PutsBytes, Pushes, HandsOn};
 
 use crate::fault::Fault;
-use pbm_core::{Output, WriteFault, write_bytes, write_counted};
+use devices::{Output, WriteFault, write_bytes, write_counted};
 
 /// The number of bytes that are buffered of an image or of its stream.
 pub const IMAGE_HELD: usize = 4096;

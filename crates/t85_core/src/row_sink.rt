@@ -5,7 +5,7 @@ ghost use Rattle.t85_core.specs.Steps.Buffers.{TargetView, PutsBytes, copies};
 
 use crate::fault::Fault;
 use crate::output_buffer::{ByteTarget, OutputBuffer};
-use pbm_core::Output;
+use devices::Output;
 
 /// A consumer of the rows of an image.
 pub trait RowSink {

@@ -1,13 +1,14 @@
 //! Producers of the rows of an image.
 
 ghost use Rattle.std.specs.Prelude.{◌≡◌, IfSome, None, length};
-ghost use Rattle.pbm_core.specs.Device.{InputView};
+ghost use Rattle.devices.specs.Device.{InputView};
 ghost use Rattle.pbm_core.specs.Image.{IsRowOf, RowFault};
 ghost use Rattle.pbm_core.specs.Pbm.{bytes_of_row};
 ghost use Rattle.pbm_core.specs.Reading.{Reads};
 ghost use Rattle.t85_core.specs.RowSource.{RowOrigin};
 
-use pbm_core::{Form, Input, PbmFault, Size, read_row};
+use devices::Input;
+use pbm_core::{Form, PbmFault, Size, read_row};
 
 /// A producer of the rows of an image.
 pub trait RowSource {

@@ -15,7 +15,7 @@ use crate::header::Header;
 use crate::height::{Passed, Reached, find, skip_stripes};
 use crate::input_buffer::{ByteSource, InputBuffer, READ_AHEAD};
 use crate::line::Line;
-use pbm_core::{Input, Output};
+use devices::{Input, Output};
 
 /// The facts about a stream: its header, the actual height, and what precedes its last stripe data entity.
 #[derive(Clone, Copy, Debug, PartialEq, Eq)]

@@ -4,7 +4,7 @@ use Rattle.std.specs.Prelude.{IfErr, OnOk, is_ok, true}
 use Rattle.t85_core.specs.declared.fault.Fault.{Fault}
 use Rattle.t85_core.specs.declared.fault.Fault.TheVariants.{Write}
 use Rattle.uses.specs.declared.room.Room.{Room}
-use Rattle.pbm_core.specs.Device.{one_more}
+use Rattle.devices.specs.Device.{one_more}
 use Rattle.t85_core.specs.Failures.{CountsWrite, writes_after}
 use Rattle.t85_core.specs.Steps.MostBytes.{AppendsAtMost}
 

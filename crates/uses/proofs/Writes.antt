@@ -1,6 +1,6 @@
 -- The effect of successive calls on an output.
 use Rattle.std.proofs.Common.{ℕ, Result, Ok, Err, ◌∙◌, ap}
-use Rattle.pbm_core.specs.Device.{OutputView}
+use Rattle.devices.specs.Device.{OutputView}
 use Rattle.t85_core.specs.declared.fault.Fault.{Fault}
 use Rattle.t85_core.specs.Failures.{CountsWrite, OnlyWrites, writes_after}
 

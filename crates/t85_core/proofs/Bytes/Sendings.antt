@@ -1,7 +1,7 @@
 -- The bytes of a stream that were sent, over several calls.
 use Rattle.std.proofs.Common.{◌≤◌, ℕ, List, [], ◌++◌, Option, None, Some, refl, sym, ap, ◌∙◌, append_assoc, append-nil}
 use Rattle.std.specs.Io.KnownBytes.{Appends, Keeps, append_known}
-use Rattle.pbm_core.specs.Device.{AppendsBeginning}
+use Rattle.devices.specs.Device.{AppendsBeginning}
 use Rattle.t85_core.specs.Steps.Buffers.{known_length}
 use Rattle.t85_core.specs.Steps.Sent.{Origin, Sends, SendsBeginning, here, behind}
 use Rattle.t85_core.proofs.Bytes.HeldBack.{grows_with, beginning_handed}

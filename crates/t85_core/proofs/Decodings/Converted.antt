@@ -3,7 +3,7 @@ use Rattle.std.proofs.Common.{◌++◌, ◌≡◌, ◌≢◌, ◌≤◌, ◌<◌
 use Rattle.std.specs.Prelude.{OnOk, is_some}
 use Rattle.std.specs.Io.KnownBytes.{Consumes, Keeps}
 use Rattle.std.proofs.lemmas.Bool.Decides.{nat_tests}
-use Rattle.pbm_core.specs.Device.{one_more}
+use Rattle.devices.specs.Device.{one_more}
 use Rattle.t85_core.specs.Change.{between}
 use Rattle.t85_core.specs.declared.fault.Fault.{Fault}
 use Rattle.t85_core.specs.declared.fault.Fault.TheVariants.{Write, OutOfMemory, TooManyRows}

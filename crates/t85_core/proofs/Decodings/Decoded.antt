@@ -2,7 +2,7 @@
 use Rattle.std.proofs.Common.{◌≡◌, ◌≢◌, ◌<◌, ◌^◌, ◌≤◌, ◌⊎◌, inl, inr, ℕ, Bool, List, [], ◌++◌, not, count_by, Option, None, Some, Result, Ok, Err, refl, sym, ap, ◌∙◌, subst, append_assoc, arith}
 use Rattle.std.specs.Prelude.{IfSome, OnOk, IfErr, IsErrOf, flat_map}
 use Rattle.std.specs.Io.KnownBytes.{Appends, Consumes, prepend_known, append_known}
-use Rattle.pbm_core.specs.Device.{AppendsBeginning, one_more}
+use Rattle.devices.specs.Device.{AppendsBeginning, one_more}
 use Rattle.t85_core.specs.Change.{between}
 use Rattle.pbm_core.specs.Pbm.{header_text}
 use Rattle.qm_core.specs.Code.{stuffed}

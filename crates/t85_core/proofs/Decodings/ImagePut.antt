@@ -18,7 +18,7 @@ use Rattle.t85_core.specs.Steps.State.{first_row_start, image_start, StripeRun}
 use Rattle.t85_core.specs.Steps.Cut.{BegunRun, open_stripe}
 use Rattle.t85_core.specs.Steps.DecodeStripes.{StripeRead, StripeCut, StripesRead, ImageRead, ImageCut, DecidesRows, StripeDecides, StripeUnwritten, ImageUnwritten, stripe_place}
 use Rattle.t85_core.specs.Steps.DecodeRows.{IsCarried}
-use Rattle.pbm_core.specs.Device.{AppendsBeginning}
+use Rattle.devices.specs.Device.{AppendsBeginning}
 use Rattle.t85_core.specs.Steps.CoderLaws.{CoderLaws}
 use Rattle.t85_core.specs.Coding.{flagged}
 use Rattle.t85_core.specs.Steps.HeightWalk.{MayBeHeight}

@@ -3,7 +3,7 @@ use Rattle.std.proofs.Common.{◌≡◌, ◌≢◌, ◌<◌, ◌⊎◌, inl, inr
 use Rattle.std.specs.Prelude.{OnOk, IfErr, flat_map}
 use Rattle.std.specs.List.{AllByRecursion}
 use Rattle.std.proofs.Math.Seq.{drop-append_seam}
-use Rattle.pbm_core.specs.Device.{AppendsBeginning}
+use Rattle.devices.specs.Device.{AppendsBeginning}
 use Rattle.pbm_core.specs.Pbm.{header_text}
 use Rattle.qm_core.specs.Code.{IsBytes}
 use Rattle.raster_core.specs.Raster.{Raster}

@@ -2,7 +2,7 @@
 use Rattle.std.proofs.Common.{ℕ, Bool, List, ◌++◌, Option, Result, Ok, Err, append_assoc}
 use Rattle.std.specs.Prelude.{OnOk, OnErr}
 use Rattle.std.specs.Io.KnownBytes.{Appends}
-use Rattle.pbm_core.specs.Device.{AppendsBeginning}
+use Rattle.devices.specs.Device.{AppendsBeginning}
 use Rattle.qm_core.specs.Place.{Place}
 use Rattle.t85_core.specs.declared.fault.Fault.{Fault}
 use Rattle.t85_core.specs.Grammar.{marker_bytes}

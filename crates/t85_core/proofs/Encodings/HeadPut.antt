@@ -8,7 +8,7 @@ use Rattle.t85_core.specs.declared.fault.Fault.{Fault}
 use Rattle.t85_core.specs.Failures.{CountsWrite}
 use Rattle.t85_core.specs.Encode.{BeginsWith, layout_of}
 use Rattle.t85_core.specs.Steps.EncodeStripes.{ImageRefused}
-use Rattle.pbm_core.specs.Device.{AppendsBeginning}
+use Rattle.devices.specs.Device.{AppendsBeginning}
 use Rattle.t85_core.specs.Grammar.{Comment, segment_bytes}
 use Rattle.t85_core.specs.Header.{header_bytes}
 use Rattle.t85_core.specs.Jbg.{Settings, header_of, head_of, stripes_of, jbg, ending}

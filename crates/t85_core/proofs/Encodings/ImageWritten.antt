@@ -1,7 +1,7 @@
 -- From a header and the rows after it to what is said of a whole image that was written, or begun.
 use Rattle.std.proofs.Common.{◌≡◌, inl, inr, ℕ, Bool, true, false, ap, List, ◌++◌, Option, Ok, Err, refl, sym, ◌∙◌, subst, append-nil}
 use Rattle.std.specs.Io.KnownBytes.{Consumes, Keeps}
-use Rattle.pbm_core.specs.Device.{one_more}
+use Rattle.devices.specs.Device.{one_more}
 use Rattle.t85_core.specs.Change.{between}
 use Rattle.pbm_core.specs.declared.fault.PbmFault.{PbmFault}
 use Rattle.pbm_core.specs.declared.fault.PbmFault.TheVariants as pbm

@@ -1,7 +1,7 @@
 -- The effect of a decoder of stripes.
 use Rattle.std.specs.Prelude.{ℕ, ◌+◌, ◌≡◌, Bool, List, [], ◌++◌, length, Option, flat_map, ◌⊎◌}
 use Rattle.std.specs.Io.KnownBytes.{Appends, Consumes}
-use Rattle.pbm_core.specs.Device.{AppendsBeginning}
+use Rattle.devices.specs.Device.{AppendsBeginning}
 use Rattle.qm_core.specs.Code.{stuffed}
 use Rattle.raster_core.specs.Packed.{packed_row}
 use Rattle.t85_core.specs.Lent.{Carried}

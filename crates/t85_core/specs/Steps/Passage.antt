@@ -1,6 +1,6 @@
 -- The known bytes before and after a step.
 use Rattle.std.specs.Prelude.{ℕ, List, Option}
-use Rattle.pbm_core.specs.Device.{InputView}
+use Rattle.devices.specs.Device.{InputView}
 
 -- The known bytes before and after a step: those that an input has left, and those that an output has received.
 pub record Passage : Type 0 where

@@ -1,7 +1,7 @@
 -- The results of the steps of a row encoder.
 use Rattle.std.specs.Prelude.{ℕ, ◌+◌, ◌*◌, ◌≡◌, ◌≤◌, ◌<◌, Bool, false, List, [], ◌∷◌, ◌++◌, length, Option, IfSome, flat_map, unwrap_or, Result, Ok, Err, OnOk, OnErr}
 use Rattle.std.specs.Io.KnownBytes.{Appends}
-use Rattle.pbm_core.specs.Device.{AppendsBeginning}
+use Rattle.devices.specs.Device.{AppendsBeginning}
 use Rattle.pbm_core.specs.Image.{pixels_of}
 use Rattle.qm_core.specs.Place.{Estimate, Place, State, start, fresh}
 use Rattle.qm_core.specs.Encoder.{EncoderIsAt, EncoderState, IsStuffedFront}

@@ -1,8 +1,8 @@
 -- The views of structs that contain a device.
 use Rattle.std.specs.Prelude.{ℕ, List, [], Option, Some, Result, length, ◌≡◌, ◌≤◌, ◌+◌, ◌-◌, ◌++◌}
 use Rattle.std.specs.Io.KnownBytes.{append_known, prepend_known}
-use Rattle.pbm_core.specs.declared.device.Input as input_device
-use Rattle.pbm_core.specs.declared.device.Output as device
+use Rattle.devices.specs.declared.device.Input as input_device
+use Rattle.devices.specs.declared.device.Output as device
 use Rattle.t85_core.specs.declared.input_buffer.InputBuffer.{InputBuffer}
 use Rattle.t85_core.specs.declared.pieces.piece.Piece.{Piece}
 use Rattle.t85_core.specs.declared.pieces.piece.PieceCode.{PieceCode}

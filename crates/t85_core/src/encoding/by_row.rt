@@ -15,7 +15,8 @@ use crate::laws::fronts;
 use crate::options::Options;
 use crate::output_buffer::{OutputBuffer, ROW_HELD};
 use crate::state::START;
-use pbm_core::{Output, Size};
+use devices::Output;
+use pbm_core::Size;
 use qm_core::Encoder;
 use raster_core::{Kept, Shape, Window};
 
@@ -132,7 +133,7 @@ impl RowEncoder {
 impl RowEncoder {
     ghost use Rattle.std.specs.Prelude.{◌≡◌, ◌<◌, ◌-◌, [], ◌⊎◌, OnOk, OnErr, IfOk, IfErr, IsErrOf, length, Err, true, is_ok};
     ghost use Rattle.std.specs.Io.KnownBytes.{Keeps};
-    ghost use Rattle.pbm_core.specs.Device.{AppendsBeginning};
+    ghost use Rattle.devices.specs.Device.{AppendsBeginning};
     ghost use Rattle.pbm_core.specs.Pbm.{bytes_of_row};
     ghost use Rattle.raster_core.specs.Window.{current_place, held, width_of};
     ghost use Rattle.t85_core.specs.Lent.{KeepsWindow, StaysWindow};

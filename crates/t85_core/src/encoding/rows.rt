@@ -1,7 +1,7 @@
 //! Rows that a caller passes, and the beginning of a stream.
 
 ghost use Rattle.std.specs.Prelude.{◌≡◌, ◌<◌, ◌-◌, [], ℕ, length, slice_index, OnErr, IfOk, IfErr, false};
-ghost use Rattle.pbm_core.specs.Device.{AppendsBeginning};
+ghost use Rattle.devices.specs.Device.{AppendsBeginning};
 ghost use Rattle.pbm_core.specs.Pbm.{bytes_of_row, masked_row};
 ghost use Rattle.pbm_core.specs.Image.{pixels_of};
 ghost use Rattle.raster_core.specs.Packed.{with_current};
@@ -22,8 +22,9 @@ use crate::encoding::steps::write_head;
 use crate::fault::Fault;
 use crate::options::Options;
 use crate::output_buffer::{OutputBuffer, ROW_HELD};
+use devices::Output;
+use pbm_core::Size;
 use pbm_core::laws::masks;
-use pbm_core::{Output, Size};
 use raster_core::{Window, current_row};
 
 /// Moves down one row in the window, and copies the row there. Bits after its last pixel are ignored.

@@ -1,6 +1,7 @@
 use crate::error::Error;
 use crate::image::Image;
-use pbm_core::{row_bytes, FromRead};
+use devices::FromRead;
+use pbm_core::row_bytes;
 use qm_core::Learned;
 use raster_core::{window_bytes, Window};
 use std::io::{self, Read};

@@ -1,7 +1,8 @@
 use crate::error::Error;
 use crate::image::{size, Image};
 use crate::options::Options;
-use pbm_core::{row_bytes, DeviceFailed, Form, FromRead, Output};
+use devices::{DeviceFailed, FromRead, Output};
+use pbm_core::{row_bytes, Form};
 use raster_core::{window_bytes, Window};
 use std::io::{self, Write};
 use t85_core::{Fault, Learning, RowEncoder};

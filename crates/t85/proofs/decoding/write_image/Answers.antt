@@ -1,5 +1,5 @@
 use Rattle.std.proofs.Common.{inl, inr, sym, subst, ap, ◌∙◌, ◌++◌, flat_map, arith, append_assoc}
-use Rattle.pbm_core.specs.Device.{AppendsBeginning, one_more}
+use Rattle.devices.specs.Device.{AppendsBeginning, one_more}
 use Rattle.pbm_core.specs.Pbm.{header_text}
 use Rattle.raster_core.specs.Packed.{packed_row}
 use Rattle.t85_core.specs.Options.{fields_of}

@@ -1,5 +1,5 @@
 use Rattle.std.proofs.Common.{rules, ◌∙◌, ap}
-use Rattle.pbm_core.specs.Buffered.{bytes_between}
+use Rattle.devices.specs.Buffered.{bytes_between}
 use Rattle.t85_core.proofs.Bytes.Held.{known_unheld}
 use Rattle.t85_core.proofs.Encodings.ReadAhead.{read_ahead}
 use Rattle.t85_core.proofs.conversion.to_jbg.Goals as goal

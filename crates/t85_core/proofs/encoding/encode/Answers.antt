@@ -1,5 +1,5 @@
 use Rattle.std.proofs.Common.{rules, subst}
-use Rattle.pbm_core.specs.Device.{SameInput}
+use Rattle.devices.specs.Device.{SameInput}
 use Rattle.t85_core.specs.Change.{input_change, output_change}
 use Rattle.t85_core.specs.Encode.{Encode, layout_for}
 use Rattle.t85_core.specs.Options.{settings_of}

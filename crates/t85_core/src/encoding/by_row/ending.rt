@@ -4,7 +4,7 @@ use crate::encoding::by_row::RowEncoder;
 use crate::encoding::learning::Learning;
 use crate::fault::Fault;
 use crate::output_buffer::{OutputBuffer, ROW_HELD};
-use pbm_core::Output;
+use devices::Output;
 use raster_core::Window;
 
 impl RowEncoder {

@@ -1,5 +1,5 @@
 use Rattle.std.proofs.Common.{◌++◌, ap, sym, refl, ◌∙◌, arith, append-nil}
-use Rattle.pbm_core.specs.Device.{one_more}
+use Rattle.devices.specs.Device.{one_more}
 use Rattle.t85_core.specs.Steps.Buffers.{copies}
 use Rattle.t85.proofs.Beginnings.{copies_begun, copies_more}
 use Rattle.t85.proofs.Rooms.{text_of, writer_same}

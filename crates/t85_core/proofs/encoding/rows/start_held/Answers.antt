@@ -1,6 +1,6 @@
 use Rattle.std.specs.Prelude.{OnErr}
 use Rattle.std.proofs.Common.{subst}
-use Rattle.pbm_core.specs.Device.{AppendsBeginning}
+use Rattle.devices.specs.Device.{AppendsBeginning}
 use Rattle.raster_core.specs.Packed.{HasLines, white_lines}
 use Rattle.raster_core.specs.Window.{held}
 use Rattle.t85_core.specs.Jbg.{head_of}

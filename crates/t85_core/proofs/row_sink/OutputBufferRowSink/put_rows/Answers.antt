@@ -1,6 +1,6 @@
 use Rattle.std.proofs.Common.{◌≡◌, ◌-◌, ◌+◌, ◌++◌, ℕ, sym, ap, ◌∙◌, refl, le_trans, subst, arith}
 use Rattle.std.specs.Io.KnownBytes.{Appends}
-use Rattle.pbm_core.specs.Device.{AppendsBeginning}
+use Rattle.devices.specs.Device.{AppendsBeginning}
 use Rattle.t85_core.specs.Failures.{writes_after}
 use Rattle.t85_core.specs.Steps.Buffers.{PutsBytes, copies}
 use Rattle.t85_core.proofs.Bytes.Streams.{Appends-more, beginning_after, beginning_longer}

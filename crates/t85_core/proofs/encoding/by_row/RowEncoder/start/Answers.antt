@@ -1,5 +1,5 @@
 use Rattle.std.proofs.Common.{rules, ◌≡◌, ◌≤◌, ◌∙◌, ap, subst, []}
-use Rattle.pbm_core.specs.Device.{AppendsBeginning}
+use Rattle.devices.specs.Device.{AppendsBeginning}
 use Rattle.raster_core.specs.Window.{held}
 use Rattle.t85_core.specs.Jbg.{head_of}
 use Rattle.t85_core.specs.Options.{settings_of}

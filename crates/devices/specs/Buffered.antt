@@ -1,9 +1,9 @@
 -- The view of an input that reads ahead of another.
 use Rattle.std.specs.Prelude.{ℕ, ◌+◌, ◌-◌, List, take, drop}
 use Rattle.std.specs.Io.KnownBytes.{prepend_known}
-use Rattle.pbm_core.specs.declared.device.Input as device
-use Rattle.pbm_core.specs.declared.buffered.Buffered.{Buffered}
-use Rattle.pbm_core.specs.Device.{InputView}
+use Rattle.devices.specs.declared.device.Input as device
+use Rattle.devices.specs.declared.buffered.Buffered.{Buffered}
+use Rattle.devices.specs.Device.{InputView}
 
 -- the bytes of an array from one index up to another
 abbrev pub bytes_between : List ℕ → ℕ → ℕ → List ℕ

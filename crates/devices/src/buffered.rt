@@ -36,7 +36,7 @@ impl<'a, R: Input> Buffered<'a, R> {
 }
 
 impl<R: Input> Input for Buffered<'_, R> {
-    ghost use Rattle.pbm_core.specs.Buffered.{buffered_view};
+    ghost use Rattle.devices.specs.Buffered.{buffered_view};
 
     ghost view = { buffered_view };
 

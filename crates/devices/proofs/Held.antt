@@ -3,7 +3,7 @@ use Rattle.std.proofs.Common.{◌≡◌, ◌≤◌, ◌+◌, ◌-◌, ℕ, List,
 use Rattle.std.proofs.Common.{length-take, length-drop, arith, rules}
 use Rattle.std.specs.Io.KnownBytes.{Consumes, Keeps, IsAtEnd, prepend_known}
 use Rattle.std.proofs.lemmas.List.{drop-take, drop-drop, take-take, take-append-le, take_all}
-use Rattle.pbm_core.specs.Buffered.{bytes_between}
+use Rattle.devices.specs.Buffered.{bytes_between}
 
 pub Keeps-same : (a : Option (List ℕ)) → Keeps a a
 Keeps-same None = tt

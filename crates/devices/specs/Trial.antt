@@ -1,8 +1,8 @@
 -- The views of devices in memory.
 use Rattle.std.specs.Prelude.{◌≡◌, Some, [], length, take}
-use Rattle.pbm_core.specs.declared.trial.Drip.{Drip}
-use Rattle.pbm_core.specs.declared.trial.Pieces.{Pieces}
-use Rattle.pbm_core.specs.Device.{InputView, OutputView}
+use Rattle.devices.specs.declared.trial.Drip.{Drip}
+use Rattle.devices.specs.declared.trial.Pieces.{Pieces}
+use Rattle.devices.specs.Device.{InputView, OutputView}
 
 -- an input over caller-supplied memory
 abbrev pub pieces_view : Pieces → InputView

@@ -1,6 +1,6 @@
 use Rattle.std.proofs.Common.{◌≤◌, ◌+◌, refl, arith}
-use Rattle.pbm_core.proofs.Held.{some_taken, length_between}
-use Rattle.pbm_core.proofs.buffered.BufferedInput.pass.Goals as goal
+use Rattle.devices.proofs.Held.{some_taken, length_between}
+use Rattle.devices.proofs.buffered.BufferedInput.pass.Goals as goal
 
 pub returns-clause-passed : goal.returns-clause-passed
 returns-clause-passed g c _ =

@@ -1,9 +1,9 @@
 use Rattle.std.proofs.Common.{arith, ap, length-drop, ◌∙◌, take_all}
 use Rattle.std.proofs.lemmas.List.{take_rest}
 use Rattle.std.proofs.Math.Seq.{take-add}
-use Rattle.pbm_core.specs.Device.{one_more}
-use Rattle.pbm_core.proofs.Streams.{Appends-more, Appends-keeps}
-use Rattle.pbm_core.proofs.write.write_counted.Goals as goal
+use Rattle.devices.specs.Device.{one_more}
+use Rattle.devices.proofs.Streams.{Appends-more, Appends-keeps}
+use Rattle.devices.proofs.write.write_counted.Goals as goal
 
 pub loop-at-preserved : goal.loop-at-preserved
 loop-at-preserved g c =
