@@ -6,8 +6,8 @@ use Rattle.raster_core.specs.Lines.{Lines, context_at}
 use Rattle.raster_core.specs.Machine.Registers.{AreAt}
 use Rattle.raster_core.specs.Machine.Lanes.{lane, around, HasAround}
 use Rattle.raster_core.specs.declared.place.Pause.{Pause}
-use Rattle.raster_core.specs.Machine.Decoded.{ByteAround, StopsAlong}
-use Rattle.raster_core.specs.Machine.DecodedLanes.{LanesAround, AreLanesOf, AlongMore, StopsMore, later, lanes_around}
+use Rattle.raster_core.specs.Machine.Decoded.{ByteAround}
+use Rattle.raster_core.specs.Machine.DecodedLanes.{LanesAround, AreLanesOf, AlongMore, StopsMore, lanes_around}
 use Rattle.raster_core.proofs.Contexts.{three_line_nominal}
 use Rattle.raster_core.proofs.LaneTables.{later_lane}
 
@@ -28,9 +28,6 @@ lane_context b lanes n past cx has cx_is lines x r =
 
 -- pixels after pixels
 
-same_pause : (a b x y : ℕ) → a ≡ b → x ≡ y → (let p : Pause = record { count = a; past = x } in p) ≡ record { count = b; past = y }
-same_pause a b x y e f = cc
-
 first_lanes : {lanes : ℕ} {b : ByteAround} {n : ℕ} (i : ℕ) {k : ℕ} → i ≤ k → AreLanesOf lanes b n k → AreLanesOf lanes b n i
 first_lanes i less h = record { three_line = h.three_line; nominal = h.nominal; within = let w = h.within in omega arith; around_is = λ j few. h.around_is j (omega arith) }
 
@@ -44,34 +41,28 @@ later_lanes {n = n} i k h = record {
       rw (later_lane, h.around_is (i + j) (omega arith), e) refl;
 }
 
-pub more_then : {S : Type 0} {pull : S → Pulled → S → Type 0} {lanes p i p' k p'' : ℕ} {old mid to : DecoderState S} →
-    AlongMore pull (lanes_around lanes p) old i p' mid → AlongMore pull (lanes_around (lanes / 2 ^ (16 * i)) p') mid k p'' to → AlongMore pull (lanes_around lanes p) old (i + k) p'' to
-more_then {i = i} {k = k} first then = record {
-  any = λ b from n has so_far.
+pub more_then : {S : Type 0} {pull : S → Pulled → S → Type 0} {lanes p n i p' k p'' : ℕ} {old mid to : DecoderState S} →
+    AlongMore pull (lanes_around lanes p n) old i p' mid → AlongMore pull (lanes_around (lanes / 2 ^ (16 * i)) p' (n + i)) mid k p'' to → AlongMore pull (lanes_around lanes p n) old (i + k) p'' to
+more_then {n = n} {i} {k = k} first then = record {
+  any = λ b from has so_far.
       let e : (n + i) + k ≡ n + (i + k) = omega arith in
-      rw (← e) (then.any b from (n + i) (later_lanes i k has) (first.any b from n (first_lanes i (omega arith) has) so_far));
+      rw (← e) (then.any b from (later_lanes i k has) (first.any b from (first_lanes i (omega arith) has) so_far));
 }
 
 pub stops_first : {S : Type 0} {pull : S → Pulled → S → Type 0} {a : LanesAround} {old to : DecoderState S} {i k : ℕ} {pause : Pause} → i ≤ k → StopsMore pull a old i pause to →
     StopsMore pull a old k pause to
-stops_first {i = i} less stops = record { any = λ b from n has so_far. stops.any b from n (first_lanes i less has) so_far }
+stops_first {i = i} less stops = record { any = λ b from has so_far. stops.any b from (first_lanes i less has) so_far }
 
-pub stops_then : {S : Type 0} {pull : S → Pulled → S → Type 0} {lanes p i p' k : ℕ} {old mid to : DecoderState S} {pause pause' : Pause} →
-    pause'.count ≡ i + pause.count → pause'.past ≡ pause.past →
-    AlongMore pull (lanes_around lanes p) old i p' mid → StopsMore pull (lanes_around (lanes / 2 ^ (16 * i)) p') mid k pause to → StopsMore pull (lanes_around lanes p) old (i + k) pause' to
-stops_then {i = i} {k = k} {pause = pause} {pause'} count_is past_is first then = record {
-  any = λ b from n has so_far.
-      let e : (n + i) + pause.count ≡ n + pause'.count = omega arith in
-      rw (← same_pause _ _ _ _ e (sym past_is)) (then.any b from (n + i) (later_lanes i k has) (first.any b from n (first_lanes i (omega arith) has) so_far));
+pub stops_then : {S : Type 0} {pull : S → Pulled → S → Type 0} {lanes p n i p' k : ℕ} {old mid to : DecoderState S} {pause : Pause} →
+    AlongMore pull (lanes_around lanes p n) old i p' mid → StopsMore pull (lanes_around (lanes / 2 ^ (16 * i)) p' (n + i)) mid k pause to → StopsMore pull (lanes_around lanes p n) old (i + k) pause to
+stops_then {i = i} {k = k} first then = record {
+  any = λ b from has so_far. then.any b from (later_lanes i k has) (first.any b from (first_lanes i (omega arith) has) so_far);
 }
+
+-- pixels of a byte
 
 pub are_first : {lanes : ℕ} {b : ByteAround} → b.mode.two_line ≡ false → b.offset ≡ 0 → HasAround lanes b.second b.above 0 4 → AreLanesOf lanes b 0 4
 are_first three nominal has = record { three_line = three; nominal = nominal; within = omega arith; around_is = has }
 
 pub are_last : {lanes : ℕ} {b : ByteAround} → b.mode.two_line ≡ false → b.offset ≡ 0 → HasAround lanes b.second b.above 4 4 → AreLanesOf lanes b 4 4
 are_last three nominal has = record { three_line = three; nominal = nominal; within = omega arith; around_is = has }
-
--- where the source stopped, counted from a byte's first pixel
-pub stops_at : {S : Type 0} {pull : S → Pulled → S → Type 0} {b : ByteAround} {old to : DecoderState S} {pause' : Pause} (n : ℕ) (pause : Pause) →
-    pause'.count ≡ n + pause.count → pause'.past ≡ pause.past → StopsAlong pull b old 8 (later n pause) to → StopsAlong pull b old 8 pause' to
-stops_at n pause count_is past_is stops = rw (← same_pause _ _ _ _ (sym count_is) (sym past_is)) stops

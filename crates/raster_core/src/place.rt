@@ -13,21 +13,6 @@ pub(crate) struct Pause {
     pub(crate) past: u128,
 }
 
-impl Pause {
-    /// The same, counted from `count` pixels earlier.
-    #[inline(always)]
-    pub(crate) fn after(self, count: u32) -> Pause
-        requires { count + self.count < 2 ^ 32 }
-        ensures count { result.count ≡ count + self.count }
-        ensures past { result.past ≡ self.past }
-    {
-        Pause {
-            count: count + self.count,
-            past: self.past,
-        }
-    }
-}
-
 /// How far a row is decoded, if its code may not have arrived completely.
 #[derive(Clone, Copy)]
 pub struct RowPlace {

@@ -43,15 +43,16 @@ pub(crate) fn decode_byte<S: CodeBytes, const TWO_LINE: bool, const MOVED: bool>
     Ok(past)
 }
 
-/// Decodes a pixel. The first of these lanes is the contribution of the rows above to its context.
+/// Decodes pixel n of a byte. The first of these lanes is the contribution of the rows above to its context.
 #[inline(always)]
 fn decode_one<S: CodeBytes>(
     lanes: u64,
     before: u128,
+    n: u32,
     reader: &mut Reader<'_, S>,
 ) -> Result<u128, Pause>
     ensures reads { ReaderReads S.CodeBytes reader.old reader.new result }
-    ensures pixels { DecodesLanes S.CodeBytes (lanes_around lanes before) 1 reader.old reader.new
+    ensures pixels { DecodesLanes S.CodeBytes (lanes_around lanes before n) 1 reader.old reader.new
         result }
 {
     let around = (lanes % 0x400) as u16 / 4 * 4;
@@ -59,46 +60,29 @@ fn decode_one<S: CodeBytes>(
     match reader.next(cx) {
         Ok(pixel) => Ok(past_and::<false>(before, pixel)),
         Err(Stop) => Err(Pause {
-            count: 0,
+            count: n,
             past: before,
         }),
     }
 }
 
-/// Decodes two pixels.
-#[inline(always)]
-fn decode_two<S: CodeBytes>(
-    lanes: u64,
-    before: u128,
-    reader: &mut Reader<'_, S>,
-) -> Result<u128, Pause>
-    ensures reads { ReaderReads S.CodeBytes reader.old reader.new result }
-    ensures pixels { DecodesLanes S.CodeBytes (lanes_around lanes before) 2 reader.old reader.new
-        result }
-{
-    let past = decode_one(lanes, before, reader)?;
-    match decode_one(lanes >> 16, past, reader) {
-        Ok(last) => Ok(last),
-        Err(pause) => Err(pause.after(1)),
-    }
-}
-
-/// Decodes four pixels.
+/// Decodes four pixels of a byte, from pixel n on.
 #[inline(always)]
 fn decode_four<S: CodeBytes>(
     lanes: u64,
     before: u128,
+    n: u32,
     reader: &mut Reader<'_, S>,
 ) -> Result<u128, Pause>
+    requires few { n ≤ 4 }
     ensures reads { ReaderReads S.CodeBytes reader.old reader.new result }
-    ensures pixels { DecodesLanes S.CodeBytes (lanes_around lanes before) 4 reader.old reader.new
+    ensures pixels { DecodesLanes S.CodeBytes (lanes_around lanes before n) 4 reader.old reader.new
         result }
 {
-    let past = decode_two(lanes, before, reader)?;
-    match decode_two(lanes >> 32, past, reader) {
-        Ok(last) => Ok(last),
-        Err(pause) => Err(pause.after(2)),
-    }
+    let one = decode_one(lanes, before, n, reader)?;
+    let two = decode_one(lanes >> 16, one, n + 1, reader)?;
+    let three = decode_one(lanes >> 32, two, n + 2, reader)?;
+    decode_one(lanes >> 48, three, n + 3, reader)
 }
 
 /// Decodes the pixels of a byte with the three-line template and the adaptive pixel in its nominal position, computing
@@ -115,12 +99,9 @@ fn decode_eight<S: CodeBytes>(
         result }
 {
     let first = first_around(registers.second, registers.above);
-    let half = decode_four(first, registers.past, reader)?;
+    let half = decode_four(first, registers.past, 0, reader)?;
     let last = last_around(registers.second, registers.above);
-    match decode_four(last, half, reader) {
-        Ok(past) => Ok(past),
-        Err(pause) => Err(pause.after(4)),
-    }
+    decode_four(last, half, 4, reader)
 }
 
 /// Decodes the pixels of a byte, computing the contexts of four at once if tables contain them.
