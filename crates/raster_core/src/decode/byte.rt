@@ -104,26 +104,8 @@ fn decode_eight<S: CodeBytes>(
     decode_four(last, half, 4, reader)
 }
 
-/// Decodes the pixels of a byte, computing the contexts of four at once if tables contain them.
-#[inline(always)]
-fn decode_plain<S: CodeBytes, const TWO_LINE: bool, const MOVED: bool>(
-    registers: Registers,
-    reader: &mut Reader<'_, S>,
-) -> Result<u128, Pause>
-    requires template { IsTemplate TWO_LINE MOVED registers.shape registers.offset }
-    ensures reads { ReaderReads S.CodeBytes reader.old reader.new result }
-    ensures pixels { DecodesPixels S.CodeBytes (around_of registers) 8 reader.old reader.new
-        result }
-{
-    if has_lanes::<TWO_LINE, MOVED>(registers.shape, registers.offset) {
-        decode_eight(registers, reader)
-    } else {
-        decode_byte::<_, TWO_LINE, MOVED>(registers, 8, reader)
-    }
-}
-
 /// Decodes the pixels of a byte; all eight in one step if the byte and the byte above it have the same single colour and
-/// no code byte is needed.
+/// no code byte is needed; otherwise with the contexts of four computed at once, if tables contain them.
 #[inline(always)]
 pub(crate) fn decode_step<S: CodeBytes, const TWO_LINE: bool, const MOVED: bool>(
     registers: Registers,
@@ -137,7 +119,9 @@ pub(crate) fn decode_step<S: CodeBytes, const TWO_LINE: bool, const MOVED: bool>
     let byte = ((registers.above >> 8) % 256) as u8;
     if skip_byte::<MOVED>(registers, byte, &*reader.learned, &mut *reader.decoder) {
         Ok(past_eight::<MOVED>(registers.past, byte))
+    } else if has_lanes::<TWO_LINE, MOVED>(registers.shape, registers.offset) {
+        decode_eight(registers, reader)
     } else {
-        decode_plain::<_, TWO_LINE, MOVED>(registers, reader)
+        decode_byte::<_, TWO_LINE, MOVED>(registers, 8, reader)
     }
 }
