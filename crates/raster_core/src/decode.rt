@@ -28,50 +28,6 @@ use crate::shape::{Kept, Shape};
 use crate::window::Window;
 use qm_core::{CodeBytes, Decoder, Learned, Reader, Stop, laws};
 
-/// Decodes the rest of a row, given the two rows above it.
-fn decode_below<S: CodeBytes>(
-    shape: Shape,
-    place: &mut RowPlace,
-    kept: &mut Kept,
-    current: &mut [u8],
-    above: &[u8],
-    second: &[u8],
-    reader: &mut Reader<'_, S>,
-) -> Result<(), Stop>
-    requires goes_on { MayGoOnIn shape kept.old place.old reader.old.decoder.now }
-    requires current { length current.old ≡ div_ceil shape.width 8 }
-    requires above { length above.now ≡ div_ceil shape.width 8 }
-    ensures reads { ReaderReads S.CodeBytes reader.old reader.new result }
-    ensures place { LeavesPlace shape kept.old kept.new place.new result }
-    ensures row { RowContinues S.CodeBytes shape (row_progress kept.old place.old (held_rows
-        shape.width current.old above.now second.now) reader.old) (row_progress kept.new place.new
-        (held_rows shape.width current.new above.now second.now) reader.new) result }
-{
-    // The proof uses these laws of the coder.
-    laws::answers();
-    laws::apart();
-    let flag = begin_row(shape, *place, *kept, reader)?;
-    if flag {
-        current.copy_from_slice(above);
-    } else {
-        let context = RowContext {
-            shape,
-            offset: kept.offset,
-            above,
-            second,
-        };
-        match decode_pixels(context, *place, current, reader) {
-            Ok(()) => {}
-            Err(at) => {
-                *place = at;
-                return Err(Stop);
-            }
-        }
-    }
-    kept.previous_typical = flag;
-    Ok(())
-}
-
 /// The two rows above the row at a place, given the rows before it and after it in memory.
 #[inline(always)]
 fn rows_above<'a>(front: &'a [u8], back: &'a [u8], long: usize, place: u8) -> (&'a [u8], &'a [u8])
@@ -124,7 +80,29 @@ fn decode_beside<S: CodeBytes>(
 {
     let long = shape.width.div_ceil(8) as usize;
     let (above, second) = rows_above(sides.0, sides.1, long, at);
-    decode_below(shape, place, kept, row, above, second, reader)
+    // The proof uses these laws of the coder.
+    laws::answers();
+    laws::apart();
+    let flag = begin_row(shape, *place, *kept, reader)?;
+    if flag {
+        row.copy_from_slice(above);
+    } else {
+        let context = RowContext {
+            shape,
+            offset: kept.offset,
+            above,
+            second,
+        };
+        match decode_pixels(context, *place, row, reader) {
+            Ok(()) => {}
+            Err(at) => {
+                *place = at;
+                return Err(Stop);
+            }
+        }
+    }
+    kept.previous_typical = flag;
+    Ok(())
 }
 
 /// Decodes the rest of the row at a place, in memory that contains it and the two rows above it, which remain
