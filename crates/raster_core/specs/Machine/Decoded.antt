@@ -175,11 +175,8 @@ pub record RowPart (S : Type 0) : Type 0 where
   pub current : List ℕ
   pub state : DecoderState S
 
-abbrev pub row_part_of_state : {S : Type 0} → RowPlace → List ℕ → DecoderState S → RowPart S
-row_part_of_state place current state = record { place = place; current = current; state = state }
-
 abbrev pub row_part : {S : Type 0} → RowPlace → List ℕ → Reader S → RowPart S
-row_part place current r = row_part_of_state place current (reader_state r)
+row_part place current r = record { place = place; current = current; state = reader_state r }
 
 -- The effect of a step on a row, for all pixels of it that were decoded before.
 pub record FromPixels {S : Type 0} (pull : S → Pulled → S → Type 0) (a : RowAround) (part : RowPart S) (Leaves : SourceAt S → PlainRow → Type 0) : Type 0 where

@@ -2,10 +2,9 @@
 
 ghost use Rattle.std.specs.Prelude.{◌≡◌, ◌+◌, ◌-◌, ◌*◌, ◌%◌, ◌<◌, ◌≤◌, IfOk, IfErr};
 ghost use Rattle.qm_core.specs.Source.{Pulls};
-ghost use Rattle.qm_core.specs.Decoder.{StopsOnce, decoder_state};
 ghost use Rattle.qm_core.specs.Reads.{ReaderReads};
 ghost use Rattle.raster_core.specs.Machine.Places.{IsPartOf};
-ghost use Rattle.raster_core.specs.Machine.Decoded.{ByteEnds, DecodesRow, RowStops, row_around, row_part, row_part_of_state};
+ghost use Rattle.raster_core.specs.Machine.Decoded.{ByteEnds, DecodesRow, RowStops, row_around, row_part};
 ghost use Rattle.raster_core.specs.Machine.Registers.{IsTemplate};
 
 use crate::bytes::byte_at;
@@ -14,7 +13,7 @@ use crate::decode::byte::{decode_byte, decode_step};
 use crate::decode::registers::{Registers, RowContext};
 use crate::decode::runs::skip_filled;
 use crate::place::{RowPlace, around_at, register_at};
-use qm_core::{CodeBytes, Decoder, Learned, Reader};
+use qm_core::{CodeBytes, Reader};
 
 /// Decodes the rest of a partially decoded byte, and stores it.
 #[inline(never)]
@@ -136,35 +135,6 @@ fn decode_bytes<S: CodeBytes, const TWO_LINE: bool, const MOVED: bool>(
     Ok(())
 }
 
-/// The same with three references: behind one, each would be loaded again after every write.
-#[inline(always)]
-fn decode_from_byte<S: CodeBytes, const TWO_LINE: bool, const MOVED: bool>(
-    context: RowContext<'_>,
-    place: RowPlace,
-    current: &mut [u8],
-    learned: &mut Learned,
-    decoder: &mut Decoder,
-    source: &mut S,
-) -> Result<(), RowPlace>
-    requires template { IsTemplate TWO_LINE MOVED context.shape context.offset }
-    requires whole { place.done % 8 ≡ 0 }
-    requires part { IsPartOf context.shape place current.old }
-    ensures stop { StopsOnce S.CodeBytes decoder.old decoder.new source.old source.new result }
-    ensures inside { IfErr result (λ at. at.done < context.entry.shape.width) }
-    ensures leaves { DecodesRow (Pulls S.gives S.failed) (row_around context.entry)
-        (row_part_of_state place current.old (decoder_state source.old decoder.old learned.old))
-        context.entry.shape.width
-        (row_part_of_state place current.new (decoder_state source.new decoder.new learned.new))
-        result }
-{
-    let mut reader = Reader {
-        learned,
-        decoder,
-        source,
-    };
-    decode_bytes::<_, TWO_LINE, MOVED>(context, place, current, &mut reader)
-}
-
 /// Decodes the rest of a row's pixels.
 fn decode_rest<S: CodeBytes, const TWO_LINE: bool, const MOVED: bool>(
     context: RowContext<'_>,
@@ -180,29 +150,25 @@ fn decode_rest<S: CodeBytes, const TWO_LINE: bool, const MOVED: bool>(
         (row_part place current.old reader.old) context.entry.shape.width
         (row_part place current.new reader.new) result }
 {
+    // `near` has the same three references as `reader`. Behind `reader`, each would be loaded again after every write.
     if place.done % 8 == 0 {
-        return decode_from_byte::<_, TWO_LINE, MOVED>(
-            context,
-            place,
-            current,
-            &mut *reader.learned,
-            &mut *reader.decoder,
-            &mut *reader.source,
-        );
+        let mut near = Reader {
+            learned: &mut *reader.learned,
+            decoder: &mut *reader.decoder,
+            source: &mut *reader.source,
+        };
+        return decode_bytes::<_, TWO_LINE, MOVED>(context, place, current, &mut near);
     }
     let from = end_byte::<_, TWO_LINE, MOVED>(context, place, current, reader)?;
     if from.done == context.shape.width {
         return Ok(());
     }
-    let rest = decode_from_byte::<_, TWO_LINE, MOVED>(
-        context,
-        from,
-        current,
-        &mut *reader.learned,
-        &mut *reader.decoder,
-        &mut *reader.source,
-    );
-    rest
+    let mut near = Reader {
+        learned: &mut *reader.learned,
+        decoder: &mut *reader.decoder,
+        source: &mut *reader.source,
+    };
+    decode_bytes::<_, TWO_LINE, MOVED>(context, from, current, &mut near)
 }
 
 /// Decodes the rest of a row's pixels, with either template.

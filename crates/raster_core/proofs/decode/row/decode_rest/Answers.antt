@@ -8,6 +8,6 @@ returns-then-from-context-clause-leaves g c = (ended_row c.if-from-context.true 
 
 pub returns-clause-leaves : goal.returns-clause-leaves
 returns-clause-leaves g c = (
-  on_ok c.decode_from_byte-rest.result (then_row c.in_ok-from.ensures.ok) c.decode_from_byte-rest.ensures.leaves.0,
-  if_err c.decode_from_byte-rest.result _ _ (λ at. then_row c.in_ok-from.ensures.ok) c.decode_from_byte-rest.ensures.leaves.1,
+  on_ok c.decode_bytes-2.result (then_row c.in_ok-from.ensures.ok) c.decode_bytes-2.ensures.leaves.0,
+  if_err c.decode_bytes-2.result _ _ (λ at. then_row c.in_ok-from.ensures.ok) c.decode_bytes-2.ensures.leaves.1,
 )
