@@ -85,27 +85,8 @@ fn decode_four<S: CodeBytes>(
     decode_one(lanes >> 48, three, n + 3, reader)
 }
 
-/// Decodes the pixels of a byte with the three-line template and the adaptive pixel in its nominal position, computing
-/// the contexts of four at once.
-#[inline(always)]
-fn decode_eight<S: CodeBytes>(
-    registers: Registers,
-    reader: &mut Reader<'_, S>,
-) -> Result<u128, Pause>
-    requires template { registers.shape.two_line ≡ false }
-    requires nominal { registers.offset ≡ 0 }
-    ensures reads { ReaderReads S.CodeBytes reader.old reader.new result }
-    ensures pixels { DecodesPixels S.CodeBytes (around_of registers) 8 reader.old reader.new
-        result }
-{
-    let first = first_around(registers.second, registers.above);
-    let half = decode_four(first, registers.past, 0, reader)?;
-    let last = last_around(registers.second, registers.above);
-    decode_four(last, half, 4, reader)
-}
-
-/// Decodes the pixels of a byte; all eight in one step if the byte and the byte above it have the same single colour and
-/// no code byte is needed; otherwise with the contexts of four computed at once, if tables contain them.
+/// Decodes the pixels of a byte: all eight in one step if the byte and the byte above it have the same single colour and
+/// no code byte is needed. Otherwise it computes the contexts of four pixels at once, if tables contain them.
 #[inline(always)]
 pub(crate) fn decode_step<S: CodeBytes, const TWO_LINE: bool, const MOVED: bool>(
     registers: Registers,
@@ -118,10 +99,13 @@ pub(crate) fn decode_step<S: CodeBytes, const TWO_LINE: bool, const MOVED: bool>
 {
     let byte = ((registers.above >> 8) % 256) as u8;
     if skip_byte::<MOVED>(registers, byte, &*reader.learned, &mut *reader.decoder) {
-        Ok(past_eight::<MOVED>(registers.past, byte))
-    } else if has_lanes::<TWO_LINE, MOVED>(registers.shape, registers.offset) {
-        decode_eight(registers, reader)
-    } else {
-        decode_byte::<_, TWO_LINE, MOVED>(registers, 8, reader)
+        return Ok(past_eight::<MOVED>(registers.past, byte));
     }
+    if !has_lanes::<TWO_LINE, MOVED>(registers.shape, registers.offset) {
+        return decode_byte::<_, TWO_LINE, MOVED>(registers, 8, reader);
+    }
+    let first = first_around(registers.second, registers.above);
+    let half = decode_four(first, registers.past, 0, reader)?;
+    let last = last_around(registers.second, registers.above);
+    decode_four(last, half, 4, reader)
 }
