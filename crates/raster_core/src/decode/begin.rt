@@ -1,14 +1,11 @@
 //! Decodes what precedes the pixels of a row: the SLNTP pseudo-pixel.
 
-ghost use Rattle.std.specs.Prelude.{◌≡◌, ◌<◌, List, IsTrue, IsErr, OnOk, OnErr, IfOk, false, true};
-ghost use Rattle.qm_core.specs.Place.{Place, state_of};
-ghost use Rattle.qm_core.specs.Decoder.{DecoderIsAt, SourceGoesOn, has_stopped, source_of};
-ghost use Rattle.qm_core.specs.declared.source.Pulled.{Pulled};
-ghost use Rattle.qm_core.specs.Reads.{ReaderReads, SameReader, reader_state};
+ghost use Rattle.std.specs.Prelude.{◌≡◌, IsTrue, IsErr, OnOk, OnErr, IfOk, false, true};
+ghost use Rattle.qm_core.specs.Decoder.{SourceGoesOn, has_stopped};
+ghost use Rattle.qm_core.specs.Reads.{SameReader, reader_state};
 ghost use Rattle.qm_core.specs.Source.{Pulls};
-ghost use Rattle.raster_core.specs.Window.{shape_mode};
 ghost use Rattle.raster_core.specs.Machine.Continues.{BeginsRow, StopsBeforeRow};
-ghost use Rattle.raster_core.specs.Row.{FirstDecoded, FirstStopped, FromRowPlace};
+ghost use Rattle.raster_core.specs.Row.{FromRowPlace};
 
 use crate::context::flag_context;
 use crate::place::RowPlace;
@@ -40,29 +37,9 @@ pub(super) fn begin_row<S: CodeBytes>(
         (reader_state reader.old) (StopsBeforeRow place reader.new)) }
 {
     if shape.typical && !place.is_begun {
-        decode_flag(shape, kept.previous_typical, reader)
+        let pixel = reader.next(flag_context(shape.two_line))?;
+        Ok(pixel == kept.previous_typical)
     } else {
         Ok(false)
     }
-}
-
-/// Decodes the pseudo-pixel before a row, and returns whether the row is typical.
-fn decode_flag<S: CodeBytes>(
-    shape: Shape,
-    previous: bool,
-    reader: &mut Reader<'_, S>,
-) -> Result<bool, Stop>
-    requires typical { shape.typical ≡ true }
-    ensures reads { ReaderReads S.CodeBytes reader.old reader.new result }
-    ensures ok { IfOk result (λ flag. (p : Place) (answers : List Pulled) →
-        DecoderIsAt reader.old.decoder.now p answers →
-        FirstDecoded (source_of S.CodeBytes reader.old.source.now answers) (shape_mode shape)
-        previous flag (state_of p reader.old.learned.now) (reader_state reader.new)) }
-    ensures err { OnErr result ((p : Place) (answers : List Pulled) →
-        DecoderIsAt reader.old.decoder.now p answers →
-        FirstStopped (source_of S.CodeBytes reader.old.source.now answers) (shape_mode shape)
-        (state_of p reader.old.learned.now) (reader_state reader.new)) }
-{
-    let pixel = reader.next(flag_context(shape.two_line))?;
-    Ok(pixel == previous)
 }

@@ -1,16 +1,24 @@
+use mathlib.Core.Bool.{beq}
 use Rattle.std.proofs.Common.{◌≡◌, true}
-use Rattle.raster_core.proofs.Firsts.{first_none}
-use Rattle.raster_core.proofs.LaneTables.{if_ok}
+use Rattle.raster_core.specs.Window.{shape_mode}
+use Rattle.raster_core.proofs.Alongs.{exit_err}
+use Rattle.raster_core.proofs.Firsts.{first_next, first_none, first_stop, same_of}
 use Rattle.raster_core.proofs.RowsBegun.{begin_pixels, begun_pixels, by_begun, not_true, not_false}
 use Rattle.raster_core.proofs.decode.begin.begin_row.Goals as goal
 use Rattle.raster_core.proofs.decode.begin.begin_row.Goals.{else-shape-via-then-shape+else-not-place, else-shape-via-else-shape}
 
-pub returns-then-not-place-clause-ok : goal.returns-then-not-place-clause-ok
-returns-then-not-place-clause-ok g c =
-    if_ok c.decode_flag.result _ _ (λ flag decoded s answers lines window h.
+pub returns-in_err-pixel-clause-err : goal.returns-in_err-pixel-clause-err
+returns-in_err-pixel-clause-err g c = exit_err c.from_residual.result _ (λ s answers lines window h.
     let b = h.before_it (not_true c.args.place.is_begun c.if-not-place.true) in
-    begin_pixels b.start (λ _. c.if-shape.true) (rw b.taught at (decoded s.place answers b.stands)))
-    c.decode_flag.ensures.ok
+    (b.start, rw b.taught at (first_stop {mode = shape_mode c.args.shape} c.if-shape.true c.in_err-pixel.ensures.next b.stands)))
+
+pub returns-in_ok-pixel-clause-ok : goal.returns-in_ok-pixel-clause-ok
+returns-in_ok-pixel-clause-ok g c = λ s answers lines window h.
+    let b = h.before_it (not_true c.args.place.is_begun c.if-not-place.true) in
+    let previous = c.args.kept.previous_typical in
+    let pixel = c.in_ok-pixel.pixel in
+    begin_pixels b.start (λ _. c.if-shape.true)
+    (rw b.taught at (first_next {previous = previous} {flag = beq pixel previous} c.if-shape.true c.flag_context.ensures (same_of previous pixel) c.in_ok-pixel.ensures.next b.stands))
 
 pub returns-else-shape-clause-ok : goal.returns-else-shape-clause-ok
 returns-else-shape-clause-ok g c = λ s answers lines window h.
