@@ -35,6 +35,7 @@ pub mod PieceInTime
 pub mod PieceStood
 pub mod PieceFeeds
 pub mod PieceRepeats
+pub mod RepeatNumbers
 pub mod PieceNumbers
 pub mod PieceLook
 pub mod LookOver

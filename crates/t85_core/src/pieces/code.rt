@@ -40,6 +40,8 @@ impl InCode {
     ghost use Rattle.raster_core.specs.Window.{held};
     ghost use Rattle.t85_core.specs.declared.fault.Fault.TheVariants.{Changed};
     ghost use Rattle.t85_core.specs.Lent.{KeepsLent, code_lent};
+    ghost use Rattle.t85_core.specs.Options.{fields_of};
+    ghost use Rattle.t85_core.specs.Repeats.{RowsCanRepeat};
     ghost use Rattle.t85_core.specs.Stages.{StartsCode};
     ghost use Rattle.t85_core.specs.Steps.Buffers.{copies};
     ghost use Rattle.t85_core.specs.Steps.InTime.{ReachesMarker};
@@ -93,6 +95,8 @@ impl InCode {
             self.old lent.old) text out → WalkStands (sized_of image.now) (code_lent course.new
             self.new lent.new) text (out ++ copies result (held lent.new.window.now).current) }
         ensures few { result ≤ most }
+        ensures some { 2 ≤ most → RowsCanRepeat (fields_of image.now.header) (code_lent course.old
+            self.old lent.old) → 0 < result }
         ensures begun { 0 < result → self.new.begun ≡ None }
         ensures row { (held lent.new.window.now).current ≡ (held lent.old.window.now).current }
         ensures same { (self.new.first ≡ self.old.first) × (self.new.marker ≡ self.old.marker) ×

@@ -94,6 +94,9 @@ pub struct PieceNumbers {
 const MOST_OFFSET: u8 = 127;
 
 impl PieceNumbers {
+    ghost use Rattle.std.specs.Prelude.{◌↔◌, IsTrue, true};
+    ghost use Rattle.t85_core.specs.Phases.{phase_stage};
+    ghost use Rattle.t85_core.specs.Stages as stage;
     ghost use Rattle.t85_core.specs.declared.pieces.PieceDecoder.{PieceDecoder};
 
     /// Numbers that no decoder has, since their height is 0.
@@ -123,6 +126,17 @@ impl PieceNumbers {
             waits: 0,
             is_given: 0,
         }
+    }
+
+    /// Whether the row before was typical, and the next item is a row that has not begun, or the end of a code. Without
+    /// this, no row repeats.
+    #[inline(always)]
+    pub fn may_repeat(&self) -> bool
+        ensures { (d : PieceDecoder) → ArePieceNumbers self.now d → IsTrue result ↔
+            ((d.course.kept.previous_typical ≡ true) ×
+            (stage.stage_kind (phase_stage d.phase) ≡ stage.Code)) }
+    {
+        self.is_previous_typical != 0 && self.stage.next == 2
     }
 
     /// The stripe and the state carried there.

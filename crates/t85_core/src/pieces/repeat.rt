@@ -1,8 +1,8 @@
 //! Rows of a stream in pieces that equal the one before.
 
-ghost use Rattle.std.specs.Prelude.{◌≡◌};
+ghost use Rattle.std.specs.Prelude.{◌≡◌, ◌≤◌, ◌<◌, ◌+◌};
 ghost use Rattle.t85_core.specs.Lent.{KeepsLent, KeepsWindow, decoder_lent, decoder_over};
-ghost use Rattle.t85_core.specs.Repeats.{Repeats};
+ghost use Rattle.t85_core.specs.Repeats.{CanRepeat, Repeats};
 
 use crate::lent::Lent;
 use crate::pieces::PieceDecoder;
@@ -14,10 +14,12 @@ use raster_core::Window;
 impl PieceDecoder {
     /// Decodes further rows, at most `most`, that equal the row decoded last, and returns how many. These rows count as
     /// returned; the window contains the last of them. It stops before a row that may differ, or whose code has not
-    /// arrived. It may return 0 in any case.
+    /// arrived, and may stop before a single equal row.
     pub fn repeat(&mut self, window: &mut Window<'_>, learned: &mut Learned, most: u32) -> u32
         ensures repeats { Repeats most (decoder_over self.old window.old learned.old)
             (decoder_over self.new window.new learned.new) result }
+        ensures all { result + 2 ≤ most →
+            CanRepeat (decoder_over self.new window.new learned.new) → ⊥ }
         ensures window { KeepsWindow window.old window.new }
         ensures none { result ≡ 0 → window.new ≡ window.old }
     {
@@ -29,6 +31,7 @@ impl PieceDecoder {
     fn repeat_all(&mut self, lent: &mut Lent<'_, '_>, most: u32) -> u32
         ensures repeats { Repeats most (decoder_lent self.old lent.old)
             (decoder_lent self.new lent.new) result }
+        ensures all { result + 2 ≤ most → CanRepeat (decoder_lent self.new lent.new) → ⊥ }
         ensures lent { KeepsLent lent.old lent.new }
         ensures none { result ≡ 0 → lent.new.window.now ≡ lent.old.window.now }
     {
@@ -47,6 +50,7 @@ impl PieceDecoder {
     fn repeat_some(&mut self, lent: &mut Lent<'_, '_>, most: u32) -> u32
         ensures repeats { Repeats most (decoder_lent self.old lent.old)
             (decoder_lent self.new lent.new) result }
+        ensures some { 2 ≤ most → CanRepeat (decoder_lent self.old lent.old) → 0 < result }
         ensures lent { KeepsLent lent.old lent.new }
         ensures none { result ≡ 0 → lent.new.window.now ≡ lent.old.window.now }
     {

@@ -1,0 +1,5 @@
+use Rattle.t85_core.proofs.Decodings.RepeatNumbers.{repeats_by_numbers}
+use Rattle.t85_core.proofs.laws.repeats.Goals as goal
+
+pub returns : goal.returns
+returns c = repeats_by_numbers
