@@ -15,10 +15,11 @@ use Rattle.t85_core.specs.Numbers.{ArePieceNumbers, StaysInImage}
 use Rattle.t85_core.specs.Options.{fields_of}
 use Rattle.t85_core.specs.Outcomes.{end_in}
 use Rattle.t85_core.specs.Pieces.{AreCertain, HasDecoded, IsLeastHeight}
+use Rattle.t85_core.specs.Repeats.{CanRepeat}
 use Rattle.t85_core.specs.Steps.Buffers.{copies}
 use Rattle.t85.specs.Decoded.{window_bytes}
 use Rattle.t85.specs.Decoder.{Answers, BytesCall, DecoderIsNotBegun, GivesRowAt, HasNoDecoder, IsShort, LacksWindow, StandAt, TellsCertain, bytes_of_call, bytes_call}
-use Rattle.t85.specs.DecoderAgain.{ReturnsAgain}
+use Rattle.t85.specs.DecoderAgain.{MustGiveAgain, ReturnsAgain}
 use Rattle.t85.specs.DecoderLimit.{IsWithinLimit, StaysWithinLimit}
 use Rattle.t85.specs.DecoderState.{CountsRows, HasRead, Hold, InRows, hold_of}
 use Rattle.t85.specs.DecoderSteps.{CountsOneMore, IsOfEngine, IsToldOf}
@@ -197,6 +198,24 @@ module _ (laws : HeaderLaws) (d d' : T85Decoder) (window memory' rest : List ℕ
         has = counted_with d' memory' (memory' ++ rest) stream (out ++ copies count g.row) g.has (same_back stream (out ++ copies count g.row) g.has.rows);
         whole = g.whole;
       }
+
+  -- and that must be
+  pub must_cut : ((stream out : List ℕ) → HasRead (hold_of d (take needed window)) stream out → MustGiveAgain (hold_of d' memory') → ⊥) →
+      (stream out : List ℕ) → HasRead (hold_of d window) stream out → MustGiveAgain (hold_of d' (memory' ++ rest)) → ⊥
+  unfolding rows_with
+  must_cut stops stream out h must =
+      let k = must.rows in
+      let few = wide (hold_of d' (memory' ++ rest)) must.stream must.out same k in
+      let front = take-append-le (window_bytes k.decoder.image.header.xd) memory' rest (omega (arith, few, long')) in
+      stops stream out (lent stream out h) (record {
+        given = must.given;
+        within = must.within;
+        stream = must.stream;
+        out = must.out;
+        rows = rows_with d' (memory' ++ rest) memory' must.stream must.out k front;
+        long = omega (arith, few, long');
+        repeats = subst (λ m. CanRepeat (decoder_view k.decoder (rows_at d'.place k.decoder.image.header.xd m) d'.learned)) front must.repeats;
+      })
 
   pub window_cut : (call : BytesCall) (what : Answer) → IsOfEngine what → Answers (HasRead (hold_of d (take needed window))) (hold_of d (take needed window)) (hold_of d' memory') call what →
       Answers (HasRead (hold_of d window)) (hold_of d window) (hold_of d' (memory' ++ rest)) call what

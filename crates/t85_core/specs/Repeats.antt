@@ -43,8 +43,8 @@ shape_of h = record { width = h.xd; two_line = (mode_of h.options).two_line; typ
 abbrev pub IsSettled : Option Move → ℕ → Type 0
 IsSettled at row = (k o : ℕ) → row ≤ k → offset_at (option_map pair_of at) k o ≡ o
 
--- In the code of a stripe, before a row, the next two rows are in the stripe and equal the row before, and the bits already read
--- determine this: both are typical, like the row before, and are decoded in one step.
+-- In the code of a stripe, before a row: the stripe has two more rows, no move takes effect, and the bits already read determine
+-- that both equal the row before. All three are typical, and both are decoded without a doubling.
 pub record RowsCanRepeat (h : Fields) (w : WalkView) : Type 0 where
   pub in_code : w.stage ≡ stage.Code
   pub two_left : w.row + 2 ≤ min w.left h.l0
@@ -54,13 +54,13 @@ pub record RowsCanRepeat (h : Fields) (w : WalkView) : Type 0 where
   pub stands : DecoderIsAt w.decoder place answers
   pub skips : CanSkipRows (shape_of h) w.carried.kept w.decoder (state_of place w.carried.learned) answers 2
 
--- The same for a decoder: while a height may arrive, the end marker of the code has not been read.
+-- The same for a decoder which, while a height may arrive, has not read the end marker of the code.
 pub record CanRepeat (d : PieceView) : Type 0 where
   pub rows : RowsCanRepeat (stream_of d) d.walk
   pub goes_on : waits_behind d ≡ false
   pub in_time : d.is_open ≡ true → HasMarker d.walk → ⊥
 
--- If the row of a decoder can repeat, it can for each decoder with the same numbers that can continue.
+-- If the row of a decoder can repeat, so can that of each decoder with the same numbers that can continue.
 abbrev pub RepeatsByNumbers : Type 0
 RepeatsByNumbers =
     (d d' : PieceDecoder) (numbers : PieceNumbers) (rows : Held) (learned : List Estimate) (text out : List ℕ) → HasDecoded (decoder_view d' rows learned) text out →

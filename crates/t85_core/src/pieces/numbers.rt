@@ -128,8 +128,8 @@ impl PieceNumbers {
         }
     }
 
-    /// Whether the row before was typical, and the next item is a row that has not begun, or the end of a code. Without
-    /// this, no row repeats.
+    /// Whether the row before was typical, and the next item is the beginning of a row, or the end of a code. If not, no
+    /// row can repeat.
     #[inline(always)]
     pub fn may_repeat(&self) -> bool
         ensures { (d : PieceDecoder) → ArePieceNumbers self.now d → IsTrue result ↔

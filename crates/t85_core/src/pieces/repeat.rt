@@ -14,7 +14,8 @@ use raster_core::Window;
 impl PieceDecoder {
     /// Decodes further rows, at most `most`, that equal the row decoded last, and returns how many. These rows count as
     /// returned; the window contains the last of them. It stops before a row that may differ, or whose code has not
-    /// arrived, and may stop before a single equal row.
+    /// arrived. It may also stop before an equal row, but not before two in the same stripe that the coder decodes
+    /// without a doubling.
     pub fn repeat(&mut self, window: &mut Window<'_>, learned: &mut Learned, most: u32) -> u32
         ensures repeats { Repeats most (decoder_over self.old window.old learned.old)
             (decoder_over self.new window.new learned.new) result }

@@ -5,6 +5,7 @@ ghost use Rattle.qm_core.specs.Place.{Place, state_of};
 ghost use Rattle.qm_core.specs.Decoder.{DecoderIsAt};
 ghost use Rattle.qm_core.specs.declared.source.Pulled.{Pulled};
 ghost use Rattle.raster_core.specs.Row.{RowsSkipped, CanSkipRows};
+ghost use Rattle.t85_core.specs.Repeats.{IsSettled};
 ghost use Rattle.t85_core.specs.Steps.State.{offset_at};
 ghost use Rattle.t85_core.specs.Steps.DecodeRows.{pair_of};
 
@@ -67,7 +68,7 @@ fn skip_few(shape: Shape, kept: Kept, learned: &Learned, decoder: &mut Decoder, 
 
 /// Whether no move takes place from this row of a stripe on.
 pub fn is_settled(at: Option<Move>, row: u32) -> bool
-    ensures { IsTrue result ↔ ((k o : ℕ) → row ≤ k → offset_at (option_map pair_of at) k o ≡ o) }
+    ensures { IsTrue result ↔ IsSettled at row }
 {
     match at {
         Some(to) => to.row < row,

@@ -1,7 +1,7 @@
 use Rattle.std.proofs.Common.{◌∙◌, ◌++◌, ap, inr, take, drop, rules, arith, take-append-drop}
 use Rattle.t85_core.specs.Options.{fields_of}
 use Rattle.t85.specs.DecoderState.{hold_of}
-use Rattle.t85.proofs.DecoderCalls.{again_cut, long_enough, never_begun, one_resumed}
+use Rattle.t85.proofs.DecoderCalls.{again_cut, long_enough, must_cut, never_begun, one_resumed}
 use Rattle.t85.proofs.DecoderHeader.{counted}
 use Rattle.t85.proofs.DecoderRows.{rows_resumed}
 use Rattle.t85.proofs.decoder.T85Decoder.give_again.Goals as goal
@@ -17,8 +17,12 @@ returns-in-Some c =
     record {
       rows = λ some. again_cut c.headers.ensures self c.repeat_row.new.self c.args.window.now c.repeat_row.new.memory (drop needed c.args.window.now) needed c.in-Ok.header
           header_of again.same_header c.window_bytes-needed.ensures (search rules)
-          (λ stream out h. again.rows some stream out
-          (rows_resumed c.headers.ensures header_of (search rules) c.in-Some.ensures.resumes stream out (counted (hold_of self front) stream out c.requires.next h)));
+          (λ stream out h. (again.rows stream out
+          (rows_resumed c.headers.ensures header_of (search rules) c.in-Some.ensures.resumes stream out (counted (hold_of self front) stream out c.requires.next h))).0 some);
+      all = must_cut c.headers.ensures self c.repeat_row.new.self c.args.window.now c.repeat_row.new.memory (drop needed c.args.window.now) needed c.in-Ok.header
+          header_of again.same_header c.window_bytes-needed.ensures (search rules)
+          (λ stream out h. (again.rows stream out
+          (rows_resumed c.headers.ensures header_of (search rules) c.in-Some.ensures.resumes stream out (counted (hold_of self front) stream out c.requires.next h))).1);
       none = λ z.
           let same = again.none z in
           ap (λ h. hold_of h.decoder (h.window ++ drop needed c.args.window.now)) same ∙ ap (hold_of self) (take-append-drop needed c.args.window.now);
