@@ -14,7 +14,7 @@ ghost use Rattle.t85_core.specs.Steps.Views.{passage_of};
 ghost use Rattle.t85_core.specs.Steps.DecodeStripes.{ImageRead, ImageCut, ImageUnwritten};
 ghost use Rattle.t85_core.specs.Steps.Pieces.{SomeStands};
 ghost use Rattle.t85_core.specs.Steps.SizedImage.{sized_of};
-ghost use Rattle.t85_core.specs.Steps.Reading.{HeldTurn, ReadTurn, RowsTurn, SameSource, still_left};
+ghost use Rattle.t85_core.specs.Steps.Reading.{RowsTurn};
 ghost use Rattle.t85_core.specs.Failures.{SameOutput};
 ghost use Rattle.t85_core.specs.declared.fault.Fault.{Fault};
 ghost use Rattle.t85_core.specs.declared.fault.Fault.TheVariants.{Truncated, Write};
@@ -138,7 +138,8 @@ fn decode_image<S: HeldSource, K: RowSink>(
     Ok(())
 }
 
-/// Decodes the next rows, which are equal, and returns how many: 0 if the image is complete.
+/// Decodes the next rows, which are equal, and returns how many: 0 if the image is complete. Reads more input when the
+/// buffer is exhausted.
 fn next_rows<S: HeldSource>(
     image: &SizedImage,
     walk: &mut Walk,
@@ -148,69 +149,32 @@ fn next_rows<S: HeldSource>(
     ensures turn { RowsTurn (sized_of image.now) (over walk.old lent.old)
         (over walk.new lent.new) (S.view stream.old) (S.view stream.new) result }
 {
-    let count = walk.repeat_rows(image, lent);
-    if count > 0 {
-        return Ok(count);
-    }
-    let is_row = next_row(image, walk, lent, stream)?;
-    Ok(u32::from(is_row))
-}
-
-/// Decodes the next row, and reads more input when the buffer is exhausted. Returns false if the image is complete.
-fn next_row<S: HeldSource>(
-    image: &SizedImage,
-    walk: &mut Walk,
-    lent: &mut Lent<'_, '_>,
-    stream: &mut S,
-) -> Result<bool, Fault>
-    ensures turn { ReadTurn (sized_of image.now) (over walk.old lent.old)
-        (over walk.new lent.new) (S.view stream.old) (S.view stream.new) result }
-    ensures code { SomeStands (sized_of image.now) (over walk.old lent.old) → result ≡ Ok true →
-        (over walk.new lent.new).stage ≡ stage.Code }
-{
     'turns: loop {
-        match turn_held(image, walk, lent, stream) {
-            Ok(is_row) => return Ok(is_row),
+        let count = walk.repeat_rows(image, lent);
+        if count > 0 {
+            return Ok(count);
+        }
+        let mut piece = Piece {
+            rest: stream.held(),
+        };
+        let answer = walk.course.next(&mut walk.stage, image, lent, &mut piece);
+        let left = piece.rest.len();
+        match answer {
+            Ok(is_row) => {
+                stream.keep(left);
+                return Ok(u32::from(is_row));
+            }
             Err(fault) => match fault {
-                Fault::Truncated => stream.refill()?,
-                _ => return Err(fault),
+                Fault::Truncated => {
+                    stream.keep(left);
+                    stream.refill()?;
+                }
+                _ => {
+                    // After an error, no byte remains buffered.
+                    stream.keep(0);
+                    return Err(fault);
+                }
             },
         }
-    }
-}
-
-/// Decodes the next row as far as the buffered bytes allow. After an error, no byte remains buffered.
-fn turn_held<S: HeldSource>(
-    image: &SizedImage,
-    walk: &mut Walk,
-    lent: &mut Lent<'_, '_>,
-    stream: &mut S,
-) -> Result<bool, Fault>
-    ensures turn { HeldTurn (sized_of image.now) (over walk.old lent.old) (over walk.new lent.new)
-        (reading (S.view stream.old).known (S.view stream.new).known) (S.bytes stream.new) result }
-    ensures still { still_left (S.view stream.new) (S.bytes stream.new) ≡
-        still_left (S.view stream.old) (S.bytes stream.old) }
-    ensures same { SameSource (S.view stream.old) (S.view stream.new) }
-    ensures code { SomeStands (sized_of image.now) (over walk.old lent.old) → result ≡ Ok true →
-        (over walk.new lent.new).stage ≡ stage.Code }
-{
-    let mut piece = Piece {
-        rest: stream.held(),
-    };
-    let answer = walk.course.next(&mut walk.stage, image, lent, &mut piece);
-    let left = piece.rest.len();
-    stream.keep(bytes_kept(answer, left));
-    answer
-}
-
-/// The number of unconsumed bytes that remain buffered: none after an error.
-fn bytes_kept(answer: Result<bool, Fault>, left: usize) -> usize
-    ensures kept { IfErr answer (λ f. f ≡ Truncated) → result ≡ left }
-    ensures none { (f : Fault) → answer ≡ Err f → f ≢ Truncated → result ≡ 0 }
-{
-    match answer {
-        Ok(_) => left,
-        Err(Fault::Truncated) => left,
-        Err(_) => 0,
     }
 }

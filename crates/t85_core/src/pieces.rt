@@ -16,7 +16,6 @@ pub mod numbers;
 pub mod phase;
 pub mod piece;
 mod repeat;
-pub mod rows;
 pub mod steps;
 pub mod walk;
 

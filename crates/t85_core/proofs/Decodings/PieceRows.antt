@@ -72,7 +72,10 @@ module _ {S : Type 0} (standing : S → EntityView) (failed : S → ℕ) (s t : 
 
   -- ---- it ends
 
-  module _ (gave : Passed (Ok tt)) where
+  module _ (result : Result (Unit {0}) Stop) (is_ok : result ≡ Ok tt) (went : Passed result) where
+    gave : Passed (Ok tt)
+    gave = subst Passed is_ok went
+
     decoded : RowDecoded (source_at Anything tt b.read.answers) (row_task shape carried.kept b.read.last.state below) (row_left carried'.kept carried'.held) (decoder_state tt d' carried'.learned)
         (Ok tt)
     decoded =
@@ -114,10 +117,13 @@ module _ {S : Type 0} (standing : S → EntityView) (failed : S → ℕ) (s t : 
 
   -- ---- it stops
 
-  module _ (e : Stop) (gave : Passed (Err e)) where
+  module _ (result : Result (Unit {0}) Stop) (e : Stop) (is_stop : result ≡ Err e) (went : Passed result) where
+    stop_gave : Passed (Err e)
+    stop_gave = subst Passed is_stop went
+
     abbrev m : RowPasses (source_at (Pull standing failed) s so_far) (row_task shape carried.kept b.read.last.state below) (row_left carried'.kept carried'.held) place'
         (decoder_state t d' carried'.learned) (Err e)
-    m = passed (Err e) gave
+    m = passed (Err e) stop_gave
 
     stopped : heard_of (so_far ++ m.more) ≡ Stopped
     stopped = m.stop.0 (is_err e)

@@ -1,6 +1,6 @@
 -- The position of a decoder before and after a step.
 use Rattle.std.proofs.Common.{cond, ◌≡◌, ◌≢◌, ◌<◌, ◌≤◌, ◌+◌, ◌-◌, ◌*◌, inl, inr, ℕ, Bool, true, false, List, [], ◌∷◌, ◌++◌, length, take, drop, nat_le, Option, None, Some, Result, Ok, Err, refl, sym, ap, ◌∙◌, subst, append_assoc, append-nil, length-append, arith, true≢false}
-use Rattle.std.specs.Prelude.{IsOk, OnOk, is_some, ◌&&◌}
+use Rattle.std.specs.Prelude.{is_some, ◌&&◌}
 use Rattle.std.proofs.lemmas.Bool.Decides.{nat_tests}
 use Rattle.std.proofs.Math.Seq.{take-append_seam}
 use Rattle.std.proofs.lemmas.List.{take-append-drop}
@@ -41,7 +41,7 @@ use Rattle.t85_core.specs.Consumed.{ConsumesImage}
 use Rattle.t85_core.specs.Steps.Behind.{BehindStands, BreaksBehind, StopsBehind, behind_at}
 use Rattle.t85_core.specs.Steps.InTime.{MarkerAfterRows}
 use Rattle.t85_core.specs.Steps.Pieces.{HeadStands, CommentStands, IsFirstWalk, SomeStands, WalkStands, CutOff, StepsOn, StepsOff, KeepsPlace, HasMarker, IsInCode, head_place}
-use Rattle.t85_core.specs.Steps.RowTurns.{RowStep, RowLeaves}
+use Rattle.t85_core.specs.Steps.RowTurns.{BegunStep, BegunLeaves}
 use Rattle.t85_core.specs.Steps.StripeEnds.{StripeEnds}
 use Rattle.t85_core.specs.Steps.SizedImage.{SizedImage, sized}
 use Rattle.t85_core.specs.Steps.PieceStands.{DecoderStands, HeightKnown, StandsAs, CodeWalks, WalkWaits, IsAtMarker, entities_behind, is_last, place_at, place_behind, last_behind}
@@ -225,10 +225,6 @@ behind_same h w w' b back code code' keeps s =
     last : last_behind h w.stage w.left ≡ last_behind h w'.stage w'.left
     last = in_code_last w.stage (nat_le w.left h.l0) code ∙ ap (λ z. nat_le z h.l0) (sym keeps.left) ∙ sym (in_code_last w'.stage (nat_le w'.left h.l0) code')
 
-pub on_ok : {A : Type 0} (r : Result A Fault) (P : Type 0) → IsOk r → OnOk r P → P
-on_ok (Ok x) P is k = k
-on_ok (Err f) P is k = absurd (let bot : ⊥ = cc in bot)
-
 pub no_bytes : (g p' : List ℕ) → [] ≡ g ++ p' → g ≡ []
 no_bytes [] p' e = refl
 no_bytes (x ∷ g) p' e = absurd (let bot : ⊥ = cc in bot)
@@ -245,8 +241,8 @@ keep_known d d' text keeps k =
     (subst (λ b. HeightKnown (fields_of d.header) d.height b text) (sym keeps.is_open) k))
 
 -- a row that waited
-pub row_given : (d d' : PieceView) → d.is_open ≡ true → d.waits ≡ true → IsInCode d.walk.stage → KeepsDecoder d d' → (p' : List ℕ) (r : Result (Unit {0}) Fault) →
-    RowStep (sized (fields_of d.header) d.header.yd) d.walk d'.walk [] p' r → RowLeaves d.walk d'.walk r →
+pub row_given : (d d' : PieceView) → d.is_open ≡ true → d.waits ≡ true → IsInCode d.walk.stage → KeepsDecoder d d' → (p' : List ℕ) (r : Result Bool Fault) →
+    BegunStep (sized (fields_of d.header) d.header.yd) d.walk d'.walk [] p' r → BegunLeaves false d.walk d'.walk r →
     DecoderOn d d' [] [] (row_held d')
 row_given d d' late waits code keeps p' r step leaves text out s = (
   [],
@@ -262,18 +258,18 @@ row_given d d' late waits code keeps p' r step leaves text out s = (
   marked : HasMarker d.walk
   marked = marker_of d.walk w.at code
 
-  whole : IsOk r × HasMarker d'.walk
-  whole = leaves.whole marked
+  whole : (r ≡ Ok true) × HasMarker d'.walk
+  whole = leaves.whole refl marked
 
   code' : IsInCode d'.walk.stage
-  code' = inl (on_ok r _ whole.0 leaves.row).1
+  code' = inl (leaves.row whole.0).1
 
   now : WalkWaits (fields_of d.header) d'.walk d.behind (text ++ []) (out ++ row_held d')
   now = record {
     done = w.done;
     back = w.back;
     text_is = append-nil text ∙ w.text_is;
-    walk = step_none (fields_of d.header) d.header.yd d.walk d'.walk p' (row_held d') (on_ok r _ whole.0 step.ok) w.done out w.walk;
+    walk = step_none (fields_of d.header) d.header.yd d.walk d'.walk p' (row_held d') (step.row whole.0) w.done out w.walk;
     at = inr (code', whole.1);
     ungiven = leaves.place.given ∙ w.ungiven;
     in_time = λ _. in_time_more (row_held d') (w.in_time code);
@@ -281,8 +277,8 @@ row_given d d' late waits code keeps p' r step leaves text out s = (
   }
 
 -- its place
-pub row_after : (d : PieceView) (w : WalkView) → d.is_open ≡ true → d.waits ≡ true → SomeStand d → IsInCode d.walk.stage → (r : Result (Unit {0}) Fault) → RowLeaves d.walk w r → w.row ≡ d.walk.row + 1
-row_after d w late waits some code r leaves = (on_ok r _ (leaves.whole (marker_of d.walk (waits_of d some.0 some.1 late waits some.2).at code)).0 leaves.row).0
+pub row_after : (d : PieceView) (w : WalkView) → d.is_open ≡ true → d.waits ≡ true → SomeStand d → IsInCode d.walk.stage → (r : Result Bool Fault) → BegunLeaves false d.walk w r → w.row ≡ d.walk.row + 1
+row_after d w late waits some code r leaves = (leaves.row (leaves.whole refl (marker_of d.walk (waits_of d some.0 some.1 late waits some.2).at code)).0).0
 
 -- a stripe ended
 pub stripe_ended : {d d' : PieceView} → d.is_open ≡ true → d.waits ≡ true → SomeStand d → KeepsDecoder d d' → StripeEnds (sized (fields_of d.header) d.header.yd) d.walk d'.walk → StripeLeft d d'

@@ -8,7 +8,7 @@ use Rattle.t85_core.specs.Lent.{WalkView}
 use Rattle.t85_core.specs.Steps.InTime.{MarkerAfterRows, ReachesMarker}
 use Rattle.t85_core.specs.Steps.PieceCode.{MarkerIs}
 use Rattle.t85_core.specs.Steps.Pieces.{HasMarker, IsInCode, KeepsPlace, SomeStands, Step, StepsOff, StepsOn}
-use Rattle.t85_core.specs.Steps.RowTurns.{BegunLeaves, BegunStep, CodeGoes, RowLeaves, RowStep}
+use Rattle.t85_core.specs.Steps.RowTurns.{BegunLeaves, BegunStep, CodeGoes}
 use Rattle.t85_core.specs.Steps.SizedImage.{SizedImage, sized}
 use Rattle.t85_core.proofs.Decodings.PieceInTime.{none_read}
 use Rattle.t85_core.proofs.Decodings.PieceSteps.{on_then, off_then}
@@ -59,22 +59,14 @@ module _ {h : Fields} {height : ℕ} {w w1 : WalkView} {p p1 : List ℕ} (on : S
 
 -- ---- a code that does not wait
 
-pub leaves_ok : {w w' : WalkView} (b : Bool) → BegunLeaves false w w' (Ok b) → RowLeaves w w' (Ok tt)
-leaves_ok true l = record { place = l.place; row = l.row refl; whole = λ m. (refl, (l.whole refl m).1); other = tt }
-leaves_ok false l = absurd (let z : false ≡ true = (l.waited refl).0 in let bot : ⊥ = cc in bot)
-
-pub leaves_err : {w w' : WalkView} (f : Fault) → BegunLeaves false w w' (Err f) → RowLeaves w w' (Err f)
-leaves_err f l = record { place = l.place; row = tt; whole = λ m. absurd (let z : Err f ≡ Ok true = (l.whole refl m).0 in let bot : ⊥ = cc in bot); other = l.other }
+-- it returns no marker
+pub is_row : {w w' : WalkView} (b : Bool) → BegunLeaves false w w' (Ok b) → b ≡ true
+is_row true l = refl
+is_row false l = absurd (let z : false ≡ true = (l.waited refl).0 in let bot : ⊥ = cc in bot)
 
 module _ {image : SizedImage} {w w' : WalkView} {p p' : List ℕ} where
-  pub row_ok : (b : Bool) → BegunStep image w w' p p' (Ok b) → (SomeStands image w → BegunLeaves false w w' (Ok b)) → RowStep image w w' p p' (Ok tt)
-  row_ok b s leaves = record { ok = λ text out k. by b s (leaves (text, out, k)) text out k; err = tt; more = λ e. absurd (let bot : ⊥ = cc in bot) } where
-    by : (b : Bool) → BegunStep image w w' p p' (Ok b) → BegunLeaves false w w' (Ok b) → StepsOn image w w' p p' w'.carried.held.current
-    by true s l = s.row refl
-    by false s l = absurd (let z : false ≡ true = (l.waited refl).0 in let bot : ⊥ = cc in bot)
-
-  pub row_err : (f : Fault) → BegunStep image w w' p p' (Err f) → RowStep image w w' p p' (Err f)
-  row_err f s = record { ok = tt; err = s.err; more = λ e. s.more (let same : Err f ≡ Err Truncated = cc in same) }
+  pub row_on : (b : Bool) → BegunStep image w w' p p' (Ok b) → (SomeStands image w → BegunLeaves false w w' (Ok b)) → StepsOn image w w' p p' w'.carried.held.current
+  row_on b s leaves text out k = s.row (ap Ok (is_row b (leaves (text, out, k)))) text out k
 
   -- ---- one that waits
 

@@ -12,7 +12,7 @@ use Rattle.t85_core.specs.Failures.{CountsRead, Ends, counted_as, reads_after, w
 use Rattle.t85_core.specs.Steps.Buffers.{SourceView, ReadsOn, copies, reading}
 use Rattle.t85_core.specs.Steps.Pieces.{CutOff, WalkStands, SomeStands, StepsOff, StepsOn, Turn, CodeStands, head_place, code_place}
 use Rattle.t85_core.specs.Steps.SizedImage.{sized}
-use Rattle.t85_core.specs.Steps.Reading.{KeepsLast, ReadsWalk, BreaksWalk, WaitsWalk, HeldTurn, ReadTurn, RowsTurn, ImageSoFar}
+use Rattle.t85_core.specs.Steps.Reading.{KeepsLast, ReadsWalk, BreaksWalk, WaitsWalk, HeldTurn, RowsTurn, ImageSoFar}
 use Rattle.std.specs.Result.{IsErrAnd}
 use Rattle.std.proofs.lemmas.Bool.{cases_lt}
 use Rattle.std.proofs.lemmas.Grind.{div_ceil_times}
@@ -148,7 +148,7 @@ waits_off h height w w' a b c held' f waits e text out s =
       at_end = e.at_end;
     }
 
--- ---- what a turn is that reads on
+-- ---- rows, and what is read for them
 
 pub reads_nothing : (h : Fields) (height : ℕ) (w : WalkView) (known : Option (List ℕ)) → ReadsWalk (sized h height) w w known known []
 reads_nothing h height w known text out s = (
@@ -163,23 +163,54 @@ pub reads_none : (h : Fields) (height : ℕ) (w w' : WalkView) (known : Option (
     ((text out : List ℕ) → WalkStands (sized h height) w text out → WalkStands (sized h height) w' text (out ++ row)) → ReadsWalk (sized h height) w w' known known row
 reads_none h height w w' known row on text out s = ([], Consumes-none known, subst (λ z. WalkStands (sized h height) w' z (out ++ row)) (sym (append-nil text)) (on text out s))
 
+-- none of those
+pub reads_no_rows : (h : Fields) (height : ℕ) (w w' : WalkView) (known : Option (List ℕ)) (n : ℕ) → n ≡ 0 →
+    ((text out : List ℕ) → WalkStands (sized h height) w text out → WalkStands (sized h height) w' text (out ++ copies n w'.carried.held.current)) → ReadsWalk (sized h height) w w' known known []
+reads_no_rows h height w w' known n none on = reads_none h height w w' known []
+    (λ text out s. subst (λ z. WalkStands (sized h height) w' text (out ++ copies z w'.carried.held.current)) none (on text out s))
+
+-- rows that equal the one before
+pub rows_same : (h : Fields) (height : ℕ) (w w1 w2 : WalkView) (old new : SourceView) → ReadsWalk (sized h height) w w1 old.known new.known [] → (n : ℕ) → 0 < n →
+    ((text out : List ℕ) → WalkStands (sized h height) w1 text out → WalkStands (sized h height) w2 text (out ++ copies n w2.carried.held.current)) → (0 < n → w2.stage ≡ stage.Code) →
+    new.failures ≡ old.failures → new.source ≡ old.source → RowsTurn (sized h height) w w2 old new (Ok n)
+rows_same h height w w1 w2 old new on n some same code unfailed source = record {
+  some = λ _. (
+    reads_then h height w w1 old.known new.known on w2 new.known (copies n w2.carried.held.current) (reads_none h height w1 w2 new.known (copies n w2.carried.held.current) same),
+    λ _. code some,
+  );
+  none = λ none. absurd (omega (arith, some, none));
+  err = tt;
+  reads = λ _. record { drained = λ e. absurd (let bot : ⊥ = cc in bot); counts = unfailed; same_source = source };
+}
+
 module _ (h : Fields) (height : ℕ) (w w1 w2 : WalkView) (old mid new : SourceView) (on : ReadsWalk (sized h height) w w1 old.known mid.known []) where
-  -- a row, or the end
-  pub turn_found : (held' : List ℕ) (b : Bool) → HeldTurn (sized h height) w1 w2 (reading mid.known new.known) held' (Ok b) → new.failures ≡ old.failures → new.source ≡ old.source →
-      ReadTurn (sized h height) w w2 old new (Ok b)
-  turn_found held' b t unfailed same = record {
-    row = λ e. reads_then h height w w1 old.known mid.known on w2 new.known w2.carried.held.current (t.row e);
-    done = λ e. (reads_then h height w w1 old.known mid.known on w2 new.known [] (t.done e).0, (t.done e).1);
+  -- one row, or the end
+  pub rows_one : (held' : List ℕ) (b : Bool) (n : ℕ) → n ≡ cond b 1 0 → HeldTurn (sized h height) w1 w2 (reading mid.known new.known) held' (Ok b) →
+      (SomeStands (sized h height) w1 → ◌≡◌ {A = Result Bool Fault} (Ok b) (Ok true) → w2.stage ≡ stage.Code) → new.failures ≡ old.failures → new.source ≡ old.source →
+      RowsTurn (sized h height) w w2 old new (Ok n)
+  rows_one held' true n is t code unfailed same = record {
+    some = λ _. (
+      reads_then h height w w1 old.known mid.known on w2 new.known (copies n w2.carried.held.current)
+          (subst (λ z. ReadsWalk (sized h height) w1 w2 mid.known new.known z) (sym (append-nil w2.carried.held.current) ∙ ap (λ z. copies z w2.carried.held.current) (sym is)) (t.row refl)),
+      λ some. code (some_then h height w w1 old.known mid.known on some) refl,
+    );
+    none = λ none. absurd (omega (arith, is, none));
+    err = tt;
+    reads = λ _. record { drained = λ e. absurd (let bot : ⊥ = cc in bot); counts = unfailed; same_source = same };
+  }
+  rows_one held' false n is t code unfailed same = record {
+    some = λ more. absurd (omega (arith, is, more));
+    none = λ _. (reads_then h height w w1 old.known mid.known on w2 new.known [] (t.done refl).0, (t.done refl).1);
     err = tt;
     reads = λ _. record { drained = λ e. absurd (let bot : ⊥ = cc in bot); counts = unfailed; same_source = same };
   }
 
   -- a fault in what is held
-  pub turn_off : (held' : List ℕ) (f : Fault) → HeldTurn (sized h height) w1 w2 (reading mid.known new.known) held' (Err f) → f ≢ Truncated → new.failures ≡ old.failures → new.source ≡ old.source →
-      ReadTurn (sized h height) w w2 old new (Err f)
-  turn_off held' f t other unfailed same = record {
-    row = λ e. absurd (let bot : ⊥ = cc in bot);
-    done = λ e. absurd (let bot : ⊥ = cc in bot);
+  pub rows_off : (held' : List ℕ) (f : Fault) → HeldTurn (sized h height) w1 w2 (reading mid.known new.known) held' (Err f) → f ≢ Truncated → new.failures ≡ old.failures → new.source ≡ old.source →
+      RowsTurn (sized h height) w w2 old new (Err f)
+  rows_off held' f t other unfailed same = record {
+    some = tt;
+    none = tt;
     err = breaks_then h height w w1 old.known mid.known on new.known f (t.err other);
     reads = λ some.
         let none = t.unread (some_then h height w w1 old.known mid.known on some) in
@@ -191,83 +222,26 @@ module _ (h : Fields) (height : ℕ) (w w1 w2 : WalkView) (old mid new : SourceV
   }
 
   -- nothing is read behind it
-  pub turn_unread : (last : SourceView) (held' : List ℕ) (r : Result Bool Fault) (e : Fault) (t : Result (Unit {0}) Fault) → IsErrAnd r (λ y. y ≡ e) → t ≡ Err e →
+  pub rows_unread : (last : SourceView) (held' : List ℕ) (r : Result ℕ Fault) (e : Fault) (t : Result (Unit {0}) Fault) → IsErrAnd r (λ y. y ≡ e) → t ≡ Err e →
       WaitsWalk (sized h height) w1 w2 mid.known new.known held' →
       IfErr t (Ends Truncated new.known last.known (λ given fault. (given ≡ held') × (fault ≡ Truncated))) → ReadsOn new last t → new.failures ≡ old.failures → new.source ≡ old.source →
-      ReadTurn (sized h height) w w2 old last r
-  turn_unread last held' (Ok x) e t a is waits ends reads unfailed same = absurd a
-  turn_unread last held' (Err y) e t a is waits ends reads unfailed same =
+      RowsTurn (sized h height) w w2 old last r
+  rows_unread last held' (Ok x) e t a is waits ends reads unfailed same = absurd a
+  rows_unread last held' (Err y) e t a is waits ends reads unfailed same =
       let there : Ends Truncated new.known last.known (λ given fault. (given ≡ held') × (fault ≡ Truncated)) y =
       subst (Ends Truncated new.known last.known (λ given fault. (given ≡ held') × (fault ≡ Truncated))) (sym a)
       (subst (λ z. IfErr z (Ends Truncated new.known last.known (λ given fault. (given ≡ held') × (fault ≡ Truncated)))) is ends) in
       let counts : last.failures ≡ reads_after y new.failures = subst (λ z. last.failures ≡ reads_after z new.failures) (sym a)
       (subst (λ z. CountsRead new.failures last.failures z) is reads.counts) in
       record {
-        row = λ e. absurd (let bot : ⊥ = cc in bot);
-        done = λ e. absurd (let bot : ⊥ = cc in bot);
+        some = tt;
+        none = tt;
         err = breaks_then h height w w1 old.known mid.known on last.known y (waits_off h height w1 w2 mid.known new.known last.known held' y waits there);
         reads = λ _. record {
           drained = λ k. let read : y ≡ Read = cc in reads.drained (is ∙ ap Err (sym a ∙ read));
           counts = counts ∙ ap (reads_after y) unfailed;
           same_source = reads.same_source ∙ same;
         };
-      }
-
--- ---- several rows
-
--- rows that equal the one before
-pub rows_same : (h : Fields) (height : ℕ) (w w' : WalkView) (s : SourceView) (n : ℕ) → 0 < n →
-    ((text out : List ℕ) → WalkStands (sized h height) w text out → WalkStands (sized h height) w' text (out ++ copies n w'.carried.held.current)) → (0 < n → w'.stage ≡ stage.Code) →
-    RowsTurn (sized h height) w w' s s (Ok n)
-rows_same h height w w' s n some on code = record {
-  some = λ _. (reads_none h height w w' s.known (copies n w'.carried.held.current) on, λ _. code some);
-  none = λ none. absurd (omega (arith, some, none));
-  err = tt;
-  reads = λ _. record { drained = λ e. absurd (let bot : ⊥ = cc in bot); counts = refl; same_source = refl };
-}
-
--- none of those
-pub reads_no_rows : (h : Fields) (height : ℕ) (w w' : WalkView) (known : Option (List ℕ)) (n : ℕ) → n ≡ 0 →
-    ((text out : List ℕ) → WalkStands (sized h height) w text out → WalkStands (sized h height) w' text (out ++ copies n w'.carried.held.current)) → ReadsWalk (sized h height) w w' known known []
-reads_no_rows h height w w' known n none on = reads_none h height w w' known []
-    (λ text out s. subst (λ z. WalkStands (sized h height) w' text (out ++ copies z w'.carried.held.current)) none (on text out s))
-
-module _ (h : Fields) (height : ℕ) (w w1 w2 : WalkView) (old new : SourceView) (on : ReadsWalk (sized h height) w w1 old.known old.known []) where
-  pub rows_one : (b : Bool) (n : ℕ) → n ≡ cond b 1 0 → ReadTurn (sized h height) w1 w2 old new (Ok b) →
-      (SomeStands (sized h height) w1 → ◌≡◌ {A = Result Bool Fault} (Ok b) (Ok true) → w2.stage ≡ stage.Code) → RowsTurn (sized h height) w w2 old new (Ok n)
-  rows_one b n is t code = went b n is t code where
-    went : (b : Bool) (n : ℕ) → n ≡ cond b 1 0 → ReadTurn (sized h height) w1 w2 old new (Ok b) →
-        (SomeStands (sized h height) w1 → ◌≡◌ {A = Result Bool Fault} (Ok b) (Ok true) → w2.stage ≡ stage.Code) → RowsTurn (sized h height) w w2 old new (Ok n)
-    went true n is t code = record {
-      some = λ _. (
-        reads_then h height w w1 old.known old.known on w2 new.known (copies n w2.carried.held.current)
-            (subst (λ z. ReadsWalk (sized h height) w1 w2 old.known new.known z) (sym (append-nil w2.carried.held.current) ∙ ap (λ z. copies z w2.carried.held.current) (sym is)) (t.row refl)),
-        λ some. code (some_then h height w w1 old.known old.known on some) refl,
-      );
-      none = λ none. absurd (omega (arith, is, none));
-      err = tt;
-      reads = λ some. let r = t.reads (some_then h height w w1 old.known old.known on some) in
-          record { drained = λ e. absurd (let bot : ⊥ = cc in bot); counts = r.counts; same_source = r.same_source };
-    }
-    went false n is t code = record {
-      some = λ more. absurd (omega (arith, is, more));
-      none = λ _. (reads_then h height w w1 old.known old.known on w2 new.known [] (t.done refl).0, (t.done refl).1);
-      err = tt;
-      reads = λ some. let r = t.reads (some_then h height w w1 old.known old.known on some) in
-          record { drained = λ e. absurd (let bot : ⊥ = cc in bot); counts = r.counts; same_source = r.same_source };
-    }
-
-  pub rows_off : (r : Result ℕ Fault) (e : Fault) (t : Result Bool Fault) → IsErrAnd r (λ y. y ≡ e) → t ≡ Err e → ReadTurn (sized h height) w1 w2 old new t → RowsTurn (sized h height) w w2 old new r
-  rows_off (Ok x) e t a is turn = absurd a
-  rows_off (Err y) e t a is turn =
-      let same : t ≡ Err y = is ∙ ap Err (sym a) in
-      let there : ReadTurn (sized h height) w1 w2 old new (Err y) = subst (ReadTurn (sized h height) w1 w2 old new) same turn in
-      record {
-        some = tt;
-        none = tt;
-        err = breaks_then h height w w1 old.known old.known on new.known y there.err;
-        reads = λ some. let r = there.reads (some_then h height w w1 old.known old.known on some) in
-            record { drained = λ k. let read : y ≡ Read = cc in r.drained (ap Err read); counts = r.counts; same_source = r.same_source };
       }
 
 -- ---- the image

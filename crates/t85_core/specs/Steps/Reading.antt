@@ -69,19 +69,7 @@ pub record HeldTurn (image : SizedImage) (w w' : WalkView) (known : Reading) (he
   pub err : IfErr answer (λ f. f ≢ Truncated → BreaksWalk image w known.old known.new f)
   pub unread : IfErr answer (λ f. SomeStands image w → ((n : ℕ) → reads_after f n ≡ n))
 
--- the source is the same, and no read has failed
-pub record SameSource (old new : SourceView) : Type 0 where
-  pub unfailed : new.failures ≡ old.failures
-  pub same_source : new.source ≡ old.source
-
--- The effect of a turn that reads on at the end of the buffered bytes.
-pub record ReadTurn (image : SizedImage) (w w' : WalkView) (old new : SourceView) (answer : Result Bool Fault) : Type 0 where
-  pub row : answer ≡ Ok true → ReadsWalk image w w' old.known new.known w'.carried.held.current
-  pub done : answer ≡ Ok false → ReadsWalk image w w' old.known new.known [] × IsOver w'.stage
-  pub err : IfErr answer (λ f. BreaksWalk image w old.known new.known f)
-  pub reads : SomeStands image w → ReadsOn old new answer
-
--- The same, of several rows that are equal: so many were handed out, or the image is whole.
+-- The effect of decoding rows that are equal, which reads on at the end of the buffered bytes: so many were handed out, or the image is whole.
 pub record RowsTurn (image : SizedImage) (w w' : WalkView) (old new : SourceView) (answer : Result ℕ Fault) : Type 0 where
   pub some : IfOk answer (λ n. 0 < n → ReadsWalk image w w' old.known new.known (copies n w'.carried.held.current) × (SomeStands image w → w'.stage ≡ stage.Code))
   pub none : IfOk answer (λ n. n ≡ 0 → ReadsWalk image w w' old.known new.known [] × IsOver w'.stage)

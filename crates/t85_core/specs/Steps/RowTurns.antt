@@ -1,5 +1,5 @@
 -- The effects of the steps of a walk in the rows of a stripe.
-use Rattle.std.specs.Prelude.{ℕ, ◌+◌, ◌≡◌, ◌≢◌, Bool, true, false, List, [], Result, Ok, IsOk, OnOk, IfErr, IsErrOf}
+use Rattle.std.specs.Prelude.{ℕ, ◌+◌, ◌≡◌, ◌≢◌, Bool, true, false, List, [], Result, Ok, IfErr, IsErrOf}
 use Rattle.t85_core.specs.declared.fault.Fault.{Fault}
 use Rattle.t85_core.specs.declared.fault.Fault.TheVariants.{Truncated, Changed}
 use Rattle.t85_core.specs.Lent.{WalkView}
@@ -7,26 +7,6 @@ use Rattle.t85_core.specs.Stages as stage
 use Rattle.t85_core.specs.Steps.InTime.{ReachesMarker}
 use Rattle.t85_core.specs.Steps.Pieces.{HasMarker, IsInCode, KeepsPlace, SomeStands, StepsOff, StepsOn, StepsToEnd}
 use Rattle.t85_core.specs.Steps.SizedImage.{SizedImage}
-
--- The effect of a step that returns a row.
-pub record RowStep (image : SizedImage) (w w' : WalkView) (piece piece' : List ℕ) (answer : Result (Unit {0}) Fault) : Type 0 where
-  pub ok : OnOk answer (StepsOn image w w' piece piece' w'.carried.held.current)
-  pub err : IfErr answer (λ f. StepsOff image w piece f)
-  pub more : IsErrOf answer Truncated → StepsToEnd image w w' piece piece'
-
--- The effect of a step to a row, besides the row.
-pub record RowLeaves (w w' : WalkView) (answer : Result (Unit {0}) Fault) : Type 0 where
-  pub place : KeepsPlace w w'
-  pub row : OnOk answer ((w'.row ≡ w.row + 1) × (w'.stage ≡ stage.Code))
-  -- a row of a code whose end marker was read is whole
-  pub whole : HasMarker w → IsOk answer × HasMarker w'
-  pub other : IfErr answer (λ f. f ≢ Changed)
-
--- The walk is again one at some position.
-abbrev pub LeavesRow : SizedImage → WalkView → WalkView → Result (Unit {0}) Fault → Type 0
-LeavesRow image w w' answer = SomeStands image w → RowLeaves w w' answer
-
--- ---- a row, or the end marker
 
 -- The effect of a step that returns a row, or reads the end marker ahead if the code waits there.
 pub record BegunStep (image : SizedImage) (w w' : WalkView) (piece piece' : List ℕ) (answer : Result Bool Fault) : Type 0 where

@@ -254,7 +254,7 @@ impl PieceDecoder {
         // The end marker has been read, so the row ends.
         let _ = behind
             .code
-            .next_row(&self.image, &mut self.course, lent, &mut none);
+            .next_row(&self.image, false, &mut self.course, lent, &mut none);
         self.phase = Phase::Behind(behind);
     }
 }

@@ -113,7 +113,7 @@ impl Course {
                 }
                 Stage::Code(code) => {
                     if code.row < self.left.min(image.header.l0) {
-                        code.next_row(image, self, lent, piece)?;
+                        code.next_row(image, false, self, lent, piece)?;
                         return Ok(true);
                     }
                     let reset = code.find_end(image, piece)?;

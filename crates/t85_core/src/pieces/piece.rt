@@ -1,6 +1,6 @@
 //! A piece of a stream as a byte source.
 
-ghost use Rattle.std.specs.Prelude.{◌≡◌, ◌≤◌, ◌<◌, ◌++◌, ℕ, Bool, None, Some, IfErr, IfOk, [], length};
+ghost use Rattle.std.specs.Prelude.{◌≡◌, ◌≤◌, ◌<◌, ◌++◌, ℕ, Bool, Ok, None, Some, IfErr, IfOk, [], length, true, false};
 ghost use Rattle.t85_core.specs.declared.fault.Fault.{Fault};
 ghost use Rattle.t85_core.specs.declared.fault.Fault.TheVariants.{Truncated};
 ghost use Rattle.t85_core.specs.declared.segments.Code.TheVariants as code;
@@ -122,6 +122,24 @@ impl<const PART: usize> PieceCode<'_, PART> {
     ghost use Rattle.qm_core.specs.Source.{failures_after};
     ghost use Rattle.t85_core.specs.Steps.Entity.{EntityGives};
     ghost use Rattle.t85_core.specs.Steps.Views.{piece_view};
+
+    /// The result of a row of this code: true if the row is whole; otherwise why the code stopped, or false if it
+    /// stopped at its end marker.
+    #[inline(always)]
+    pub fn row_result(&self, is_whole: bool) -> Result<bool, Fault>
+        ensures whole { is_whole ≡ true → result ≡ Ok true }
+        ensures row { result ≡ Ok true → is_whole ≡ true }
+        ensures marker { result ≡ Ok false → self.now.fault ≡ None }
+        ensures fault { (f : Fault) → result ≡ Err f → self.now.fault ≡ Some f }
+    {
+        if is_whole {
+            return Ok(true);
+        }
+        match self.fault {
+            Some(fault) => Err(fault),
+            None => Ok(false),
+        }
+    }
 
     /// Returns the next byte, whatever comes next.
     #[inline(never)]

@@ -10,7 +10,7 @@ ghost use Rattle.t85_core.specs.Lent.{KeepsWindow, KeepsLent, code_lent as over,
 ghost use Rattle.t85_core.specs.declared.pieces.course.Course.{Course};
 ghost use Rattle.t85_core.specs.Steps.PieceCode.{MarkerRead};
 ghost use Rattle.t85_core.specs.Steps.Pieces.{KeepsStripes, SomeStands, WalkStands};
-ghost use Rattle.t85_core.specs.Steps.RowTurns.{BegunLeaves, BegunStep, CodeGoes, LeavesRow, RowStep};
+ghost use Rattle.t85_core.specs.Steps.RowTurns.{BegunLeaves, BegunStep, CodeGoes};
 ghost use Rattle.t85_core.specs.Steps.SizedImage.{sized, sized_of};
 ghost use Rattle.t85_core.specs.Header.{Fields};
 
@@ -22,10 +22,9 @@ use crate::pieces::code::InCode;
 use crate::pieces::code::rows::offset_in;
 use crate::pieces::course::Course;
 use crate::pieces::piece::{Piece, PieceCode};
-use crate::pieces::rows::go_on_in_row;
 use crate::segments::Code;
 use qm_core::Decoder;
-use raster_core::{Kept, RowPlace, Shape, Window};
+use raster_core::{Kept, RowPlace, Window, go_on_row};
 use std::mem::replace;
 
 /// A whole row, and the rest of a row: each is compiled separately.
@@ -45,26 +44,43 @@ struct BegunRow {
 impl InCode {
     ghost use Rattle.t85_core.specs.declared.pieces.code.InCode.{InCode};
 
-    /// Continues to the end of the next row.
+    /// Continues to the end of the next row, and returns true; or returns false at the end marker, if it `waits` there.
     pub fn next_row(
         &mut self,
         image: &SizedImage,
+        waits: bool,
         course: &mut Course,
         lent: &mut Lent<'_, '_>,
         piece: &mut Piece<'_>,
-    ) -> Result<(), Fault>
+    ) -> Result<bool, Fault>
         requires left { self.old.row < min course.old.left image.now.header.l0 }
-        ensures step { RowStep (sized_of image.now) (over course.old self.old lent.old)
+        ensures step { BegunStep (sized_of image.now) (over course.old self.old lent.old)
             (over course.new self.new lent.new) piece.old.rest.now piece.new.rest.now result }
-        ensures leaves { LeavesRow (sized_of image.now) (over course.old self.old lent.old)
-            (over course.new self.new lent.new) result }
+        ensures leaves { SomeStands (sized_of image.now) (over course.old self.old lent.old) →
+            BegunLeaves waits (over course.old self.old lent.old) (over course.new self.new
+            lent.new) result }
         ensures stripe { KeepsStripes course.old course.new }
         ensures no_more { length piece.new.rest.now ≤ length piece.old.rest.now }
         ensures lent { KeepsLent lent.old lent.new }
     {
-        match self.row_or_marker(image, false, course, lent, piece) {
-            Ok(_) => Ok(()),
-            Err(fault) => Err(fault),
+        // No call leaves a position that is not in a row of this width, but a caller may store one. The row ends.
+        let reached = self.begun.unwrap_or(RowPlace::start());
+        if reached.done() >= lent.window.width() {
+            self.begun = None;
+            self.row += 1;
+            return Ok(true);
+        }
+        match self.begun {
+            Some(place) => {
+                let begun = BegunRow { place, waits };
+                self.finish_row::<REST_OF_ROW>(image, begun, course, lent, piece)
+            }
+            None => {
+                self.enter_row(&mut course.kept, lent.window);
+                let place = RowPlace::start();
+                let begun = BegunRow { place, waits };
+                self.finish_row::<WHOLE_ROW>(image, begun, course, lent, piece)
+            }
         }
     }
 
@@ -85,43 +101,10 @@ impl InCode {
         ensures lent { KeepsLent lent.old lent.new }
     {
         if self.row < course.left.min(image.header.l0) {
-            return self.row_or_marker(image, true, course, lent, piece);
+            return self.next_row(image, true, course, lent, piece);
         }
         self.find_end(image, piece)?;
         Ok(false)
-    }
-
-    /// Continues to the end of the next row, and returns true; or returns false at the end marker, if it `waits` there.
-    fn row_or_marker(
-        &mut self,
-        image: &SizedImage,
-        waits: bool,
-        course: &mut Course,
-        lent: &mut Lent<'_, '_>,
-        piece: &mut Piece<'_>,
-    ) -> Result<bool, Fault>
-        requires left { self.old.row < min course.old.left image.now.header.l0 }
-        ensures step { BegunStep (sized_of image.now) (over course.old self.old lent.old)
-            (over course.new self.new lent.new) piece.old.rest.now piece.new.rest.now result }
-        ensures leaves { SomeStands (sized_of image.now) (over course.old self.old lent.old) →
-            BegunLeaves waits (over course.old self.old lent.old) (over course.new self.new
-            lent.new) result }
-        ensures stripe { KeepsStripes course.old course.new }
-        ensures no_more { length piece.new.rest.now ≤ length piece.old.rest.now }
-        ensures lent { KeepsLent lent.old lent.new }
-    {
-        match self.begun {
-            Some(place) => {
-                let begun = BegunRow { place, waits };
-                self.finish_row::<REST_OF_ROW>(image, begun, course, lent, piece)
-            }
-            None => {
-                self.enter_row(&mut course.kept, lent.window);
-                let place = RowPlace::start();
-                let begun = BegunRow { place, waits };
-                self.finish_row::<WHOLE_ROW>(image, begun, course, lent, piece)
-            }
-        }
     }
 
     /// Moves down to the next row of a stripe, and performs its move.
@@ -148,6 +131,7 @@ impl InCode {
         lent: &mut Lent<'_, '_>,
         piece: &mut Piece<'_>,
     ) -> Result<bool, Fault>
+        requires inside { row.place.done < width_of lent.old.window.now }
         requires left { self.old.row < min course.old.left image.now.header.l0 }
         ensures step { BegunStep (sized_of image.now) (over course.old (record self.old {
           begun =
@@ -177,30 +161,29 @@ impl InCode {
             fault: None,
             failures: 0,
         };
-        let shape = Shape {
-            width: lent.window.width(),
-            ..image.header.shape()
-        };
-        let kept = &mut course.kept;
-        let went = go_on_in_row(shape, lent, kept, &mut local, &mut place, &mut code);
+        let mut shape = image.header.shape();
+        shape.width = lent.window.width();
+        let went = go_on_row(
+            shape,
+            &mut place,
+            &mut course.kept,
+            lent.window,
+            lent.learned,
+            &mut local,
+            &mut code,
+        );
+        let is_whole = went.is_ok();
+        let answer = code.row_result(is_whole);
         course.decoder = local;
         self.first = code.first;
         self.marker = code.marker;
         piece.rest = code.piece.rest;
-        match went {
-            Ok(true) => {
-                self.begun = None;
-                self.row += 1;
-                Ok(true)
-            }
-            Ok(false) => {
-                self.begun = Some(place);
-                Ok(false)
-            }
-            Err(fault) => {
-                self.begun = Some(place);
-                Err(fault)
-            }
+        if answer.unwrap_or(false) {
+            self.begun = None;
+            self.row += 1;
+        } else {
+            self.begun = Some(place);
         }
+        answer
     }
 }

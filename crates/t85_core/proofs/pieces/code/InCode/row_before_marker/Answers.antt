@@ -11,7 +11,7 @@ use Rattle.t85_core.proofs.pieces.code.InCode.row_before_marker.Goals as goal
 
 pub returns-then-self-min-clause-goes : goal.returns-then-self-min-clause-goes
 returns-then-self-min-clause-goes c = λ unread.
-    code_goes unread c.row_or_marker.ensures.step c.row_or_marker.ensures.leaves
+    code_goes unread c.next_row.ensures.step c.next_row.ensures.leaves
 
 pub returns-in_err-find_end-clause-goes : goal.returns-in_err-find_end-clause-goes
 returns-in_err-find_end-clause-goes c = λ unread.

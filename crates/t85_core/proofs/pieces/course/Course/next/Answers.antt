@@ -1,4 +1,4 @@
-use Rattle.std.proofs.Common.{◌≤◌, [], Err, min, ap, refl, sym, subst, ◌∙◌, arith}
+use Rattle.std.proofs.Common.{◌≤◌, [], Ok, Err, min, ap, refl, sym, subst, ◌∙◌, arith}
 use Rattle.raster_core.specs.Window.{held}
 use Rattle.t85_core.specs.Options.{fields_of}
 use Rattle.t85_core.specs.Lent.{code_lent, stage_lent}
@@ -7,6 +7,7 @@ use Rattle.t85_core.specs.declared.pieces.course.Stage.TheVariants as stage
 use Rattle.t85_core.specs.Steps.SizedImage.{sized}
 use Rattle.t85_core.specs.Steps.Pieces.{StepsOn}
 use Rattle.t85_core.proofs.Decodings.PieceSteps.{counts_kept, counts_then, ended_counts, ends_on, in_code_of, on_then, off_then, stays, turn_exit, turn_row}
+use Rattle.t85_core.proofs.Decodings.PieceTurns.{is_row, row_on}
 use Rattle.t85_core.proofs.pieces.course.Course.next.Goals as goal
 
 pub steps-init : goal.steps-init
@@ -72,13 +73,14 @@ returns-then-code-min-clause-step c =
     (code_lent c.next_row.new.course c.next_row.new.self c.next_row.new.lent) c.args.piece.now.rest.now c.next_row.new.piece.rest.now
     (on_then (fields_of c.args.image.now.header) c.args.image.now.height (stage_lent c.args.self.now c.args.stage.now c.args.lent.now)
     (code_lent c.steps.self c.in-Code.code c.steps.lent) c.args.piece.now.rest.now c.steps.piece.rest.now on
-    (code_lent c.next_row.new.course c.next_row.new.self c.next_row.new.lent) c.next_row.new.piece.rest.now (held c.next_row.new.lent.window.now).current c.in_ok-next_row-in-Code.ensures.step.ok)
+    (code_lent c.next_row.new.course c.next_row.new.self c.next_row.new.lent) c.next_row.new.piece.rest.now (held c.next_row.new.lent.window.now).current (row_on c.in_ok-next_row-in-Code.field-0 c.in_ok-next_row-in-Code.ensures.step c.in_ok-next_row-in-Code.ensures.leaves))
 
 pub returns-then-code-min-clause-code : goal.returns-then-code-min-clause-code
 returns-then-code-min-clause-code c = λ some _.
     let on = subst (λ z. StepsOn (sized (fields_of c.args.image.now.header) c.args.image.now.height) (stage_lent c.args.self.now c.args.stage.now c.args.lent.now)
     (stage_lent c.steps.self z c.steps.lent) c.args.piece.now.rest.now c.steps.piece.rest.now []) c.in-Code.is c.steps.invariant.so_far in
-    (c.in_ok-next_row-in-Code.ensures.leaves (_, _, (on some.0 some.1 some.2).2)).row.1
+    let leaves = c.in_ok-next_row-in-Code.ensures.leaves (_, _, (on some.0 some.1 some.2).2) in
+    (leaves.row (ap Ok (is_row c.in_ok-next_row-in-Code.field-0 leaves))).1
 
 pub returns-in_err-reset-in-Code-clause-step : goal.returns-in_err-reset-in-Code-clause-step
 returns-in_err-reset-in-Code-clause-step c =

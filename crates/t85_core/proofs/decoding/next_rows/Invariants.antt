@@ -3,7 +3,7 @@ use Rattle.t85_core.specs.Options.{fields_of}
 use Rattle.t85_core.specs.Lent.{walk_lent}
 use Rattle.t85_core.specs.Steps.Reading.{ReadsWalk, still_left}
 use Rattle.t85_core.specs.Steps.SizedImage.{sized}
-use Rattle.t85_core.proofs.decoding.next_row.Given as goal
+use Rattle.t85_core.proofs.decoding.next_rows.Given as goal
 
 abbrev pub invariant-turns : goal.invariant-turns
 invariant-turns g l = record {
