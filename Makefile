@@ -108,17 +108,17 @@ endif
 # the whole machine.
 locked = mkdir -p bin && exec 9> bin/lock && flock 9
 
-# proved CRATE,COMMAND,LOG: proves and builds a program or the library. The result is copied to bin/ under a temporary
-# name and then renamed, so that nobody sees a partial file.
+# proved CRATE,COMMAND,FILE: proves and builds a program or the library. The file that this makes is copied to bin/ under a
+# temporary name and then renamed, so that nobody sees a partial file.
 proved = $(locked) && echo "proving and building $(@F)" && \
-	{ (cd crates/$(1) && $(2)) > bin/$(3).log 2>&1 9>&- || { cat bin/$(3).log; exit 1; }; } && \
-	cp crates/$(1)/out/$(@F) $@.$$$$ && mv -f $@.$$$$ $@
+	{ (cd crates/$(1) && $(2)) > bin/$(1).log 2>&1 9>&- || { cat bin/$(1).log; exit 1; }; } && \
+	cp crates/$(1)/out/$(3) $@.$$$$ && mv -f $@.$$$$ $@
 
 $(BUILT): bin/%: | processor
 	@$(call proved,$*,rt run -- --help,$*)
 
 bin/libt85.a: | processor
-	@$(call proved,t85,rt lib,libt85)
+	@$(call proved,libt85,rt lib,liblibt85.a)
 
 # Here these are copies, where the installation has links: `rt ci` does not accept links.
 bin/$(SHARED): bin/libt85.a t85.map

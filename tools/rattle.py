@@ -6,7 +6,7 @@ import re
 TOP = os.path.dirname(os.path.dirname(os.path.abspath(__file__)))
 PROGRAMS = ["pbmtojbg85", "jbgtopbm85"]
 # The crates of the product: no tests, no drivers.
-CRATES = ["devices", "pbm_core", "qm_core", "raster_core", "t85_core", "program_core", *PROGRAMS, "t85", "uses"]
+CRATES = ["devices", "pbm_core", "qm_core", "raster_core", "t85_core", "program_core", *PROGRAMS, "libt85", "examples"]
 ENDINGS = {"src": "rt", "specs": "antt", "proofs": "antt"}
 TESTS = re.compile(r"/tests(?:/|\.rt$)")
 FUNCTION = re.compile(r"^\s*(pub(?:\([a-z]+\))? )?(?:extern \"C\" )?fn (\w+)")

@@ -12,7 +12,6 @@ from plain.source import Rejected
 class Crate:
     def __init__(self, top: str, name: str, version: str) -> None:
         self.name, self.version = name, version
-        self.package = tables.PACKAGES.get(name, name)
         self.source = os.path.join(top, "crates", name, "src")
         self.macros: set[str] = set()
         self.needs_newer = False
@@ -33,10 +32,10 @@ class Crate:
             part = os.path.relpath(path, self.source)
             if part in ("lib.rt", "main.rt"):
                 text = self.with_root_lines(text)
-            _write(os.path.join(out, self.package, "src", part[: -len(".rt")] + ".rs"), text)
+            _write(os.path.join(out, self.name, "src", part[: -len(".rt")] + ".rs"), text)
         if exports:
-            _write(os.path.join(out, self.package, "src", "c_abi.rs"), c_abi(exports))
-        _write(os.path.join(out, self.package, "Cargo.toml"), self.manifest())
+            _write(os.path.join(out, self.name, "src", "c_abi.rs"), c_abi(exports))
+        _write(os.path.join(out, self.name, "Cargo.toml"), self.manifest())
 
     def with_root_lines(self, text: str) -> str:
         found = re.match(r"(?://![^\n]*\n)*", text)
@@ -53,7 +52,7 @@ class Crate:
                 raise Rejected(f"{self.source}/lib.rt:1: `{module}` is not one module with one export")
         if self.name in tables.STD_EXPORTS:
             text = self.with_std_exports(text, *tables.STD_EXPORTS[self.name])
-        if self.name == "t85":
+        if self.name == "libt85":
             text = re.sub(r"(?m)^mod ", "mod c_abi;\nmod ", text, count=1) + tables.PANIC_LINES
         return text
 
@@ -68,16 +67,16 @@ class Crate:
         return text[: found.start()] + lines[0] + STD_ONLY + lines[1] + text[found.end() :]
 
     def manifest(self) -> str:
-        lines = ["[package]", f'name = "{self.package}"', f'version = "{self.version}"', 'edition = "2021"']
+        lines = ["[package]", f'name = "{self.name}"', f'version = "{self.version}"', 'edition = "2021"']
         lines += ['rust-version = "1.63"', f'description = "{tables.ABOUT[self.name]}"', 'readme = "../README.md"', "publish = false"]
-        if self.name == "t85":
+        if self.name == "libt85":
             # A Rust caller's crate has the same library name, so no rlib is made here.
             lines += ["", "[lib]", 'name = "t85"', 'crate-type = ["staticlib", "cdylib"]', "doc = false"]
         features = tables.STD_FEATURES.get(self.name)
         if features is not None:
             lines += ["", "[features]", 'default = ["std"]', f"std = {_list(features)}"]
         wanted = tables.CRATES[self.name] + ["newer"] * self.needs_newer
-        only_tests = ["kit"] if self.name == "t85" else []
+        only_tests = ["kit"] if self.name == "libt85" else []
         lines += ["", "[dependencies]", *(self.dependency(name) for name in wanted if name not in only_tests)]
         if only_tests:
             lines += ["", "[dev-dependencies]", *(self.dependency(name) for name in only_tests)]
@@ -89,7 +88,7 @@ class Crate:
             return line
         if name in tables.STD_FEATURES:
             return line.replace(" }", ", default-features = false }")
-        if name in tables.STD_DEPENDENCIES and self.name != "t85":
+        if name in tables.STD_DEPENDENCIES and self.name != "libt85":
             return line.replace(" }", ", optional = true }") if "{" in line else f'{name} = {{ version = "1", optional = true }}'
         return line
 

@@ -8,27 +8,23 @@ CRATES = {
     "qm_core": [],
     "raster_core": ["qm_core"],
     "t85_core": ["devices", "pbm_core", "qm_core", "raster_core", "kit", "byteorder", "memchr", "thiserror"],
-    "t85": ["devices", "pbm_core", "qm_core", "raster_core", "t85_core", "kit", "byteorder"],
+    "libt85": ["devices", "pbm_core", "qm_core", "raster_core", "t85_core", "kit", "byteorder"],
     "program_core": ["t85_core", "devices", "kit", "clap"],
     "jbgtopbm85": ["devices", "program_core", "kit"],
     "pbmtojbg85": ["devices", "program_core", "kit"],
-    "layer_tests": ["devices", "pbm_core", "qm_core", "raster_core", "kit"],
     "tests": ["devices", "pbm_core", "qm_core", "raster_core", "t85_core", "program_core", "kit"],
 }
-# The C library is the package libt85: a Rust caller's crate is called t85.
-PACKAGES = {"t85": "libt85"}
 ABOUT = {
     "devices": "Sources and destinations of bytes",
     "pbm_core": "Images in the PBM format",
     "qm_core": "The arithmetic coder of JBIG1",
     "raster_core": "Rows, templates and typical prediction of JBIG1",
     "t85_core": "The stream layer of JBIG1 in the fax profile T.85",
-    "t85": "A C library for JBIG1 in the fax profile T.85",
+    "libt85": "A C library for JBIG1 in the fax profile T.85",
     "program_core": "The command lines of pbmtojbg85 and jbgtopbm85",
     "jbgtopbm85": "Converts a JBIG1 stream of the fax profile T.85 to a PBM image",
     "pbmtojbg85": "Converts a PBM image to a JBIG1 stream of the fax profile T.85",
-    "layer_tests": "Tests of the lowest four crates",
-    "tests": "Tests of the engine and of both programs",
+    "tests": "Tests of the crates below the programs, and of both programs",
 }
 DEPENDENCIES = {
     "byteorder": 'byteorder = { version = "1", default-features = false }',
@@ -37,7 +33,7 @@ DEPENDENCIES = {
     "clap": 'clap = { path = "../kit_clap", package = "kit_clap" }',
 }
 # Crates that need only Rust's core, unless the feature `std` is on: the modules, the exports and the dependencies that need it.
-WITHOUT_STD = {"devices", "pbm_core", "qm_core", "raster_core", "t85_core", "t85"}
+WITHOUT_STD = {"devices", "pbm_core", "qm_core", "raster_core", "t85_core", "libt85"}
 STD_MODULES = {"devices": ["adapters"], "t85_core": ["conversion"]}
 STD_EXPORTS = {"pbm_core": ("devices", ["FromRead", "ToWrite"])}
 STD_DEPENDENCIES = {"thiserror", "kit"}
@@ -45,7 +41,7 @@ STD_FEATURES = {
     "devices": [],
     "pbm_core": ["devices/std", "dep:thiserror"],
     "t85_core": ["pbm_core/std", "memchr/std", "dep:kit", "dep:thiserror"],
-    "t85": ["pbm_core/std", "t85_core/std"],
+    "libt85": ["pbm_core/std", "t85_core/std"],
 }
 # Items of std that Rust has under the same name, and those of the crate `kit`, by module.
 OF_RUST = {
@@ -70,7 +66,7 @@ OF_KIT = {
     "test": {"Fail"},
 }
 # In crates that contain only tests, `Vec` and `String` are those of `kit`, and these methods take an allocator.
-OF_TESTS = {"layer_tests", "tests"}
+OF_TESTS = {"tests"}
 WITH_ALLOC = {"to_vec": "ToVec", "repeat": "Repeat"}
 # Methods that Rust's library has only since a version after 1.63, and the trait of the crate `newer` that supplies them.
 NEWER = {"div_ceil": "DivCeil", "first_chunk": "FirstChunk"}

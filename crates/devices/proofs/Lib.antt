@@ -1,2 +1,2 @@
-pub mod Streams
-pub mod Held
+pub mod WritesJoin
+pub mod DeviceHoldsBytes

@@ -1,5 +1,5 @@
 -- A row that is read from pieces: the state after some of its bytes, and the effect of a call.
-use Rattle.std.specs.Prelude.{ℕ, ◌≡◌, ◌≢◌, ◌<◌, ◌*◌, Bool, true, false, List, [], ◌++◌, length, take, slice_index}
+use Rattle.std.specs.Prelude.{ℕ, ◌≡◌, ◌≢◌, ◌<◌, ◌*◌, Bool, true, false, List, [], ◌++◌, length, take, slice_index, map, slice_index_or}
 use Rattle.std.specs.List.{AllByRecursion}
 use Rattle.pbm_core.specs.declared.fault.PbmFault.TheVariants.{Truncated}
 use Rattle.pbm_core.specs.declared.form.Form.{Form}
@@ -9,8 +9,11 @@ use Rattle.pbm_core.specs.declared.row_reader.RowOutcome.{RowOutcome}
 use Rattle.pbm_core.specs.declared.row_reader.RowOutcome.TheVariants as outcome
 use Rattle.pbm_core.specs.declared.row_reader.RowProgress.{RowProgress}
 use Rattle.pbm_core.specs.Pbm.{bytes_of_row, IsWhite}
-use Rattle.pbm_core.specs.Image.{binary, packed_row, ArePixels, RowFault, IsRowOf}
-use Rattle.pbm_core.specs.Steps.{byte_at}
+use Rattle.pbm_core.specs.Image.{binary, packed_row, ArePixels, RowFault, IsRowOf, numbers_from}
+
+-- byte k of a packed row
+abbrev pub byte_at : List Bool → ℕ → ℕ
+byte_at row k = binary (map (λ x. slice_index_or row x false) (numbers_from (8 * k) 8))
 
 -- Fewer pixels than a row has: those of complete bytes are in the row, and the others in the reader.
 pub record HoldsPixels (reader : RowReader) (width : ℕ) (row : List ℕ) (pixels : List Bool) : Type 0 where

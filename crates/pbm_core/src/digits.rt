@@ -1,7 +1,7 @@
 //! Finds the pixels of the plain form among buffered bytes.
 
 ghost use Rattle.std.specs.Prelude.{◌≤◌, IfSome};
-ghost use Rattle.pbm_core.specs.Steps.{MakeByte, FindsPixels};
+ghost use Rattle.pbm_core.specs.Private.{MakeByte, FindsPixels};
 
 use crate::header_reader::is_white;
 use crate::rows::pixel_of;

@@ -1,5 +1,5 @@
-pub mod Getters
-pub mod Faults
-pub mod Messages
-pub mod Numbers
-pub mod Defaults
+pub mod GetterReadsFlag
+pub mod RefusalIsReported
+pub mod LinePartsFit
+pub mod GetterReadsNumber
+pub mod DefaultsGiveNumbers

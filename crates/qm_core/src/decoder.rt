@@ -73,7 +73,7 @@ impl Decoder {
     ghost use Rattle.qm_core.specs.Code.{wanted_bytes};
     ghost use Rattle.qm_core.specs.Place.{Place, start, renormalised, state_of, step, after};
     ghost use Rattle.qm_core.specs.Machine.{IsTooSmall, Registers};
-    ghost use Rattle.qm_core.specs.Source.{Pulls, bytes_of, heard_of, before_fault};
+    ghost use Rattle.qm_core.specs.Source.{bytes_of, heard_of, before_fault};
     ghost use Rattle.qm_core.specs.Decoder.{has_stopped, DecoderIsAt, Fills, Next, SkipsOrStays, StopsOnce, decoder_state, source_of};
     ghost use Rattle.qm_core.specs.Puts.{event_of};
     ghost use Rattle.qm_core.specs.Skipping.{IsRun, CanSkip};

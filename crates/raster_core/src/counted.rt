@@ -1,6 +1,6 @@
 //! The last row counted, with its counts.
 
-ghost use Rattle.std.specs.Prelude.{◌+◌, ◌*◌, ◌^◌, ◌≡◌, ◌≤◌, ◌<◌, IsTrue, take};
+ghost use Rattle.std.specs.Prelude.{◌+◌, ◌*◌, ◌≡◌, ◌≤◌, ◌<◌, IsTrue, take};
 ghost use Rattle.std.specs.Int.{div_ceil};
 ghost use Rattle.raster_core.specs.Lines.{Lines};
 ghost use Rattle.raster_core.specs.Packed.{packed_row};

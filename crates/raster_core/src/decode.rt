@@ -8,10 +8,10 @@ ghost use Rattle.qm_core.specs.declared.source.Pulled.{Pulled};
 ghost use Rattle.qm_core.specs.Reads.{ReaderReads};
 ghost use Rattle.raster_core.specs.Lines.{Lines};
 ghost use Rattle.raster_core.specs.Window.{held};
-ghost use Rattle.raster_core.specs.Packed.{HasLines, SameAbove, held_rows, row_placed, rows_at, rows_beside, next_place};
+ghost use Rattle.raster_core.specs.Packed.{HasLines, SameAbove, row_placed, rows_at, rows_beside, next_place};
 ghost use Rattle.raster_core.specs.Machine.Continues.{RowContinues, row_progress};
 ghost use Rattle.raster_core.specs.Machine.Places.{DecodesCurrent, LeavesPlace, MayCodeRow, MayGoOnIn, MayGoOnRow};
-ghost use Rattle.raster_core.specs.Row.{RowDecoded, IsRowStart, StandsInRow, RowGoesOn, RowPasses, RowsSkipped, CanSkipRows, row_task, row_left};
+ghost use Rattle.raster_core.specs.Row.{RowDecoded, IsRowStart, StandsInRow, RowPasses, RowsSkipped, CanSkipRows, row_task, row_left};
 
 mod begin;
 mod byte;

@@ -1,6 +1,6 @@
-pub mod Bytes
-pub mod Grammar
-pub mod Theorems
-pub mod Walks
-pub mod Decodings
-pub mod Encodings
+pub mod BytesJoin
+pub mod BodiesParse
+pub mod StreamsDenote
+pub mod StreamsAreWalked
+pub mod BodiesDecode
+pub mod ImagesEncode

@@ -8,7 +8,7 @@ use Rattle.t85_core.specs.Grammar.{stripe_bytes}
 use Rattle.t85_core.specs.Coding.{rows_of, lines_of}
 use Rattle.t85_core.specs.Jbg.{Settings, cut, coding_of, coded_stripe}
 use Rattle.t85_core.specs.RowImage.{with_name}
-use Rattle.t85_core.specs.Steps.Looked.{offset_to}
+use Rattle.t85_core.specs.States.Looked.{offset_to}
 
 -- The number of bytes of stripe i, with its segments, if the caller names this offset for it.
 abbrev pub stripe_length : Settings → Raster → ℕ → ℕ → ℕ

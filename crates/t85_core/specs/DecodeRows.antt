@@ -8,7 +8,7 @@ use Rattle.t85_core.specs.declared.fault.Fault.{Fault}
 use Rattle.t85_core.specs.declared.fault.Fault.TheVariants.{Write}
 use Rattle.t85_core.specs.Header.{Fields}
 use Rattle.t85_core.specs.Outcome.{IsOutcome, pbm_rows}
-use Rattle.t85_core.specs.Steps.Buffers.{TargetView, WritesOn}
+use Rattle.t85_core.specs.RowSink.{TargetView, WritesOn}
 
 -- A body has one outcome. Its rows were put, and its error was returned; or the sink failed, and has a beginning of them.
 pub record PutsRows (h : Fields) (height : ℕ) (body : List ℕ) (old new : TargetView) (answer : Result (Unit {0}) Fault) : Type 0 where

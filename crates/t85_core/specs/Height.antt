@@ -56,3 +56,7 @@ pub record StreamFaultBehind (bytes : List ℕ) (fault : Fault) : Type 0 where
 -- a header that is rejected, or a body without its parts
 abbrev pub StreamFault : List ℕ → Fault → Type 0
 StreamFault bytes fault = (header_fault bytes ≡ Some fault) ⊎ StreamFaultBehind bytes fault
+
+-- an image may have this height if its header announces that one
+abbrev pub MayBeHeight : ℕ → ℕ → Type 0
+MayBeHeight announced height = (1 ≤ height) × (height ≤ announced)

@@ -28,13 +28,17 @@ pub mod Feeds
 pub mod Repeats
 pub mod Numbers
 pub mod RowNumbers
+pub mod MostBytes
 pub mod RowImage
 pub mod BestOffset
 pub mod ToPbm
+pub mod RowSink
 pub mod RowSource
 pub mod Encode
 pub mod ToJbg
 -- Laws.
 pub mod Laws
+-- The meaning of the states between calls.
+pub mod States
 -- Definitions that only serve the proofs.
-pub mod Steps
+pub mod Private

@@ -18,8 +18,8 @@ use Rattle.t85_core.specs.Height.{IsHeight, IsOpen}
 use Rattle.t85_core.specs.Denotes.{DenotesAt}
 use Rattle.t85_core.specs.Fixed.{Fixes}
 use Rattle.t85_core.specs.Outcomes.{end_in, end_told}
-use Rattle.t85_core.specs.Steps.Pieces.{HasMarker}
-use Rattle.t85_core.specs.Steps.PieceStands.{DecoderStands, entities_behind}
+use Rattle.t85_core.specs.States.Pieces.{HasMarker}
+use Rattle.t85_core.specs.States.PieceStands.{DecoderStands, entities_behind}
 
 -- the header of the stream that a decoder decodes
 abbrev pub stream_of : PieceView → Fields

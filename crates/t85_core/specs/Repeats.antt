@@ -13,10 +13,10 @@ use Rattle.t85_core.specs.Numbers.{ArePieceNumbers}
 use Rattle.t85_core.specs.Options.{fields_of}
 use Rattle.t85_core.specs.Pieces.{HasDecoded, row_held, stream_of}
 use Rattle.t85_core.specs.Stages as stage
-use Rattle.t85_core.specs.Steps.Buffers.{copies}
-use Rattle.t85_core.specs.Steps.DecodeRows.{pair_of}
-use Rattle.t85_core.specs.Steps.Pieces.{HasMarker}
-use Rattle.t85_core.specs.Steps.State.{offset_at}
+use Rattle.t85_core.specs.RowSink.{copies}
+use Rattle.t85_core.specs.States.DecodeRows.{pair_of}
+use Rattle.t85_core.specs.States.Pieces.{HasMarker}
+use Rattle.t85_core.specs.States.State.{offset_at}
 use Rattle.t85_core.specs.declared.pieces.PieceDecoder.{PieceDecoder}
 use Rattle.t85_core.specs.declared.pieces.numbers.PieceNumbers.{PieceNumbers}
 use Rattle.t85_core.specs.declared.segments.atmove.Move.{Move}

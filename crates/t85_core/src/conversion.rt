@@ -1,7 +1,7 @@
 //! Converts whole files: a stream to its image, and an image to its stream.
 
-ghost use Rattle.std.specs.Prelude.{◌≡◌, true, if◌then◌else◌};
-ghost use Rattle.t85_core.specs.Steps.HeightWalk.{MayBeHeight};
+ghost use Rattle.std.specs.Prelude.{◌≡◌, true};
+ghost use Rattle.t85_core.specs.Height.{MayBeHeight};
 ghost use Rattle.t85_core.specs.Change.{input_change, output_change};
 ghost use Rattle.t85_core.specs.Options.{fields_of, settings_of};
 ghost use Rattle.t85_core.specs.Header.{is_variable};
@@ -9,7 +9,6 @@ ghost use Rattle.t85_core.specs.Failures.{FlushesOutput};
 ghost use Rattle.t85_core.specs.ToPbm.{ToPbmAt, ToPbmBehind, ToPbm, is_same_header, second_reading, second_reading_of, delivery_of};
 ghost use Rattle.t85_core.specs.ToJbg.{ToJbg, ToJbgAhead};
 ghost use Rattle.devices.specs.Device.{SameInput};
-ghost use Rattle.t85_core.specs.Jbg.{is_low};
 ghost use Rattle.t85_core.specs.declared.fault.Fault.TheVariants.{Write, Pbm};
 
 use crate::decoding::decode;

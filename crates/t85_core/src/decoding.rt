@@ -1,24 +1,24 @@
 //! Decoding an image.
 
-ghost use Rattle.std.specs.Prelude.{◌≡◌, ◌≢◌, ◌<◌, true, Ok, Err, OnOk, IfErr, IfSome};
+ghost use Rattle.std.specs.Prelude.{◌≡◌, ◌≢◌, ◌<◌, Ok, Err, OnOk, IfErr, IfSome};
 ghost use Rattle.raster_core.specs.Packed.{row_bytes};
-ghost use Rattle.raster_core.specs.Window.{held, width_of};
-ghost use Rattle.t85_core.specs.Steps.HeightWalk.{MayBeHeight};
+ghost use Rattle.raster_core.specs.Window.{width_of};
+ghost use Rattle.t85_core.specs.Height.{MayBeHeight};
 ghost use Rattle.t85_core.specs.Options.{fields_of};
 ghost use Rattle.t85_core.specs.Change.{input_change, output_change};
 ghost use Rattle.t85_core.specs.Decode.{Decode};
 ghost use Rattle.t85_core.specs.DecodeRows.{PutsRows};
 ghost use Rattle.t85_core.specs.Lent.{walk_lent as over};
-ghost use Rattle.t85_core.specs.Steps.Buffers.{ReadsOn, WritesOn, reading};
-ghost use Rattle.t85_core.specs.Steps.Views.{passage_of};
-ghost use Rattle.t85_core.specs.Steps.DecodeStripes.{ImageRead, ImageCut, ImageUnwritten};
-ghost use Rattle.t85_core.specs.Steps.Pieces.{SomeStands};
-ghost use Rattle.t85_core.specs.Steps.SizedImage.{sized_of};
-ghost use Rattle.t85_core.specs.Steps.Reading.{RowsTurn};
+ghost use Rattle.t85_core.specs.Private.Buffers.{ReadsOn};
+ghost use Rattle.t85_core.specs.RowSink.{WritesOn};
+ghost use Rattle.t85_core.specs.Private.Views.{passage_of};
+ghost use Rattle.t85_core.specs.States.DecodeStripes.{ImageRead, ImageCut};
+ghost use Rattle.t85_core.specs.Private.DecodeStripes.{ImageUnwritten};
+ghost use Rattle.t85_core.specs.States.SizedImage.{sized_of};
+ghost use Rattle.t85_core.specs.Private.Reading.{RowsTurn};
 ghost use Rattle.t85_core.specs.Failures.{SameOutput};
 ghost use Rattle.t85_core.specs.declared.fault.Fault.{Fault};
 ghost use Rattle.t85_core.specs.declared.fault.Fault.TheVariants.{Truncated, Write};
-ghost use Rattle.t85_core.specs.Stages as stage;
 
 use crate::fault::Fault;
 use crate::header::{Header, SizedImage};

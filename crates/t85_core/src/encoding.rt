@@ -7,14 +7,14 @@ ghost use Rattle.pbm_core.specs.Pbm.{bytes_of_row};
 ghost use Rattle.pbm_core.specs.declared.fault.PbmFault.{PbmFault};
 ghost use Rattle.raster_core.specs.Window.{held, width_of};
 ghost use Rattle.t85_core.specs.Encode.{Encode, IsEncodeFault, layout_for};
-ghost use Rattle.t85_core.specs.Steps.EncodeRows.{EndsInRow, RowTaken};
-ghost use Rattle.t85_core.specs.Steps.EncodeStripes.{ImageRefused, ImageCoded, JbgShort};
+ghost use Rattle.t85_core.specs.Private.EncodeRows.{EndsInRow, RowTaken};
+ghost use Rattle.t85_core.specs.Private.EncodeStripes.{ImageRefused, ImageCoded, JbgShort};
 ghost use Rattle.t85_core.specs.Jbg.{jbg, is_low};
 ghost use Rattle.t85_core.specs.Options.{settings_of};
-ghost use Rattle.t85_core.specs.Steps.Buffers.{WritesOn};
+ghost use Rattle.t85_core.specs.RowSink.{WritesOn};
 ghost use Rattle.t85_core.specs.Failures.{CountsRead, IfMissing, SameOutput};
 ghost use Rattle.t85_core.specs.declared.fault.Fault.TheVariants.{Write, Pbm};
-ghost use Rattle.t85_core.specs.Steps.Passage.{passage_from};
+ghost use Rattle.t85_core.specs.States.Passage.{passage_from};
 
 mod by_row;
 mod learning;

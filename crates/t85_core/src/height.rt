@@ -6,13 +6,13 @@ ghost use Rattle.t85_core.specs.Change.{input_change};
 ghost use Rattle.t85_core.specs.declared.fault.Fault.TheVariants.{Truncated, Read};
 ghost use Rattle.t85_core.specs.Options.{fields_of};
 ghost use Rattle.t85_core.specs.Header.{is_variable};
-ghost use Rattle.t85_core.specs.Steps.Buffers.{ReadsOn, reading};
+ghost use Rattle.t85_core.specs.Private.Buffers.{ReadsOn, reading};
 ghost use Rattle.t85_core.specs.Failures.{Ends};
 ghost use Rattle.t85_core.specs.Grammar.{stripe_count};
 ghost use Rattle.t85_core.specs.Decode.{FindHeight};
 ghost use Rattle.t85_core.specs.Info.{IsWalkFault};
-ghost use Rattle.t85_core.specs.Steps.HeightWalk.{SkipsParts, SkipFault, Sought, SkipsFault, LooksTo, LookEnds, LookOpen, Finds, FindsOpen, PassesRest, RestBreaks, search_place, search_end_of, segment_counts};
-ghost use Rattle.t85_core.specs.Steps.Segments.{IsByteOrMarker};
+ghost use Rattle.t85_core.specs.Private.HeightWalk.{SkipsParts, SkipFault, Sought, SkipsFault, LooksTo, LookEnds, LookOpen, Finds, FindsOpen, PassesRest, RestBreaks, search_place, search_end_of, segment_counts};
+ghost use Rattle.t85_core.specs.States.Segments.{IsByteOrMarker};
 
 use crate::fault::Fault;
 use crate::header::Header;

@@ -3,8 +3,9 @@
 ghost use Rattle.std.specs.Prelude.{◌≡◌, ◌≤◌, ◌<◌, ◌+◌, ◌-◌, ◌^◌, ◌++◌, ℕ, List, None, length, slice_index, take, IfOk, IfErr, MatchResult};
 ghost use Rattle.std.specs.Io.KnownBytes.{Consumes, IsAtEnd, Keeps};
 ghost use Rattle.devices.specs.Device.{Counts};
-ghost use Rattle.t85_core.specs.Steps.Reading.{KeepsLast, Refills};
-ghost use Rattle.t85_core.specs.Steps.Buffers.{SourceView, GivesNextByte, GivesPlain, SkipsPlain, held_of, ArePlain};
+ghost use Rattle.t85_core.specs.Private.Reading.{KeepsLast, Refills};
+ghost use Rattle.t85_core.specs.Private.Buffers.{SourceView, GivesNextByte, GivesPlain, SkipsPlain, ArePlain};
+ghost use Rattle.t85_core.specs.RowSink.{held_of};
 
 use crate::fault::Fault;
 use crate::segments::ESCAPE;
@@ -87,7 +88,7 @@ impl<'a, R: Input, const SIZE: usize> InputBuffer<'a, R, SIZE> {
 }
 
 impl<R: Input, const SIZE: usize> ByteSource for InputBuffer<'_, R, SIZE> {
-    ghost use Rattle.t85_core.specs.Steps.Views.{buffer_source};
+    ghost use Rattle.t85_core.specs.Private.Views.{buffer_source};
 
     ghost view = { λ s. buffer_source s };
 
@@ -126,7 +127,7 @@ impl<R: Input, const SIZE: usize> ByteSource for InputBuffer<'_, R, SIZE> {
 }
 
 impl<R: Input, const SIZE: usize> HeldSource for InputBuffer<'_, R, SIZE> {
-    ghost use Rattle.t85_core.specs.Steps.Views.{buffer_source};
+    ghost use Rattle.t85_core.specs.Private.Views.{buffer_source};
 
     ghost view = { λ s. buffer_source s };
 

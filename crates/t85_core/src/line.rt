@@ -29,7 +29,7 @@ impl Model for Line {
 
 impl Line {
     /// The line of these numbers, separated by spaces and ended by a line feed.
-    #[tactic(auto, using(crate::proofs::Bytes::Numerals::digits))]
+    #[tactic(auto, using(crate::proofs::BytesJoin::DigitsAreWritten::digits))]
     pub fn of(numbers: &[u64]) -> Line
         requires { length numbers.now ≤ 9 }
         ensures { result ≡ line_text numbers.now }
@@ -45,7 +45,7 @@ impl Line {
         line
     }
 
-    #[tactic(auto, using(crate::proofs::Bytes::Numerals::digits))]
+    #[tactic(auto, using(crate::proofs::BytesJoin::DigitsAreWritten::digits))]
     fn number(&mut self, n: u64)
         requires { length self.old + length (decimal n) ≤ 192 }
         ensures { self.new ≡ self.old ++ decimal n }

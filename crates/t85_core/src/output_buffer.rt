@@ -3,7 +3,8 @@
 ghost use Rattle.std.specs.Prelude.{◌≡◌, ◌≤◌, ◌<◌, ◌-◌, length, take, OnOk, IfErr};
 ghost use Rattle.std.specs.Io.KnownBytes.{Appends, Keeps};
 ghost use Rattle.t85_core.specs.declared.fault.Fault.TheVariants.{Write};
-ghost use Rattle.t85_core.specs.Steps.Buffers.{TargetView, PutsBytes, Pushes, HandsOn};
+ghost use Rattle.t85_core.specs.RowSink.{TargetView, PutsBytes};
+ghost use Rattle.t85_core.specs.Private.Buffers.{Pushes, HandsOn};
 
 use crate::fault::Fault;
 use devices::{Output, WriteFault, write_bytes, write_counted};
@@ -67,8 +68,9 @@ impl<'a, W: Output, const SIZE: usize> OutputBuffer<'a, W, SIZE> {
 impl<W: Output, const SIZE: usize> OutputBuffer<'_, W, SIZE> {
     ghost use Rattle.std.specs.Prelude.{◌⊎◌, ℕ, Ok, Err};
     ghost use Rattle.t85_core.specs.Failures.{CountsBoth, CountsRead};
-    ghost use Rattle.t85_core.specs.Steps.Buffers.{WritesOn};
-    ghost use Rattle.t85_core.specs.Steps.Views.{target_view, text_taken, WritesBehind};
+    ghost use Rattle.t85_core.specs.RowSink.{WritesOn};
+    ghost use Rattle.t85_core.specs.States.Views.{target_view, text_taken};
+    ghost use Rattle.t85_core.specs.Private.Views.{WritesBehind};
     ghost use Rattle.t85_core.specs.declared.output_buffer.OutputBuffer.{OutputBuffer};
 
     /// Writes the buffered bytes.
@@ -114,7 +116,7 @@ impl<W: Output, const SIZE: usize> OutputBuffer<'_, W, SIZE> {
 }
 
 impl<W: Output, const SIZE: usize> OutputBuffer<'_, W, SIZE> {
-    ghost use Rattle.t85_core.specs.Steps.Views.{text_taken};
+    ghost use Rattle.t85_core.specs.States.Views.{text_taken};
 
     /// Copies as many of the first bytes as fit into the buffer, and returns how many.
     fn fill(&mut self, bytes: &[u8]) -> usize
@@ -133,7 +135,7 @@ impl<W: Output, const SIZE: usize> OutputBuffer<'_, W, SIZE> {
 }
 
 impl<W: Output, const SIZE: usize> OutputBuffer<'_, W, SIZE> {
-    ghost use Rattle.t85_core.specs.Steps.Views.{target_view};
+    ghost use Rattle.t85_core.specs.States.Views.{target_view};
 
     /// Buffers the bytes, and writes the buffer each time it is full.
     fn hold(&mut self, bytes: &[u8]) -> Result<(), Fault>
@@ -163,7 +165,7 @@ impl<W: Output, const SIZE: usize> OutputBuffer<'_, W, SIZE> {
 }
 
 impl<W: Output, const SIZE: usize> ByteTarget for OutputBuffer<'_, W, SIZE> {
-    ghost use Rattle.t85_core.specs.Steps.Views.{target_view};
+    ghost use Rattle.t85_core.specs.States.Views.{target_view};
 
     ghost view = { λ s. target_view s };
 

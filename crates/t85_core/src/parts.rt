@@ -4,9 +4,9 @@ ghost use Rattle.std.specs.Prelude.{◌≡◌, ◌≢◌, ◌<◌, ◌-◌, IfEr
 ghost use Rattle.t85_core.specs.Options.{fields_of};
 ghost use Rattle.t85_core.specs.Header.{HeaderOf, header_fault, is_variable};
 ghost use Rattle.t85_core.specs.Info.{IsWalkFault};
-ghost use Rattle.t85_core.specs.Steps.HeightWalk.{LookEnds};
+ghost use Rattle.t85_core.specs.Private.HeightWalk.{LookEnds};
 ghost use Rattle.t85_core.specs.declared.fault.Fault.TheVariants.{Read};
-ghost use Rattle.t85_core.specs.Steps.PartSteps.{ReadsPart, MissesPart, IsSegment, place_before, kind_of};
+ghost use Rattle.t85_core.specs.Private.PartSteps.{ReadsPart, MissesPart, IsSegment, place_before, kind_of};
 
 mod walk;
 

@@ -1,6 +1,6 @@
 //! Decodes a stream that arrives in pieces, row by row.
 
-ghost use Rattle.std.specs.Prelude.{◌-◌, ◌*◌, ◌≡◌, ◌≤◌, [], List, None, IfSome, true, false};
+ghost use Rattle.std.specs.Prelude.{◌-◌, ◌*◌, ◌≡◌, [], List, None, IfSome, true, false};
 ghost use Rattle.qm_core.specs.Place.{Estimate};
 ghost use Rattle.raster_core.specs.Packed.{Held};
 ghost use Rattle.raster_core.specs.Window.{width_of};

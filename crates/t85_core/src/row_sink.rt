@@ -1,7 +1,7 @@
 //! Consumers of the rows of an image.
 
 ghost use Rattle.std.specs.Prelude.{◌≡◌, ℕ, Option, None, IfSome, length};
-ghost use Rattle.t85_core.specs.Steps.Buffers.{TargetView, PutsBytes, copies};
+ghost use Rattle.t85_core.specs.RowSink.{TargetView, PutsBytes, copies};
 
 use crate::fault::Fault;
 use crate::output_buffer::{ByteTarget, OutputBuffer};
@@ -24,7 +24,7 @@ pub trait RowSink {
 }
 
 impl<W: Output, const SIZE: usize> RowSink for OutputBuffer<'_, W, SIZE> {
-    ghost use Rattle.t85_core.specs.Steps.Views.{target_view};
+    ghost use Rattle.t85_core.specs.States.Views.{target_view};
 
     ghost view = { λ s. target_view s };
 

@@ -5,11 +5,12 @@ ghost use Rattle.std.specs.Io.KnownBytes.{Consumes};
 ghost use Rattle.byteorder.specs.Endian.{big_bytes};
 ghost use Rattle.t85_core.specs.declared.fault.Fault.TheVariants.{Truncated};
 ghost use Rattle.t85_core.specs.Options.{fields_of};
-ghost use Rattle.t85_core.specs.Steps.Buffers.{ReadsOn};
+ghost use Rattle.t85_core.specs.Private.Buffers.{ReadsOn};
 ghost use Rattle.t85_core.specs.Failures.{Ends};
 ghost use Rattle.t85_core.specs.Refusal.{move_fault, comment_fault};
 ghost use Rattle.t85_core.specs.Grammar.{NewLength, marker_bytes};
-ghost use Rattle.t85_core.specs.Steps.Segments.{code_bytes, IsByteOrMarker, PieceFault, Passes, PassesSegments, SegmentsFault, PassesCode, RestFault, CodeFault};
+ghost use Rattle.t85_core.specs.States.Segments.{code_bytes, IsByteOrMarker};
+ghost use Rattle.t85_core.specs.Private.Segments.{PieceFault, Passes, PassesSegments, SegmentsFault, PassesCode, RestFault, CodeFault};
 
 mod atmove;
 mod length;

@@ -1,11 +1,12 @@
 //! The state that encoder and decoder carry from row to row and from stripe to stripe.
 
-ghost use Rattle.std.specs.Prelude.{◌≡◌, ◌≤◌, ◌<◌, if◌then◌else◌};
+ghost use Rattle.std.specs.Prelude.{◌≡◌, ◌<◌, if◌then◌else◌};
 ghost use Rattle.raster_core.specs.Window.{held, width_of};
-ghost use Rattle.t85_core.specs.Steps.State.{RowStart, first_row_start, next_stripe_start};
+ghost use Rattle.t85_core.specs.States.State.{RowStart, first_row_start, next_stripe_start};
 ghost use Rattle.t85_core.specs.Lent.{StaysWindow, carried_by};
-ghost use Rattle.t85_core.specs.Steps.DecodeRows.{IsCarried, IsFirst};
-ghost use Rattle.t85_core.specs.Steps.ByRow.{IsLined};
+ghost use Rattle.t85_core.specs.States.DecodeRows.{IsCarried};
+ghost use Rattle.t85_core.specs.Private.DecodeRows.{IsFirst};
+ghost use Rattle.t85_core.specs.States.ByRow.{IsLined};
 
 use qm_core::Learned;
 use raster_core::{Kept, Window};

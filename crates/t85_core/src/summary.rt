@@ -6,8 +6,8 @@ ghost use Rattle.t85_core.specs.Change.{input_change, output_change};
 ghost use Rattle.t85_core.specs.declared.fault.Fault.TheVariants.{Read};
 ghost use Rattle.t85_core.specs.Options.{fields_of};
 ghost use Rattle.t85_core.specs.Info.{Info, IsWalkFault, Summarize, line_text, numbers_in};
-ghost use Rattle.t85_core.specs.Steps.HeightWalk.{WhereFound, BodyNumbers, BodyRefused, BodyUnfinished, search_end_of};
-ghost use Rattle.t85_core.specs.Steps.Buffers.{ReadsOn};
+ghost use Rattle.t85_core.specs.Private.HeightWalk.{WhereFound, BodyNumbers, BodyRefused, BodyUnfinished, search_end_of};
+ghost use Rattle.t85_core.specs.Private.Buffers.{ReadsOn};
 ghost use Rattle.t85_core.specs.Failures.{FlushesOutput};
 
 use crate::fault::Fault;

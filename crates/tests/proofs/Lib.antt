@@ -1,2 +1,2 @@
-mod Hex
-mod Told
+mod DigitsMakeBytes
+mod LineIsWritten

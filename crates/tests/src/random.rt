@@ -1,6 +1,6 @@
 //! Pseudo-random numbers that are the same in each run, and images, options and streams made from them.
 
-ghost use Rattle.std.specs.Prelude.{◌≤◌, ◌^◌, ◌<◌};
+ghost use Rattle.std.specs.Prelude.{◌≤◌, ◌<◌};
 
 mod kinds;
 mod streams;

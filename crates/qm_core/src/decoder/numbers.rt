@@ -1,6 +1,6 @@
 //! Exports and restores a decoder as numbers.
 
-ghost use Rattle.std.specs.Prelude.{◌≡◌, ◌+◌, ◌-◌, ◌%◌, ◌<◌, false, not};
+ghost use Rattle.std.specs.Prelude.{◌≡◌, ◌+◌, ◌-◌, ◌%◌, ◌<◌, false};
 ghost use Rattle.qm_core.specs.Place.{same};
 
 use crate::decoder::Decoder;

@@ -1,8 +1,7 @@
 //! Exports and restores an encoder as numbers.
 
-ghost use Rattle.std.specs.Prelude.{◌≡◌, ◌+◌, ◌-◌, ◌*◌, ◌%◌, ◌<◌, List, ℕ, None, false, not};
+ghost use Rattle.std.specs.Prelude.{◌≡◌, ◌+◌, ◌-◌, ◌*◌, ◌%◌, ◌<◌, List, ℕ, None, false};
 ghost use Rattle.qm_core.specs.Place.{Place, same};
-ghost use Rattle.qm_core.specs.Code.{stuffed};
 
 use crate::batch::Tail;
 use crate::encoder::{Encoder, FAILED, LARGE, MAX_EVENTS};

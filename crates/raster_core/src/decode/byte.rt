@@ -1,6 +1,6 @@
 //! Decodes the pixels of a byte.
 
-ghost use Rattle.std.specs.Prelude.{◌≡◌, ◌≤◌, false};
+ghost use Rattle.std.specs.Prelude.{◌≤◌, false};
 ghost use Rattle.qm_core.specs.Reads.{ReaderReads};
 ghost use Rattle.raster_core.specs.Machine.Decoded.{DecodesPixels, around_of};
 ghost use Rattle.raster_core.specs.Machine.DecodedLanes.{DecodesLanes, lanes_around};

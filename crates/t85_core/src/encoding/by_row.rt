@@ -55,12 +55,12 @@ impl RowEncoder {
     ghost use Rattle.std.specs.Prelude.{◌≡◌, ◌≤◌, ◌<◌, ◌+◌, ◌-◌, ◌*◌, ◌⊎◌, true, false};
     ghost use Rattle.t85_core.specs.Jbg.{is_low};
     ghost use Rattle.t85_core.specs.Options.{settings_of};
-    ghost use Rattle.t85_core.specs.Steps.MostBytes.{most_end_bytes, most_row_bytes};
+    ghost use Rattle.t85_core.specs.MostBytes.{most_end_bytes, most_row_bytes};
     ghost use Rattle.t85_core.specs.declared.encoding.learning.Learning.{Learning};
-    ghost use Rattle.t85_core.specs.Steps.ByRow.{plan_of, view_of, IsPlan, lent_to};
+    ghost use Rattle.t85_core.specs.States.ByRow.{plan_of, view_of, IsPlan, lent_to};
     ghost use Rattle.t85_core.specs.RowImage.{image_for};
-    ghost use Rattle.t85_core.specs.Steps.RowCalls.{HasNoRows, MayEnd};
-    ghost use Rattle.t85_core.specs.Steps.RowSteps.{IsUntaught, StandsFirst};
+    ghost use Rattle.t85_core.specs.States.RowCalls.{HasNoRows, MayEnd};
+    ghost use Rattle.t85_core.specs.Private.RowSteps.{IsUntaught, StandsFirst};
 
     /// An encoder before the first row of an image. The caller writes the head of the stream.
     #[inline(always)]
@@ -131,7 +131,7 @@ impl RowEncoder {
 }
 
 impl RowEncoder {
-    ghost use Rattle.std.specs.Prelude.{◌≡◌, ◌<◌, ◌-◌, [], ◌⊎◌, OnOk, OnErr, IfOk, IfErr, IsErrOf, length, Err, true, is_ok};
+    ghost use Rattle.std.specs.Prelude.{◌≡◌, ◌<◌, ◌-◌, [], ◌⊎◌, OnOk, OnErr, IfOk, IfErr, IsErrOf, length, Err, true};
     ghost use Rattle.std.specs.Io.KnownBytes.{Keeps};
     ghost use Rattle.devices.specs.Device.{AppendsBeginning};
     ghost use Rattle.pbm_core.specs.Pbm.{bytes_of_row};
@@ -141,15 +141,18 @@ impl RowEncoder {
     ghost use Rattle.t85_core.specs.Jbg.{head_of, is_low};
     ghost use Rattle.t85_core.specs.Options.{settings_of};
     ghost use Rattle.t85_core.specs.Failures.{OnlyWrites};
-    ghost use Rattle.t85_core.specs.Steps.MostBytes.{AppendsRow, AppendsEnd};
-    ghost use Rattle.t85_core.specs.Steps.RowSteps.{IsGoing, TakesBelow, CutsBelow, given_row};
-    ghost use Rattle.t85_core.specs.Steps.Sent.{here};
-    ghost use Rattle.t85_core.specs.Steps.Views.{text_taken, WritesBehind};
-    ghost use Rattle.t85_core.specs.Steps.RowCalls.{HasNoRows, LeavesClosed, HasRows, TakesRow, CodesNothing, MayEnd, MayTakeRow, takes_name};
+    ghost use Rattle.t85_core.specs.MostBytes.{AppendsRow, AppendsEnd};
+    ghost use Rattle.t85_core.specs.States.RowSteps.{IsGoing, given_row};
+    ghost use Rattle.t85_core.specs.Private.RowSteps.{TakesBelow, CutsBelow};
+    ghost use Rattle.t85_core.specs.States.Sent.{here};
+    ghost use Rattle.t85_core.specs.States.Views.{text_taken};
+    ghost use Rattle.t85_core.specs.Private.Views.{WritesBehind};
+    ghost use Rattle.t85_core.specs.States.RowCalls.{HasNoRows, LeavesClosed, TakesRow, MayEnd, MayTakeRow};
+    ghost use Rattle.t85_core.specs.Private.RowCalls.{HasRows};
     ghost use Rattle.t85_core.specs.declared.encoding.learning.Learning.{Learning};
-    ghost use Rattle.t85_core.specs.declared.fault.Fault.TheVariants.{Write, AnnouncedLow, MoveRefused};
-    ghost use Rattle.t85_core.specs.Steps.ByRow.{view_of, NamesOffset, MayGoOn, Stands, TakesNextRow, CutsRow, EndsImage, CutsImage, lent_to};
-    ghost use Rattle.t85_core.specs.RowImage.{image_for, may_name};
+    ghost use Rattle.t85_core.specs.declared.fault.Fault.TheVariants.{Write, AnnouncedLow};
+    ghost use Rattle.t85_core.specs.States.ByRow.{view_of, MayGoOn, Stands, TakesNextRow, CutsRow, EndsImage, CutsImage, lent_to};
+    ghost use Rattle.t85_core.specs.RowImage.{image_for};
 
     /// Starts a stream: writes its head, makes the window white, and resets the contexts and counts.
     pub fn start<W: Output>(

@@ -23,7 +23,7 @@ pub struct Learning {
 }
 
 impl Learning {
-    ghost use Rattle.t85_core.specs.Steps.RowSteps.{IsUntaught};
+    ghost use Rattle.t85_core.specs.Private.RowSteps.{IsUntaught};
 
     /// Initial context states and counts, for any image.
     pub fn new() -> Learning

@@ -9,11 +9,12 @@ ghost use Rattle.raster_core.specs.Window.{held, turned, width_of};
 ghost use Rattle.t85_core.specs.Lent.{StaysWindow, TurnsWindow};
 ghost use Rattle.t85_core.specs.Jbg.{head_of, is_low};
 ghost use Rattle.t85_core.specs.Options.{settings_of};
-ghost use Rattle.t85_core.specs.Steps.Views.{text_taken, WritesBehind};
-ghost use Rattle.t85_core.specs.Steps.Sent.{here};
-ghost use Rattle.t85_core.specs.Steps.ByRow.{view_of, IsLined, IsBelow, Stands};
+ghost use Rattle.t85_core.specs.States.Views.{text_taken};
+ghost use Rattle.t85_core.specs.Private.Views.{WritesBehind};
+ghost use Rattle.t85_core.specs.States.Sent.{here};
+ghost use Rattle.t85_core.specs.States.ByRow.{view_of, IsLined, IsBelow, Stands};
 ghost use Rattle.t85_core.specs.RowImage.{image_for};
-ghost use Rattle.t85_core.specs.Steps.RowCalls.{HasNoRows};
+ghost use Rattle.t85_core.specs.States.RowCalls.{HasNoRows};
 ghost use Rattle.t85_core.specs.declared.fault.Fault.TheVariants.{Write};
 
 use crate::encoding::by_row::RowEncoder;

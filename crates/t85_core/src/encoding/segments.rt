@@ -2,8 +2,8 @@
 
 ghost use Rattle.std.specs.Prelude.{◌<◌, ◌+◌, ◌^◌, length, ◌++◌};
 ghost use Rattle.t85_core.specs.Grammar.{Move, Comment, segment_bytes, marker_bytes, NewLength};
-ghost use Rattle.t85_core.specs.Steps.Buffers.{PutsBytes};
-ghost use Rattle.t85_core.specs.Steps.Written.{ending_of};
+ghost use Rattle.t85_core.specs.RowSink.{PutsBytes};
+ghost use Rattle.t85_core.specs.Private.Written.{ending_of};
 
 use crate::fault::Fault;
 use crate::output_buffer::ByteTarget;

@@ -1,8 +1,8 @@
 //! Passes the code of a stripe to a byte target.
 
 ghost use Rattle.std.specs.Prelude.{◌≡◌};
-ghost use Rattle.t85_core.specs.Steps.Buffers.{TakesByte, RefusesByte};
-ghost use Rattle.t85_core.specs.Steps.Views.{sink_view};
+ghost use Rattle.t85_core.specs.Private.Buffers.{TakesByte, RefusesByte};
+ghost use Rattle.t85_core.specs.Private.Views.{sink_view};
 
 use crate::output_buffer::ByteTarget;
 use qm_core::{CodeSink, SinkFault};

@@ -1,6 +1,6 @@
 //! The steps of an encoder: the head of the stream, the move of a stripe, a row, and the end of a code.
 
-ghost use Rattle.std.specs.Prelude.{[], ◌∷◌, ◌++◌, nat_lt, length, None, IfSome, ◌≡◌, ◌≤◌, ◌<◌, ◌+◌, ◌-◌, ◌^◌, List, ℕ, OnOk, OnErr, IfErr, false, option_map};
+ghost use Rattle.std.specs.Prelude.{[], ◌∷◌, ◌++◌, nat_lt, length, None, IfSome, ◌≡◌, ◌≤◌, ◌<◌, ◌+◌, ◌-◌, ◌^◌, List, ℕ, OnOk, OnErr, false, option_map};
 ghost use Rattle.qm_core.specs.Place.{Place, state_of};
 ghost use Rattle.raster_core.specs.Tally.{is_two_line, most_of};
 ghost use Rattle.raster_core.specs.Offset.{candidates};
@@ -10,14 +10,15 @@ ghost use Rattle.raster_core.specs.Packed.{HasLines};
 ghost use Rattle.raster_core.specs.Window.{held, width_of};
 ghost use Rattle.t85_core.specs.Jbg.{Settings, named_for, head_of, is_low};
 ghost use Rattle.t85_core.specs.Options.{settings_of};
-ghost use Rattle.t85_core.specs.Steps.Written.{EncoderStart, next_move};
-ghost use Rattle.t85_core.specs.Steps.EncodeRows.{IsCountedTo};
-ghost use Rattle.t85_core.specs.Steps.EncodeStripes.{IsTallied};
-ghost use Rattle.t85_core.specs.Steps.ByRow.{IsSomewhere, IsLined};
-ghost use Rattle.t85_core.specs.Steps.Buffers.{PutsBytes, WritesOrFails};
-ghost use Rattle.t85_core.specs.Steps.MostBytes.{AppendsAtMost};
-ghost use Rattle.t85_core.specs.Steps.RowCalls.{HasCoded, MayCode};
-ghost use Rattle.t85_core.specs.Steps.RowSteps.{MoveMade, MoveCut, sent_as, RowOutcome, CodeFinished, CodeEnded};
+ghost use Rattle.t85_core.specs.States.Written.{EncoderStart, next_move};
+ghost use Rattle.t85_core.specs.States.Written.{IsCountedTo};
+ghost use Rattle.t85_core.specs.States.Written.{IsTallied};
+ghost use Rattle.t85_core.specs.States.ByRow.{IsSomewhere, IsLined};
+ghost use Rattle.t85_core.specs.RowSink.{PutsBytes};
+ghost use Rattle.t85_core.specs.Private.Buffers.{WritesOrFails};
+ghost use Rattle.t85_core.specs.MostBytes.{AppendsAtMost};
+ghost use Rattle.t85_core.specs.Private.RowCalls.{HasCoded, MayCode};
+ghost use Rattle.t85_core.specs.Private.RowSteps.{MoveMade, MoveCut, sent_as, RowOutcome, CodeFinished, CodeEnded};
 ghost use Rattle.raster_core.specs.Row.{row_task};
 
 use crate::encoding::segments::{write_comment, write_marker, write_move};

@@ -2,10 +2,9 @@
 
 ghost use Rattle.std.specs.Prelude.{◌≡◌, ◌≤◌, ◌<◌, ◌+◌, ◌-◌, ◌^◌, Some, None, length, true};
 ghost use Rattle.t85_core.specs.Options.{fields_of};
-ghost use Rattle.t85_core.specs.Header.{is_variable};
 ghost use Rattle.t85_core.specs.Parts.{Passed, start_walk, IsBehind, TellsNext, TellsOfAny};
 ghost use Rattle.t85_core.specs.declared.parts.Found.TheVariants as found;
-ghost use Rattle.t85_core.specs.Steps.PartSteps.{CanPass, kind_of, part_told, walk_behind, header_part, header_walk, height_told, is_given, TellsThere, TellsInStripe, TellsBehind, TellsBefore, SeesHeight, TailIs};
+ghost use Rattle.t85_core.specs.Private.PartSteps.{CanPass, kind_of, part_told, walk_behind, header_part, header_walk, height_told, is_given, TellsThere, TellsInStripe, TellsBehind, TellsBefore, SeesHeight, TailIs};
 
 use crate::header::Header;
 use crate::height::look;

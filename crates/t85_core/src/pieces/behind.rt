@@ -24,10 +24,11 @@ impl PieceDecoder {
     ghost use Rattle.t85_core.specs.declared.pieces.phase.Behind.{Behind};
     ghost use Rattle.t85_core.specs.declared.pieces.phase.Phase.TheVariants as phase;
     ghost use Rattle.t85_core.specs.Options.{fields_of};
-    ghost use Rattle.t85_core.specs.Steps.Behind.{StopsBehind, behind_at};
-    ghost use Rattle.t85_core.specs.Steps.PieceStands.{place_at};
-    ghost use Rattle.t85_core.specs.Steps.Segments.{IsByteOrMarker, code_bytes};
-    ghost use Rattle.t85_core.specs.Steps.PieceSteps.{is_last_of, place_after, GivesBelow, HeightComes, Lowers, SomeStand, StepLeaves};
+    ghost use Rattle.t85_core.specs.Private.Behind.{StopsBehind};
+    ghost use Rattle.t85_core.specs.States.Behind.{behind_at};
+    ghost use Rattle.t85_core.specs.States.PieceStands.{place_at};
+    ghost use Rattle.t85_core.specs.States.Segments.{IsByteOrMarker, code_bytes};
+    ghost use Rattle.t85_core.specs.Private.PieceSteps.{is_last_of, place_after, GivesBelow, HeightComes, Lowers, SomeStand, StepLeaves};
 
     /// Reads the marker segments before the first stripe, of which these have arrived.
     pub(super) fn step_first(

@@ -43,11 +43,12 @@ impl InCode {
     ghost use Rattle.t85_core.specs.Options.{fields_of};
     ghost use Rattle.t85_core.specs.Repeats.{RowsCanRepeat};
     ghost use Rattle.t85_core.specs.Stages.{StartsCode};
-    ghost use Rattle.t85_core.specs.Steps.Buffers.{copies};
-    ghost use Rattle.t85_core.specs.Steps.InTime.{ReachesMarker};
-    ghost use Rattle.t85_core.specs.Steps.PieceCode.{MarkerIs, MarkerRead};
-    ghost use Rattle.t85_core.specs.Steps.Pieces.{AfterRows, KeepsStripes, SomeStands, Step, WalkStands};
-    ghost use Rattle.t85_core.specs.Steps.SizedImage.{sized_of};
+    ghost use Rattle.t85_core.specs.RowSink.{copies};
+    ghost use Rattle.t85_core.specs.Private.InTime.{ReachesMarker};
+    ghost use Rattle.t85_core.specs.States.PieceCode.{MarkerIs, MarkerRead};
+    ghost use Rattle.t85_core.specs.Private.Pieces.{AfterRows, KeepsStripes, SomeStands, Step};
+    ghost use Rattle.t85_core.specs.States.Pieces.{WalkStands};
+    ghost use Rattle.t85_core.specs.States.SizedImage.{sized_of};
 
     /// Before the first row of a stripe with this move. The first element of its code has been read.
     pub fn start(at: Option<Move>, first: Code) -> InCode

@@ -56,7 +56,7 @@ pub struct Course {
 }
 
 impl Course {
-    ghost use Rattle.std.specs.Prelude.{◌≡◌, ◌≤◌, ◌<◌, ◌-◌, ◌*◌, [], ℕ, List, Ok, length, true, OnOk, nat_eq};
+    ghost use Rattle.std.specs.Prelude.{◌≡◌, ◌≤◌, ◌<◌, ◌-◌, ◌*◌, [], List, Ok, length, true, OnOk, nat_eq};
     ghost use Rattle.qm_core.specs.Place.{Estimate};
     ghost use Rattle.raster_core.specs.Packed.{Held};
     ghost use Rattle.raster_core.specs.Window.{width_of};
@@ -64,10 +64,11 @@ impl Course {
     ghost use Rattle.t85_core.specs.declared.pieces.code.InCode.{InCode};
     ghost use Rattle.t85_core.specs.declared.pieces.course.Stage.TheVariants as stage_type;
     ghost use Rattle.t85_core.specs.Lent.{KeepsLent, stage_view, stage_lent as over};
-    ghost use Rattle.t85_core.specs.Steps.Pieces.{WalkStands, IsFirstWalk, CountsOn, EndsCount, KeepsStripes, SomeStands, Step, Turn};
+    ghost use Rattle.t85_core.specs.States.Pieces.{WalkStands};
+    ghost use Rattle.t85_core.specs.Private.Pieces.{IsFirstWalk, CountsOn, EndsCount, KeepsStripes, SomeStands, Step, Turn};
     ghost use Rattle.t85_core.specs.Stages.{head_start, stage_behind, stage_read};
-    ghost use Rattle.t85_core.specs.Steps.SizedImage.{sized_of};
-    ghost use Rattle.t85_core.specs.Steps.StripeEnds.{EndsAtMarker};
+    ghost use Rattle.t85_core.specs.States.SizedImage.{sized_of};
+    ghost use Rattle.t85_core.specs.Private.StripeEnds.{EndsAtMarker};
 
     /// The state before the first byte after the header. Makes the window white, and resets the contexts.
     pub fn start(image: &SizedImage, lent: &mut Lent<'_, '_>) -> Course

@@ -3,7 +3,8 @@
 ghost use Rattle.std.specs.Prelude.{◌≡◌, ◌≤◌, ◌<◌, ◌∷◌, ℕ, Bool, List, None, length, true, false, IfErr, IfOk, OnOk};
 ghost use Rattle.t85_core.specs.Options.{fields_of};
 ghost use Rattle.t85_core.specs.Stages.{head_start};
-ghost use Rattle.t85_core.specs.Steps.Behind.{BehindOn, ComesBehind, StopsBehind, move_came, behind_at, head_at};
+ghost use Rattle.t85_core.specs.Private.Behind.{BehindOn, ComesBehind, StopsBehind};
+ghost use Rattle.t85_core.specs.States.Behind.{move_came, behind_at, head_at};
 
 use crate::fault::Fault;
 use crate::header::Header;

@@ -25,7 +25,7 @@ pub struct HeldBytes {
 
 impl HeldBytes {
     ghost use Rattle.t85_core.specs.Feeds.{held_bytes};
-    ghost use Rattle.t85_core.specs.Steps.Feeds.{Settles};
+    ghost use Rattle.t85_core.specs.Private.Feeds.{Settles};
 
     /// No stored bytes, as before the first byte.
     pub fn none() -> HeldBytes

@@ -4,8 +4,8 @@ ghost use Rattle.std.specs.Prelude.{◌≡◌, ◌≤◌, ◌<◌, ◌++◌, ℕ
 ghost use Rattle.t85_core.specs.declared.fault.Fault.{Fault};
 ghost use Rattle.t85_core.specs.declared.fault.Fault.TheVariants.{Truncated};
 ghost use Rattle.t85_core.specs.declared.segments.Code.TheVariants as code;
-ghost use Rattle.t85_core.specs.Steps.Entity.{CodeEnds};
-ghost use Rattle.t85_core.specs.Steps.Segments.{IsByteOrMarker, code_bytes};
+ghost use Rattle.t85_core.specs.Private.Entity.{CodeEnds};
+ghost use Rattle.t85_core.specs.States.Segments.{IsByteOrMarker, code_bytes};
 
 use crate::fault::Fault;
 use crate::input_buffer::{ByteSource, HeldSource, plain_len};
@@ -19,7 +19,7 @@ pub struct Piece<'a> {
 }
 
 impl ByteSource for Piece<'_> {
-    ghost use Rattle.t85_core.specs.Steps.Views.{piece_source};
+    ghost use Rattle.t85_core.specs.Private.Views.{piece_source};
 
     ghost view = { λ s. piece_source s };
 
@@ -54,7 +54,7 @@ impl ByteSource for Piece<'_> {
 }
 
 impl HeldSource for Piece<'_> {
-    ghost use Rattle.t85_core.specs.Steps.Views.{piece_source};
+    ghost use Rattle.t85_core.specs.Private.Views.{piece_source};
 
     ghost view = { λ s. piece_source s };
 
@@ -120,8 +120,8 @@ pub struct PieceCode<'a, const PART: usize> {
 
 impl<const PART: usize> PieceCode<'_, PART> {
     ghost use Rattle.qm_core.specs.Source.{failures_after};
-    ghost use Rattle.t85_core.specs.Steps.Entity.{EntityGives};
-    ghost use Rattle.t85_core.specs.Steps.Views.{piece_view};
+    ghost use Rattle.t85_core.specs.Private.Entity.{EntityGives};
+    ghost use Rattle.t85_core.specs.Private.Views.{piece_view};
 
     /// The result of a row of this code: true if the row is whole; otherwise why the code stopped, or false if it
     /// stopped at its end marker.
@@ -177,8 +177,8 @@ impl<const PART: usize> PieceCode<'_, PART> {
 }
 
 impl<const PART: usize> CodeBytes for PieceCode<'_, PART> {
-    ghost use Rattle.t85_core.specs.Steps.Entity.{EntityGives};
-    ghost use Rattle.t85_core.specs.Steps.Views.{piece_view};
+    ghost use Rattle.t85_core.specs.Private.Entity.{EntityGives};
+    ghost use Rattle.t85_core.specs.Private.Views.{piece_view};
 
     ghost gives = { λ s answer t. EntityGives
         (piece_view s)

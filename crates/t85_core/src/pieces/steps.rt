@@ -14,7 +14,7 @@ use crate::pieces::{Outcome, PieceDecoder};
 
 impl PieceDecoder {
     ghost use Rattle.t85_core.specs.Phases.{phase_waits};
-    ghost use Rattle.t85_core.specs.Steps.PieceSteps.{Lowers, StepLeaves};
+    ghost use Rattle.t85_core.specs.Private.PieceSteps.{Lowers, StepLeaves};
 
     /// Continues up to the next row or the end, or as far as the bytes allow.
     pub(super) fn go_on(

@@ -17,9 +17,9 @@ impl Walk {
     ghost use Rattle.raster_core.specs.Window.{held, width_of};
     ghost use Rattle.t85_core.specs.Stages as stage;
     ghost use Rattle.t85_core.specs.Lent.{KeepsLent, walk_lent as over};
-    ghost use Rattle.t85_core.specs.Steps.Buffers.{copies};
-    ghost use Rattle.t85_core.specs.Steps.Pieces.{WalkStands};
-    ghost use Rattle.t85_core.specs.Steps.SizedImage.{sized_of};
+    ghost use Rattle.t85_core.specs.RowSink.{copies};
+    ghost use Rattle.t85_core.specs.States.Pieces.{WalkStands};
+    ghost use Rattle.t85_core.specs.States.SizedImage.{sized_of};
 
     /// The state before the first byte after the header. Makes the window white, and resets the contexts.
     pub fn start(image: &SizedImage, lent: &mut Lent<'_, '_>) -> Walk

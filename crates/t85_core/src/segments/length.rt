@@ -5,10 +5,10 @@ ghost use Rattle.std.specs.Io.KnownBytes.{Consumes};
 ghost use Rattle.byteorder.specs.Endian.{big_bytes};
 ghost use Rattle.t85_core.specs.declared.fault.Fault.TheVariants.{Truncated};
 ghost use Rattle.t85_core.specs.Options.{fields_of};
-ghost use Rattle.t85_core.specs.Steps.Buffers.{ReadsOn};
+ghost use Rattle.t85_core.specs.Private.Buffers.{ReadsOn};
 ghost use Rattle.t85_core.specs.Failures.{Ends};
 ghost use Rattle.t85_core.specs.Grammar.{NewLength, is_valid_length, IsLegal};
-ghost use Rattle.t85_core.specs.Steps.Segments.{LengthFault};
+ghost use Rattle.t85_core.specs.Private.Segments.{LengthFault};
 
 use crate::fault::Fault;
 use crate::header::Header;

@@ -2,7 +2,7 @@ use Rattle.std.proofs.Common.{arith, ap, length-drop, ◌∙◌, take_all}
 use Rattle.std.proofs.lemmas.List.{take_rest}
 use Rattle.std.proofs.Math.Seq.{take-add}
 use Rattle.devices.specs.Device.{one_more}
-use Rattle.devices.proofs.Streams.{Appends-more, Appends-keeps}
+use Rattle.devices.proofs.WritesJoin.{Appends-more, Appends-keeps}
 use Rattle.devices.proofs.write.write_counted.Goals as goal
 
 pub loop-at-preserved : goal.loop-at-preserved

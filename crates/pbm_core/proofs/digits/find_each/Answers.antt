@@ -1,8 +1,8 @@
 use Rattle.std.proofs.Common.{rules, arith, refl, ◌≡◌, ◌+◌, ◌*◌, ◌∷◌, ◌++◌, [], length, take, get_or}
 use Rattle.std.proofs.lemmas.List.{length_push, take_more}
 use Rattle.pbm_core.specs.Pbm.{IsWhite}
-use Rattle.pbm_core.proofs.Eights.{binary_push, push_small, byte_shifted, bool_weight, weight_small}
-use Rattle.pbm_core.proofs.Scanned.{scans-all, scans-white, scans-digit}
+use Rattle.pbm_core.proofs.PixelsFillBytes.{binary_push, push_small, byte_shifted, bool_weight, weight_small}
+use Rattle.pbm_core.proofs.BytesAreScanned.{scans-all, scans-white, scans-digit}
 use Rattle.pbm_core.proofs.digits.find_each.Goals as goal
 
 pub bytes-init : goal.bytes-init

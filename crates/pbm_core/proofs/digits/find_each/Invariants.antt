@@ -1,6 +1,6 @@
 use Rattle.std.proofs.Common.{◌≡◌, ◌≤◌, ◌+◌, ◌-◌, Bool, List, length, take}
 use Rattle.pbm_core.specs.Image.{binary}
-use Rattle.pbm_core.proofs.Scanned.{Scans}
+use Rattle.pbm_core.proofs.BytesAreScanned.{Scans}
 use Rattle.pbm_core.proofs.digits.find_each.Given as goal
 
 -- the pixels so far were found

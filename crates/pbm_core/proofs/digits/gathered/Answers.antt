@@ -1,4 +1,4 @@
-use Rattle.pbm_core.proofs.Gathered.{as_eight, eight_made}
+use Rattle.pbm_core.proofs.DigitsGather.{as_eight, eight_made}
 use Rattle.pbm_core.proofs.digits.gathered.Goals as goal
 
 pub returns : goal.returns

@@ -1,6 +1,6 @@
 use Rattle.std.proofs.Common.{ℕ, List}
 use Rattle.pbm_core.specs.HeaderPieces.{HasScanned}
-use Rattle.pbm_core.proofs.Reading.{Passes}
+use Rattle.pbm_core.proofs.CallsRead.{Passes}
 use Rattle.pbm_core.proofs.header.read_header.Given as goal
 
 -- the reader represents the bytes that were passed

@@ -1,5 +1,5 @@
-use Rattle.pbm_core.proofs.Unpacking.{one_image, written_image_is_read}
-use Rattle.pbm_core.proofs.Faults.{one_image_fault, image_or_fault}
+use Rattle.pbm_core.proofs.PackedRowsAreRead.{one_image, written_image_is_read}
+use Rattle.pbm_core.proofs.ImagesAreRefused.{one_image_fault, image_or_fault}
 use Rattle.pbm_core.proofs.laws.images.Goals as goal
 
 pub returns : goal.returns

@@ -1,6 +1,6 @@
-use Rattle.pbm_core.proofs.Bits.{mask_keeps_pixels, mask_is_white}
-use Rattle.pbm_core.proofs.Packing.{masked_is_packed}
-use Rattle.pbm_core.proofs.Eights.{packed_stays}
+use Rattle.pbm_core.proofs.MaskClearsPadding.{mask_keeps_pixels, mask_is_white}
+use Rattle.pbm_core.proofs.BytesPackPixels.{masked_is_packed}
+use Rattle.pbm_core.proofs.PixelsFillBytes.{packed_stays}
 use Rattle.pbm_core.proofs.laws.masks.Goals as goal
 
 pub returns : goal.returns

@@ -1,4 +1,4 @@
-use Rattle.pbm_core.proofs.Pixels.{one_row, one_row_fault, row_or_fault}
+use Rattle.pbm_core.proofs.RowIsJudged.{one_row, one_row_fault, row_or_fault}
 use Rattle.pbm_core.proofs.laws.rows.Goals as goal
 
 pub returns : goal.returns

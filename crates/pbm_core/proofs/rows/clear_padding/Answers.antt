@@ -1,5 +1,5 @@
 use Rattle.std.proofs.Common.{length}
-use Rattle.pbm_core.proofs.Masks.{masked_same}
+use Rattle.pbm_core.proofs.RowsAreMasked.{masked_same}
 use Rattle.pbm_core.proofs.rows.clear_padding.Goals as goal
 
 pub returns : goal.returns

@@ -1,8 +1,8 @@
 use Rattle.std.proofs.Common.{refl, subst}
 use Rattle.pbm_core.specs.Reading.{Reads}
 use Rattle.pbm_core.specs.Image.{EndsInPixels}
-use Rattle.pbm_core.specs.Steps.{MakeByte}
-use Rattle.pbm_core.proofs.Scanned.{reads_pixels}
+use Rattle.pbm_core.specs.Private.{MakeByte}
+use Rattle.pbm_core.proofs.BytesAreScanned.{reads_pixels}
 use Rattle.pbm_core.proofs.rows.read_byte.Goals as goal
 
 pub returns-in-Some : goal.returns-in-Some

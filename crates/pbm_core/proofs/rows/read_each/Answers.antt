@@ -1,8 +1,8 @@
 use Rattle.std.proofs.Common.{arith, refl, ◌∷◌, ◌++◌, []}
 use Rattle.std.proofs.lemmas.List.{length_push}
-use Rattle.pbm_core.proofs.Reading.{passes-none, passes-more, passed, reads, fails-after}
-use Rattle.pbm_core.proofs.Pixels.{pixels-append, pixels_then}
-use Rattle.pbm_core.proofs.Eights.{binary_push, push_small, byte_shifted, bool_weight, weight_small}
+use Rattle.pbm_core.proofs.CallsRead.{passes-none, passes-more, passed, reads, fails-after}
+use Rattle.pbm_core.proofs.RowIsJudged.{pixels-append, pixels_then}
+use Rattle.pbm_core.proofs.PixelsFillBytes.{binary_push, push_small, byte_shifted, bool_weight, weight_small}
 use Rattle.pbm_core.proofs.rows.read_each.Goals as goal
 
 pub pixels-init : goal.pixels-init

@@ -1,6 +1,6 @@
 use Rattle.std.proofs.Common.{◌≡◌, ℕ, Bool, List, length}
 use Rattle.pbm_core.specs.Image.{binary, ArePixels}
-use Rattle.pbm_core.proofs.Reading.{Passes}
+use Rattle.pbm_core.proofs.CallsRead.{Passes}
 use Rattle.pbm_core.proofs.rows.read_each.Given as goal
 
 -- the pixels so far were passed

@@ -1,8 +1,8 @@
 use Rattle.std.proofs.Common.{arith, rules, refl, ap, ◌∷◌, ◌++◌, []}
 use Rattle.pbm_core.specs.declared.fault.PbmFault.TheVariants.{BadDigit}
 use Rattle.pbm_core.specs.Pbm.{IsWhite}
-use Rattle.pbm_core.proofs.Reading.{passes-none, passes-more, passed_byte, reads, fails-at, fails-after}
-use Rattle.pbm_core.proofs.Lists.{All-push}
+use Rattle.pbm_core.proofs.CallsRead.{passes-none, passes-more, passed_byte, reads, fails-at, fails-after}
+use Rattle.pbm_core.proofs.ListsGrow.{All-push}
 use Rattle.pbm_core.proofs.rows.read_pixel.Goals as goal
 
 pub space-init : goal.space-init

@@ -1,7 +1,7 @@
 use Rattle.std.proofs.Common.{ℕ, List}
 use Rattle.std.specs.List.{AllByRecursion}
 use Rattle.pbm_core.specs.Pbm.{IsWhite}
-use Rattle.pbm_core.proofs.Reading.{Passes}
+use Rattle.pbm_core.proofs.CallsRead.{Passes}
 use Rattle.pbm_core.proofs.rows.read_pixel.Given as goal
 
 -- white space was passed

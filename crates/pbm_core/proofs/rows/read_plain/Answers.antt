@@ -1,7 +1,7 @@
 use Rattle.std.proofs.Common.{arith, ◌≡◌, ◌≢◌, ◌<◌, ◌*◌, ◌∙◌, ◌++◌, ℕ, List, length, sym, get_or-set_same, get_or-set_other, below_more, length-append, refl, []}
-use Rattle.pbm_core.proofs.Reading.{passes-none, passes-more, passed, reads, fails-after}
-use Rattle.pbm_core.proofs.Pixels.{pixels-append, pixels_then}
-use Rattle.pbm_core.proofs.Eights.{inside, enough, byte_before, byte_behind, row_packed, plain_row}
+use Rattle.pbm_core.proofs.CallsRead.{passes-none, passes-more, passed, reads, fails-after}
+use Rattle.pbm_core.proofs.RowIsJudged.{pixels-append, pixels_then}
+use Rattle.pbm_core.proofs.PixelsFillBytes.{inside, enough, byte_before, byte_behind, row_packed, plain_row}
 use Rattle.pbm_core.proofs.rows.read_plain.Goals as goal
 
 pub loop-i-init : goal.loop-i-init

@@ -1,7 +1,7 @@
 use Rattle.std.proofs.Common.{◌≡◌, ◌<◌, ◌+◌, ◌*◌, ℕ, Bool, List, length, min, get_or}
 use Rattle.pbm_core.specs.Image.{ArePixels}
-use Rattle.pbm_core.specs.Steps.{byte_at}
-use Rattle.pbm_core.proofs.Reading.{Passes}
+use Rattle.pbm_core.specs.RowPieces.{byte_at}
+use Rattle.pbm_core.proofs.CallsRead.{Passes}
 use Rattle.pbm_core.proofs.rows.read_plain.Given as goal
 
 -- the pixels so far were passed, and are in the bytes so far

@@ -1,6 +1,6 @@
 use Rattle.std.proofs.Common.{◌∙◌}
-use Rattle.pbm_core.proofs.Packing.{raw_row}
-use Rattle.pbm_core.proofs.Reading.{passed, reads}
+use Rattle.pbm_core.proofs.BytesPackPixels.{raw_row}
+use Rattle.pbm_core.proofs.CallsRead.{passed, reads}
 use Rattle.pbm_core.proofs.rows.read_raw.Goals as goal
 
 pub returns : goal.returns

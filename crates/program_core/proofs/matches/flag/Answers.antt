@@ -1,6 +1,6 @@
 use Rattle.std.proofs.Common.{◌∙◌}
 use Rattle.clap.specs.Words.{found_of}
-use Rattle.program_core.proofs.Getters.{flag_of_rows, flag_read}
+use Rattle.program_core.proofs.GetterReadsFlag.{flag_of_rows, flag_read}
 use Rattle.program_core.proofs.matches.flag.Goals as goal
 
 pub returns : goal.returns

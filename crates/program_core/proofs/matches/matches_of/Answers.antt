@@ -1,6 +1,6 @@
 use Rattle.std.proofs.Common.{map}
 use Rattle.clap.specs.Words.{app_of, fault_of, kind_of}
-use Rattle.program_core.proofs.Faults.{refusal_told}
+use Rattle.program_core.proofs.RefusalIsReported.{refusal_told}
 use Rattle.program_core.proofs.matches.matches_of.Goals as goal
 
 pub returns-in-Ok-clause-rows : goal.returns-in-Ok-clause-rows

@@ -1,5 +1,5 @@
 use Rattle.clap.specs.Words.{found_of}
-use Rattle.program_core.proofs.Numbers.{number_is}
+use Rattle.program_core.proofs.GetterReadsNumber.{number_is}
 use Rattle.program_core.proofs.matches.number.Goals as goal
 
 pub returns : goal.returns

@@ -1,4 +1,4 @@
-use Rattle.program_core.proofs.Messages.{in_one_line, line_whole, short_line}
+use Rattle.program_core.proofs.LinePartsFit.{in_one_line, line_whole, short_line}
 use Rattle.program_core.proofs.message.line_about.Goals as goal
 
 pub returns : goal.returns

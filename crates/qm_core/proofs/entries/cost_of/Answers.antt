@@ -1,6 +1,6 @@
 use Rattle.std.proofs.Common.{◌≡◌, ◌∙◌, ◌*◌, ◌/◌, arith, ap, cond, sym, get_or}
 use Rattle.qm_core.specs.Table.{row_at}
-use Rattle.qm_core.proofs.TableLemmas.{cost_at, cost_most, costs_of}
+use Rattle.qm_core.proofs.TableIsStandard.{cost_at, cost_most, costs_of}
 use Rattle.qm_core.proofs.entries.cost_of.Goals as goal
 use Rattle.qm_core.proofs.entries.cost_of.Goals.{then-pixel, else-pixel}
 

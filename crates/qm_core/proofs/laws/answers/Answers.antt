@@ -1,4 +1,4 @@
-use Rattle.qm_core.proofs.Agreeing.{Stands-Lies, bytes_of-append, length-bytes_of}
+use Rattle.qm_core.proofs.AnswersFixBytes.{Stands-Lies, bytes_of-append, length-bytes_of}
 use Rattle.qm_core.proofs.laws.answers.Goals as goal
 
 pub returns-clause-answers_lie : goal.returns-clause-answers_lie

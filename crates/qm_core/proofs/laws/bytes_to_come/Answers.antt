@@ -1,4 +1,4 @@
-use Rattle.qm_core.proofs.Waiting.{few_pushed, few_in_front, few_to_end}
+use Rattle.qm_core.proofs.FewBytesWait.{few_pushed, few_in_front, few_to_end}
 use Rattle.qm_core.proofs.laws.bytes_to_come.Goals as goal
 
 pub returns-clause-few_pushed : goal.returns-clause-few_pushed

@@ -1,8 +1,8 @@
 use Rattle.std.proofs.Common.{sym}
-use Rattle.qm_core.proofs.CodeOf.{chosen-IsChosen, code_of-IsCode}
-use Rattle.qm_core.proofs.OneCode.{chosen_is, code_is}
-use Rattle.qm_core.proofs.Shortest.{code-Lies}
-use Rattle.qm_core.proofs.Inverse.{front_begins}
+use Rattle.qm_core.proofs.FunctionGivesCode.{chosen-IsChosen, code_of-IsCode}
+use Rattle.qm_core.proofs.CodeIsUnique.{chosen_is, code_is}
+use Rattle.qm_core.proofs.NoCodeIsShorter.{code-Lies}
+use Rattle.qm_core.proofs.FrontBeginsCode.{front_begins}
 use Rattle.qm_core.proofs.laws.codes.Goals as goal
 
 pub returns-clause-one_chosen : goal.returns-clause-one_chosen

@@ -1,4 +1,4 @@
-use Rattle.qm_core.proofs.Lengths.{events_double, code_is_short}
+use Rattle.qm_core.proofs.LengthsAreBounded.{events_double, code_is_short}
 use Rattle.qm_core.proofs.laws.lengths.Goals as goal
 
 pub returns-clause-events_double : goal.returns-clause-events_double

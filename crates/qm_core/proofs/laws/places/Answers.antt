@@ -1,4 +1,4 @@
-use Rattle.qm_core.proofs.Pixels.{step-IsPlace, after-IsPlace, after-inside}
+use Rattle.qm_core.proofs.OnePixelKeepsCode.{step-IsPlace, after-IsPlace, after-inside}
 use Rattle.qm_core.proofs.laws.places.Goals as goal
 
 pub returns-clause-pixel_keeps_place : goal.returns-clause-pixel_keeps_place

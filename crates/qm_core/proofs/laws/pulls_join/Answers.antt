@@ -1,5 +1,5 @@
 use Rattle.qm_core.specs.Source.{Pulls}
-use Rattle.qm_core.proofs.Pulling.{Gives-append}
+use Rattle.qm_core.proofs.DecoderPulls.{Gives-append}
 use Rattle.qm_core.proofs.laws.pulls_join.Goals as goal
 
 pub returns : goal.returns

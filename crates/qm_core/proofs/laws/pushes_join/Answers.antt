@@ -1,4 +1,4 @@
-use Rattle.qm_core.proofs.Written.{Took-append}
+use Rattle.qm_core.proofs.WritesJoin.{Took-append}
 use Rattle.qm_core.proofs.laws.pushes_join.Goals as goal
 
 pub returns : goal.returns

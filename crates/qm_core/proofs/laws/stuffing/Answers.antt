@@ -1,9 +1,9 @@
-use Rattle.qm_core.proofs.Written.{stuffed-append}
-use Rattle.qm_core.proofs.Fronts.{encoder_front}
+use Rattle.qm_core.proofs.WritesJoin.{stuffed-append}
+use Rattle.qm_core.proofs.OutputIsFront.{encoder_front}
 use Rattle.std.proofs.Common.{ap, sym, ◌∙◌, ◌++◌}
 use Rattle.qm_core.specs.Code.{stuffed}
-use Rattle.qm_core.proofs.Shortest.{code-Lies}
-use Rattle.qm_core.proofs.Inverse.{front_begins}
+use Rattle.qm_core.proofs.NoCodeIsShorter.{code-Lies}
+use Rattle.qm_core.proofs.FrontBeginsCode.{front_begins}
 use Rattle.qm_core.proofs.laws.stuffing.Goals as goal
 
 pub returns-clause-stuffed_append : goal.returns-clause-stuffed_append

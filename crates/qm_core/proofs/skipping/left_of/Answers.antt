@@ -2,7 +2,7 @@ use Rattle.std.proofs.Common.{◌≡◌, ◌*◌, ◌-◌, arith, ap}
 use Rattle.qm_core.specs.Table.{row_at}
 use Rattle.qm_core.specs.Place.{state_of}
 use Rattle.qm_core.specs.Puts.{event_of}
-use Rattle.qm_core.proofs.FavouredRuns.{scaled, no_room, room}
+use Rattle.qm_core.proofs.RunLowersSize.{scaled, no_room, room}
 use Rattle.qm_core.proofs.skipping.left_of.Goals as goal
 
 pub returns-then-span-upper-clause-none : goal.returns-then-span-upper-clause-none

@@ -1,7 +1,7 @@
 use Rattle.std.proofs.Common.{◌≡◌, ℕ, ◌+◌, ◌-◌, ◌/◌, ◌^◌, ◌<◌, ◌≤◌, ◌≢◌, ◌∙◌, ap, arith, get_or, set, List, length, ◌⊎◌, inl, inr, get_or-set_other, get_or-set_same, length-set, refl}
 use Rattle.raster_core.specs.Machine.Words.{word}
-use Rattle.raster_core.proofs.Choosing.{le_cases}
-use Rattle.raster_core.proofs.Shifts.{second_part, far_next, near_next}
+use Rattle.raster_core.proofs.BestIsFound.{le_cases}
+use Rattle.raster_core.proofs.WordsHoldPixels.{second_part, far_next, near_next}
 use Rattle.raster_core.proofs.agreement.add_lags.Goals as goal
 
 first_shift : (s f : ℕ) → s ≡ s + (f - f)

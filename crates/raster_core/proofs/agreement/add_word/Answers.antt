@@ -1,6 +1,6 @@
 use Rattle.std.proofs.Common.{◌≡◌, ℕ, ◌+◌, ◌-◌, ◌∙◌, ap, arith, get_or, inl, inr, lit≤, refl}
 use Rattle.raster_core.specs.Machine.Words.{agreed_from, pixels_from}
-use Rattle.raster_core.proofs.Evens.{even_agreed}
+use Rattle.raster_core.proofs.WordsHaveOneColour.{even_agreed}
 use Rattle.std.proofs.lemmas.Bool.{cases_lt}
 use Rattle.raster_core.proofs.agreement.add_word.Goals as goal
 

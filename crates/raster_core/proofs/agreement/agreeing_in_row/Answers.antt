@@ -1,6 +1,6 @@
 use Rattle.std.proofs.Common.{ℕ, sym, arith, refl}
-use Rattle.raster_core.proofs.Packs.{led_white}
-use Rattle.raster_core.proofs.Parts.{part_none, part_next, first_place, second_place, third_place}
+use Rattle.raster_core.proofs.BytesMakeWords.{led_white}
+use Rattle.raster_core.proofs.WordsAgree.{part_none, part_next, first_place, second_place, third_place}
 use Rattle.raster_core.proofs.agreement.agreeing_in_row.Goals as goal
 
 pub loop-k-init : goal.loop-k-init

@@ -1,6 +1,6 @@
 use Rattle.std.proofs.Common.{◌≡◌, ℕ, ◌+◌, ◌-◌, ◌*◌, ◌∙◌, arith, refl}
 use Rattle.raster_core.specs.Machine.Words.{led, is_within}
-use Rattle.raster_core.proofs.Parts.{row_part, nominal_part}
+use Rattle.raster_core.proofs.WordsAgree.{row_part, nominal_part}
 use Rattle.raster_core.proofs.agreement.agreeing_in_word.Goals as goal
 
 pub returns-then-offset-eq0-clause-agreed : goal.returns-then-offset-eq0-clause-agreed

@@ -3,8 +3,8 @@ use Rattle.std.specs.Prelude.{bit_and}
 use Rattle.std.proofs.lemmas.Bool.{eqb-true}
 use Rattle.std.proofs.lemmas.Nat.{le_or_l, le_or_r, and_le_l, and_le_r}
 use Rattle.raster_core.specs.Machine.Words.{word}
-use Rattle.raster_core.proofs.Evens.{dark, lit, in_all}
-use Rattle.raster_core.proofs.Shifts.{word_lt}
+use Rattle.raster_core.proofs.WordsHaveOneColour.{dark, lit, in_all}
+use Rattle.raster_core.proofs.WordsHoldPixels.{word_lt}
 use Rattle.raster_core.proofs.agreement.is_even.Goals as goal
 
 pub returns-then-second-eq0 : goal.returns-then-second-eq0

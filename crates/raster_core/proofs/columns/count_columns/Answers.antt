@@ -1,9 +1,9 @@
 use Rattle.std.proofs.Common.{◌≡◌, ℕ, ◌+◌, ◌-◌, ◌*◌, ◌≤◌, arith, refl, sym}
 use Rattle.raster_core.specs.Machine.Words.{led, is_between}
-use Rattle.raster_core.proofs.Among.{among_row, among_nominal, among_none, among_next}
-use Rattle.raster_core.proofs.Choosing.{zeros}
-use Rattle.raster_core.proofs.Packs.{led_white}
-use Rattle.raster_core.proofs.Parts.{first_place, second_place, third_place}
+use Rattle.raster_core.proofs.ColumnsAgree.{among_row, among_nominal, among_none, among_next}
+use Rattle.raster_core.proofs.BestIsFound.{zeros}
+use Rattle.raster_core.proofs.BytesMakeWords.{led_white}
+use Rattle.raster_core.proofs.WordsAgree.{first_place, second_place, third_place}
 use Rattle.raster_core.proofs.columns.count_columns.Goals as goal
 
 pub loop-k-init : goal.loop-k-init

@@ -2,7 +2,7 @@ use Rattle.std.proofs.Common.{◌≡◌, ◌*◌, Bool, true, false, refl, sym, 
 use Rattle.std.proofs.lemmas.Bool.{cases_lt}
 use Rattle.raster_core.specs.Counting.{fit_row}
 use Rattle.raster_core.specs.Lines.{same_row}
-use Rattle.raster_core.proofs.Among.{words_same, words_differ, rows_alike, pixels_alike}
+use Rattle.raster_core.proofs.ColumnsAgree.{words_same, words_differ, rows_alike, pixels_alike}
 use Rattle.raster_core.proofs.columns.is_same.Goals as goal
 
 pub loop-k-preserved : goal.loop-k-preserved

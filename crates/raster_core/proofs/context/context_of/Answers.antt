@@ -1,4 +1,4 @@
-use Rattle.raster_core.proofs.Moved.{clear_is, nominal_none}
+use Rattle.raster_core.proofs.OffsetIsTested.{clear_is, nominal_none}
 use Rattle.raster_core.proofs.context.context_of.Goals as goal
 
 pub returns-else-this-ne0 : goal.returns-else-this-ne0

@@ -1,8 +1,8 @@
 use Rattle.std.proofs.Common.{◌≡◌, suc, ◌-◌, ◌/◌, ◌%◌, ◌^◌, ◌<◌, arith, refl, sym, ◌∙◌, subst}
 use Rattle.raster_core.specs.Lines.{adaptive}
 use Rattle.raster_core.specs.Machine.Registers.{bit, AreAt}
-use Rattle.raster_core.proofs.Contexts.{adaptive_moved, three_line_moved, two_line_moved}
-use Rattle.raster_core.proofs.Moved.{set_is, clear_is}
+use Rattle.raster_core.proofs.RegistersGiveContexts.{adaptive_moved, three_line_moved, two_line_moved}
+use Rattle.raster_core.proofs.OffsetIsTested.{set_is, clear_is}
 use Rattle.raster_core.proofs.context.moved_context.Goals as goal
 use Rattle.raster_core.proofs.context.moved_context.Goals.{then-this-ne0, else-this-ne0}
 

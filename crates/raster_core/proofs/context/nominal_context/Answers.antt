@@ -1,6 +1,6 @@
 use Rattle.std.proofs.Common.{refl, ◌∙◌}
-use Rattle.raster_core.proofs.Contexts.{three_line_nominal, two_line_nominal}
-use Rattle.raster_core.proofs.Moved.{set_is, clear_is}
+use Rattle.raster_core.proofs.RegistersGiveContexts.{three_line_nominal, two_line_nominal}
+use Rattle.raster_core.proofs.OffsetIsTested.{set_is, clear_is}
 use Rattle.raster_core.proofs.context.nominal_context.Goals as goal
 use Rattle.raster_core.proofs.context.nominal_context.Goals.{then-this-ne0, else-this-ne0}
 

@@ -1,8 +1,8 @@
 use Rattle.std.proofs.Common.{◌≡◌, ℕ, ◌+◌, ◌*◌, ◌≤◌, arith, refl}
 use Rattle.raster_core.specs.Machine.Words.{led, is_within}
-use Rattle.raster_core.proofs.Choosing.{zeros}
-use Rattle.raster_core.proofs.Packs.{led_white}
-use Rattle.raster_core.proofs.Parts.{row_part, part_none, part_next, first_place, second_place, third_place}
+use Rattle.raster_core.proofs.BestIsFound.{zeros}
+use Rattle.raster_core.proofs.BytesMakeWords.{led_white}
+use Rattle.raster_core.proofs.WordsAgree.{row_part, part_none, part_next, first_place, second_place, third_place}
 use Rattle.raster_core.proofs.counted.count_agreed.Goals as goal
 
 pub loop-k-init : goal.loop-k-init

@@ -1,6 +1,6 @@
 use Rattle.std.proofs.Common.{ℕ, ◌≡◌, ◌*◌, ◌∙◌, List, length, ap, sym, refl, arith}
-use Rattle.raster_core.proofs.Places.{rows_cut}
-use Rattle.raster_core.proofs.RowsDone.{same_goes, stop_first, stop_pixels, done_plain, done_typical}
+use Rattle.raster_core.proofs.RingHoldsRows.{rows_cut}
+use Rattle.raster_core.proofs.RowDecodingEnds.{same_goes, stop_first, stop_pixels, done_plain, done_typical}
 use Rattle.raster_core.proofs.decode.decode_beside.Goals as goal
 use Rattle.raster_core.proofs.decode.decode_beside.Goals.{then-flag, else-flag+in-Ok}
 

@@ -1,5 +1,5 @@
 use Rattle.std.proofs.Common.{◌≡◌, refl, rules}
-use Rattle.raster_core.proofs.RowsDone.{same_goes, passes}
+use Rattle.raster_core.proofs.RowDecodingEnds.{same_goes, passes}
 use Rattle.raster_core.proofs.decode.go_on_row.Goals as goal
 
 pub returns-else-is_ok-clause-row : goal.returns-else-is_ok-clause-row

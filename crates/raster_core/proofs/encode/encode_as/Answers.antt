@@ -1,7 +1,7 @@
 use Rattle.raster_core.specs.Machine.Rows.{coded_events}
 use Rattle.raster_core.specs.Window.{shape_mode}
-use Rattle.raster_core.proofs.Putting.{puts_as, puts_join, puts_stop}
-use Rattle.raster_core.proofs.RowPuts.{coded_typical, coded_plain}
+use Rattle.raster_core.proofs.EventsArePut.{puts_as, puts_join, puts_stop}
+use Rattle.raster_core.proofs.RowIsPut.{coded_typical, coded_plain}
 use Rattle.raster_core.proofs.encode.encode_as.Goals as goal
 
 pub returns-in_err-encode_flag : goal.returns-in_err-encode_flag

@@ -1,6 +1,6 @@
 use Rattle.raster_core.specs.Window.{shape_mode}
-use Rattle.raster_core.proofs.Putting.{puts_as, puts_none}
-use Rattle.raster_core.proofs.RowPuts.{first_is_none}
+use Rattle.raster_core.proofs.EventsArePut.{puts_as, puts_none}
+use Rattle.raster_core.proofs.RowIsPut.{first_is_none}
 use Rattle.raster_core.proofs.encode.encode_flag.Goals as goal
 
 pub returns-else-shape : goal.returns-else-shape

@@ -2,8 +2,8 @@ use Rattle.std.proofs.Common.{◌≡◌, rules, refl, ◌∙◌, ap, arith}
 use Rattle.std.proofs.lemmas.Grind.{common_steps}
 use Rattle.raster_core.specs.Packed.{HasLines, Held}
 use Rattle.raster_core.specs.Window.{shape_mode}
-use Rattle.raster_core.proofs.Putting.{puts_handed}
-use Rattle.raster_core.proofs.RowPuts.{coded_some, counts_to, put_or_failed, row_coded}
+use Rattle.raster_core.proofs.EventsArePut.{puts_handed}
+use Rattle.raster_core.proofs.RowIsPut.{coded_some, counts_to, put_or_failed, row_coded}
 use Rattle.raster_core.proofs.encode.encode_row.Goals as goal
 
 pub returns-in_err-encode_as-clause-row : goal.returns-in_err-encode_as-clause-row

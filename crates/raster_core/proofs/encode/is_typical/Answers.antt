@@ -1,6 +1,6 @@
 use Rattle.std.proofs.Common.{◌∙◌, sym}
 use Rattle.std.proofs.lemmas.Slice.Eq.{bytes_eq-Decides}
-use Rattle.raster_core.proofs.SameRows.{typical_test}
+use Rattle.raster_core.proofs.RowsAreEqual.{typical_test}
 use Rattle.raster_core.proofs.encode.is_typical.Goals as goal
 
 pub returns-then-shape-clause-lines : goal.returns-then-shape-clause-lines

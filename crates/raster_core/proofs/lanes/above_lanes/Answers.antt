@@ -1,4 +1,4 @@
-use Rattle.raster_core.proofs.LaneTables.{above_says}
+use Rattle.raster_core.proofs.TablesFillLanes.{above_says}
 use Rattle.raster_core.proofs.lanes.above_lanes.Goals as goal
 
 pub returns-clause-lanes : goal.returns-clause-lanes

@@ -1,5 +1,5 @@
 use Rattle.std.proofs.Common.{arith}
-use Rattle.raster_core.proofs.LaneTables.{sum_is}
+use Rattle.raster_core.proofs.TablesFillLanes.{sum_is}
 use Rattle.raster_core.proofs.lanes.both_lanes.Goals as goal
 
 pub returns-clause-lanes : goal.returns-clause-lanes

@@ -1,4 +1,4 @@
-use Rattle.raster_core.proofs.LaneTables.{far_says}
+use Rattle.raster_core.proofs.TablesFillLanes.{far_says}
 use Rattle.raster_core.proofs.lanes.far_lanes.Goals as goal
 
 pub returns-clause-lanes : goal.returns-clause-lanes

@@ -1,8 +1,7 @@
 use Rattle.std.proofs.Common.{◌≡◌, suc, ◌-◌, true, false, arith, refl, sym, ◌∙◌, subst}
-use Rattle.raster_core.specs.Machine.Lanes.{near, HasFar}
-use Rattle.raster_core.specs.Machine.Lanes.{AreBeside}
-use Rattle.raster_core.proofs.LanePixels.{beside_nominal, beside_moved}
-use Rattle.raster_core.proofs.Moved.{set_is, clear_is, nominal_none, moved_some}
+use Rattle.raster_core.specs.Machine.Lanes.{near, HasFar, AreBeside}
+use Rattle.raster_core.proofs.LanesGivePixels.{beside_nominal, beside_moved}
+use Rattle.raster_core.proofs.OffsetIsTested.{set_is, clear_is, nominal_none, moved_some}
 use Rattle.raster_core.proofs.lanes.far_of.Goals as goal
 
 pub returns-then-this-ne0 : goal.returns-then-this-ne0

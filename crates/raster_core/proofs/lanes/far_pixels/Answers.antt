@@ -1,4 +1,4 @@
-use Rattle.raster_core.proofs.FarPixels.{far_before, far_within}
+use Rattle.raster_core.proofs.RegisterHasFarPixels.{far_before, far_within}
 use Rattle.raster_core.proofs.lanes.far_pixels.Goals as goal
 
 pub returns-then-offset-lt8 : goal.returns-then-offset-lt8

@@ -1,5 +1,5 @@
 use Rattle.std.proofs.Common.{◌∙◌}
-use Rattle.raster_core.proofs.LaneTables.{first_around_is}
+use Rattle.raster_core.proofs.TablesFillLanes.{first_around_is}
 use Rattle.raster_core.proofs.lanes.first_around.Goals as goal
 
 pub returns : goal.returns

@@ -1,6 +1,6 @@
 use Rattle.std.proofs.Common.{refl, ◌∙◌}
-use Rattle.raster_core.proofs.LaneTables.{first_pixels_are, first_moved_are}
-use Rattle.raster_core.proofs.Moved.{set_is, clear_is}
+use Rattle.raster_core.proofs.TablesFillLanes.{first_pixels_are, first_moved_are}
+use Rattle.raster_core.proofs.OffsetIsTested.{set_is, clear_is}
 use Rattle.raster_core.proofs.lanes.first_pixels.Goals as goal
 
 pub returns-then-this-ne0 : goal.returns-then-this-ne0

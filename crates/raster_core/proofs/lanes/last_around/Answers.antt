@@ -1,5 +1,5 @@
 use Rattle.std.proofs.Common.{◌∙◌}
-use Rattle.raster_core.proofs.LaneTables.{last_around_is}
+use Rattle.raster_core.proofs.TablesFillLanes.{last_around_is}
 use Rattle.raster_core.proofs.lanes.last_around.Goals as goal
 
 pub returns : goal.returns

@@ -1,6 +1,6 @@
 use Rattle.std.proofs.Common.{refl, ◌∙◌}
-use Rattle.raster_core.proofs.LaneTables.{last_pixels_are, last_moved_are}
-use Rattle.raster_core.proofs.Moved.{set_is, clear_is}
+use Rattle.raster_core.proofs.TablesFillLanes.{last_pixels_are, last_moved_are}
+use Rattle.raster_core.proofs.OffsetIsTested.{set_is, clear_is}
 use Rattle.raster_core.proofs.lanes.last_pixels.Goals as goal
 
 pub returns-then-this-ne0 : goal.returns-then-this-ne0

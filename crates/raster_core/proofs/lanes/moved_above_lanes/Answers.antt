@@ -1,4 +1,4 @@
-use Rattle.raster_core.proofs.LaneTables.{moved_above_says}
+use Rattle.raster_core.proofs.TablesFillLanes.{moved_above_says}
 use Rattle.raster_core.proofs.lanes.moved_above_lanes.Goals as goal
 
 pub returns-clause-lanes : goal.returns-clause-lanes

@@ -1,6 +1,6 @@
 use Rattle.std.proofs.Common.{◌≡◌, ◌+◌, arith, ℕ, ◌<◌}
 use Rattle.raster_core.specs.Machine.Lanes.{lane, second_lane, moved_above_lane, far_lane}
-use Rattle.raster_core.proofs.LaneTables.{sum_is}
+use Rattle.raster_core.proofs.TablesFillLanes.{sum_is}
 use Rattle.raster_core.proofs.lanes.moved_lanes.Goals as goal
 
 pub returns-clause-lanes : goal.returns-clause-lanes

@@ -1,4 +1,4 @@
-use Rattle.raster_core.proofs.LaneTables.{row_says}
+use Rattle.raster_core.proofs.TablesFillLanes.{row_says}
 use Rattle.raster_core.proofs.lanes.row_lanes.Goals as goal
 
 pub returns-clause-lanes : goal.returns-clause-lanes

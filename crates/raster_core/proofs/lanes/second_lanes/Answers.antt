@@ -1,4 +1,4 @@
-use Rattle.raster_core.proofs.LaneTables.{second_says}
+use Rattle.raster_core.proofs.TablesFillLanes.{second_says}
 use Rattle.raster_core.proofs.lanes.second_lanes.Goals as goal
 
 pub returns-clause-lanes : goal.returns-clause-lanes

@@ -1,6 +1,6 @@
 use Rattle.std.proofs.Common.{ℕ, ◌≡◌, ◌+◌, ◌*◌, ◌/◌, ◌%◌, arith, refl}
 use Rattle.raster_core.specs.Machine.Registers.{before}
-use Rattle.raster_core.proofs.Packed.{packed_byte, moves_on}
+use Rattle.raster_core.proofs.RegistersTakeBytes.{packed_byte, moves_on}
 use Rattle.raster_core.proofs.place.around_at.Goals as goal
 
 wrapped : (a b : ℕ) → (a % 4294967296 % 16777216 + b) % 16777216 ≡ (a + b) % 16777216

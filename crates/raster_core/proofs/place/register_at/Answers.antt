@@ -1,6 +1,6 @@
 use Rattle.std.proofs.Common.{◌≡◌, ◌+◌, ◌*◌, ◌-◌, arith}
 use Rattle.raster_core.specs.Machine.Registers.{before}
-use Rattle.raster_core.proofs.Packed.{packed_byte, first_byte, second_byte, three_bytes}
+use Rattle.raster_core.proofs.RegistersTakeBytes.{packed_byte, first_byte, second_byte, three_bytes}
 use Rattle.raster_core.proofs.place.register_at.Goals as goal
 
 pub returns-then-i-eq0-clause-is : goal.returns-then-i-eq0-clause-is

@@ -1,5 +1,5 @@
-use Rattle.raster_core.proofs.Colours.{nominal_eight, moved_eight}
-use Rattle.raster_core.proofs.Moved.{set_is, clear_is, nominal_none, moved_some}
+use Rattle.raster_core.proofs.ContextsStayUniform.{nominal_eight, moved_eight}
+use Rattle.raster_core.proofs.OffsetIsTested.{set_is, clear_is, nominal_none, moved_some}
 use Rattle.raster_core.proofs.uniform.is_uniform.Goals as goal
 
 pub returns-then-surrounds-clause-uniform : goal.returns-then-surrounds-clause-uniform

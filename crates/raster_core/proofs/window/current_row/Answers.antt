@@ -1,5 +1,5 @@
 use Rattle.std.proofs.Common.{refl}
-use Rattle.raster_core.proofs.Places.{put_current}
+use Rattle.raster_core.proofs.RingHoldsRows.{put_current}
 use Rattle.raster_core.proofs.window.current_row.Goals as goal
 
 pub returns-clause-put : goal.returns-clause-put

@@ -1,7 +1,7 @@
 use Rattle.std.proofs.Common.{◌≡◌, ℕ, ◌+◌, ◌-◌, ◌*◌, arith, get_or, refl}
 use Rattle.raster_core.specs.Packed.{packed_row}
 use Rattle.raster_core.specs.Machine.Words.{led}
-use Rattle.raster_core.proofs.Packs.{led_white, nothing, one_byte, byte_led}
+use Rattle.raster_core.proofs.BytesMakeWords.{led_white, nothing, one_byte, byte_led}
 use Rattle.raster_core.proofs.words.word_at.Goals as goal
 
 pub returns-then-place-lt2 : goal.returns-then-place-lt2

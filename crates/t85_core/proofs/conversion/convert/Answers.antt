@@ -1,7 +1,7 @@
 use Rattle.t85_core.specs.Options.{fields_of}
 use Rattle.t85_core.specs.ToPbm.{ToPbmAt}
-use Rattle.t85_core.proofs.Walks.InfoEnds.{exit_all}
-use Rattle.t85_core.proofs.Decodings.Converted.{at_high, at_broken, at_unflushed, at_whole}
+use Rattle.t85_core.proofs.StreamsAreWalked.InfoEnds.{exit_all}
+use Rattle.t85_core.proofs.BodiesDecode.StreamIsConverted.{at_high, at_broken, at_unflushed, at_whole}
 use Rattle.t85_core.proofs.conversion.convert.Goals as goal
 
 pub returns-in_err-decode-clause-outcome : goal.returns-in_err-decode-clause-outcome

@@ -1,7 +1,7 @@
 use Rattle.std.proofs.Common.{inl, inr, refl}
 use Rattle.t85_core.specs.Options.{fields_of}
-use Rattle.t85_core.proofs.Bytes.Held.{Keeps-same}
-use Rattle.t85_core.proofs.Decodings.Converted.{same_fields, other_fields}
+use Rattle.t85_core.proofs.BytesJoin.InputHoldsBytes.{Keeps-same}
+use Rattle.t85_core.proofs.BodiesDecode.StreamIsConverted.{same_fields, other_fields}
 use Rattle.t85_core.proofs.conversion.convert_again.Goals as goal
 
 pub returns-then-not-is_same-clause-outcome : goal.returns-then-not-is_same-clause-outcome

@@ -1,7 +1,7 @@
 use Rattle.std.proofs.Common.{rules, ◌∙◌, ap}
 use Rattle.devices.specs.Buffered.{bytes_between}
-use Rattle.t85_core.proofs.Bytes.Held.{known_unheld}
-use Rattle.t85_core.proofs.Encodings.ReadAhead.{read_ahead}
+use Rattle.t85_core.proofs.BytesJoin.InputHoldsBytes.{known_unheld}
+use Rattle.t85_core.proofs.ImagesEncode.BufferReadsAhead.{read_ahead}
 use Rattle.t85_core.proofs.conversion.to_jbg.Goals as goal
 
 pub returns-clause-outcome : goal.returns-clause-outcome

@@ -1,8 +1,8 @@
 use Rattle.std.proofs.Common.{rules, ◌∙◌, sym}
 use Rattle.t85_core.specs.ToJbg.{ToJbg}
-use Rattle.t85_core.proofs.Walks.InfoEnds.{exit_all}
-use Rattle.t85_core.proofs.Encodings.ImageEncoded.{takes_header, refused_header, too_low, no_room}
-use Rattle.t85_core.proofs.Encodings.ImageWritten.{image_broken, image_unflushed, image_whole}
+use Rattle.t85_core.proofs.StreamsAreWalked.InfoEnds.{exit_all}
+use Rattle.t85_core.proofs.ImagesEncode.ImageIsEncoded.{takes_header, refused_header, too_low, no_room}
+use Rattle.t85_core.proofs.ImagesEncode.ImageIsWritten.{image_broken, image_unflushed, image_whole}
 use Rattle.t85_core.proofs.conversion.to_jbg_from.Goals as goal
 
 pub returns-in-Err-clause-outcome : goal.returns-in-Err-clause-outcome

@@ -1,7 +1,7 @@
 use Rattle.std.proofs.Common.{inl, inr, refl, sym, ◌∙◌}
 use Rattle.t85_core.specs.Options.{fields_of}
-use Rattle.t85_core.proofs.Bytes.Held.{Keeps-same}
-use Rattle.t85_core.proofs.Decodings.Converted.{goes_once, goes_twice}
+use Rattle.t85_core.proofs.BytesJoin.InputHoldsBytes.{Keeps-same}
+use Rattle.t85_core.proofs.BodiesDecode.StreamIsConverted.{goes_once, goes_twice}
 use Rattle.t85_core.proofs.conversion.to_pbm.Goals as goal
 
 pub returns-then-not-is_variable-clause-outcome : goal.returns-then-not-is_variable-clause-outcome

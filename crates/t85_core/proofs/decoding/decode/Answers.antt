@@ -4,17 +4,18 @@ use Rattle.std.specs.Io.KnownBytes.{prepend_known, append_known}
 use Rattle.t85_core.specs.Change.{between}
 use Rattle.t85_core.specs.Options.{fields_of}
 use Rattle.t85_core.specs.Decode.{Decode}
-use Rattle.t85_core.specs.Steps.DecodeStripes.{ImageRead, ImageCut, ImageUnwritten}
-use Rattle.t85_core.specs.Steps.Buffers.{held_of, known_length}
-use Rattle.t85_core.specs.Steps.Views.{text_taken}
+use Rattle.t85_core.specs.States.DecodeStripes.{ImageRead, ImageCut}
+use Rattle.t85_core.specs.Private.DecodeStripes.{ImageUnwritten}
+use Rattle.t85_core.specs.RowSink.{held_of, known_length}
+use Rattle.t85_core.specs.States.Views.{text_taken}
 use Rattle.t85_core.specs.Failures.{CountsBoth, CountsWrite}
 use Rattle.t85_core.specs.declared.fault.Fault.TheVariants.{Write}
-use Rattle.t85_core.specs.Steps.Passage.{passage}
-use Rattle.t85_core.proofs.Bytes.Ends.{either_way, map_if_err, map_ok, of_err, of_ok, one_or_other}
-use Rattle.t85_core.proofs.Bytes.Held.{known_unheld}
-use Rattle.t85_core.proofs.Decodings.BufferDecoded.{all_handed, begun_handed, cut_handed, image_begun, image_handed, text_unheld}
-use Rattle.t85_core.proofs.Decodings.ImagePut.{header_in_use}
-use Rattle.t85_core.proofs.Decodings.Decoded.{decoded, decodes_at, decodes_unheaded}
+use Rattle.t85_core.specs.States.Passage.{passage}
+use Rattle.t85_core.proofs.BytesJoin.WalkEnds.{either_way, map_if_err, map_ok, of_err, of_ok, one_or_other}
+use Rattle.t85_core.proofs.BytesJoin.InputHoldsBytes.{known_unheld}
+use Rattle.t85_core.proofs.BodiesDecode.ImageLeavesBuffer.{all_handed, begun_handed, cut_handed, image_begun, image_handed, text_unheld}
+use Rattle.t85_core.proofs.BodiesDecode.ImageIsPut.{header_in_use}
+use Rattle.t85_core.proofs.BodiesDecode.BodyIsDecoded.{decoded, decodes_at, decodes_unheaded}
 use Rattle.t85_core.proofs.decoding.decode.Goals as goal
 
 pub returns-in-Err-clause-outcome : goal.returns-in-Err-clause-outcome

@@ -5,14 +5,14 @@ use Rattle.devices.specs.Device.{AppendsBeginning}
 use Rattle.raster_core.specs.Packed.{row_bytes}
 use Rattle.t85_core.specs.Options.{fields_of}
 use Rattle.t85_core.specs.Lent.{walk_lent}
-use Rattle.t85_core.specs.Steps.Buffers.{WritesOn, copies}
-use Rattle.t85_core.specs.Steps.DecodeStripes.{ImageUnwritten}
-use Rattle.t85_core.specs.Steps.Passage.{passage}
-use Rattle.t85_core.proofs.Bytes.Ends.{exit, map_if_some}
-use Rattle.t85_core.proofs.Walks.InfoEnds.{exit_all}
-use Rattle.t85_core.proofs.Decodings.ImagePut.{in_use, few_rows}
-use Rattle.t85_core.proofs.Decodings.PieceSteps.{over_done}
-use Rattle.t85_core.proofs.Decodings.WalkRead.{so_far_first, so_far_next, rows_few, row_long, image_off, image_off_begun, image_off_unwritten, image_whole, image_rows_unset}
+use Rattle.t85_core.specs.RowSink.{WritesOn, copies}
+use Rattle.t85_core.specs.Private.DecodeStripes.{ImageUnwritten}
+use Rattle.t85_core.specs.States.Passage.{passage}
+use Rattle.t85_core.proofs.BytesJoin.WalkEnds.{exit, map_if_some}
+use Rattle.t85_core.proofs.StreamsAreWalked.InfoEnds.{exit_all}
+use Rattle.t85_core.proofs.BodiesDecode.ImageIsPut.{in_use, few_rows}
+use Rattle.t85_core.proofs.BodiesDecode.WalkGoesOn.{over_done}
+use Rattle.t85_core.proofs.BodiesDecode.WalkReadsOn.{so_far_first, so_far_next, rows_few, row_long, image_off, image_off_begun, image_off_unwritten, image_whole, image_rows_unset}
 use Rattle.t85_core.proofs.decoding.decode_image.Goals as goal
 
 pub rows-init : goal.rows-init

@@ -1,9 +1,9 @@
 use Rattle.std.proofs.Common.{◌≡◌, ◌≤◌, ◌-◌}
 use Rattle.t85_core.specs.Options.{fields_of}
 use Rattle.t85_core.specs.Lent.{walk_lent}
-use Rattle.t85_core.specs.Steps.Reading.{ImageSoFar}
-use Rattle.t85_core.specs.Steps.SizedImage.{sized}
-use Rattle.t85_core.specs.Steps.Passage.{passage}
+use Rattle.t85_core.specs.Private.Reading.{ImageSoFar}
+use Rattle.t85_core.specs.States.SizedImage.{sized}
+use Rattle.t85_core.specs.States.Passage.{passage}
 use Rattle.t85_core.proofs.decoding.decode_image.Given as goal
 
 abbrev pub invariant-rows : goal.invariant-rows

@@ -1,8 +1,8 @@
 use Rattle.std.proofs.Common.{arith}
 use Rattle.t85_core.specs.Options.{fields_of}
-use Rattle.t85_core.proofs.Decodings.ImagePut.{header_in_use}
-use Rattle.t85_core.proofs.Decodings.RowsDecoded.{bytes_each, rows_decoded}
-use Rattle.t85_core.proofs.Theorems.Outcomes.{one_outcome_at}
+use Rattle.t85_core.proofs.BodiesDecode.ImageIsPut.{header_in_use}
+use Rattle.t85_core.proofs.BodiesDecode.RowsAreDecoded.{bytes_each, rows_decoded}
+use Rattle.t85_core.proofs.StreamsDenote.OutcomeIsUnique.{one_outcome_at}
 use Rattle.t85_core.proofs.decoding.decode_rows.Goals as goal
 
 pub returns : goal.returns

@@ -4,12 +4,12 @@ use Rattle.t85_core.specs.declared.fault.Fault.{Fault}
 use Rattle.t85_core.specs.Options.{fields_of}
 use Rattle.t85_core.specs.Lent.{WalkView, stage_lent, walk_lent}
 use Rattle.t85_core.specs.declared.fault.Fault.TheVariants.{Truncated}
-use Rattle.t85_core.specs.Steps.Buffers.{SourceView, reading}
-use Rattle.t85_core.specs.Steps.Pieces.{Turn}
-use Rattle.t85_core.specs.Steps.Reading.{HeldTurn, KeepsLast, ReadsWalk}
-use Rattle.t85_core.specs.Steps.SizedImage.{sized}
-use Rattle.t85_core.proofs.Decodings.WalkRead.{held_turn, reads_nothing, reads_no_rows, reads_then, rows_off, rows_one, rows_same, rows_unread, waits_on}
-use Rattle.t85_core.proofs.Walks.Skipped.{byte_of}
+use Rattle.t85_core.specs.Private.Buffers.{SourceView, reading}
+use Rattle.t85_core.specs.Private.Pieces.{Turn}
+use Rattle.t85_core.specs.Private.Reading.{HeldTurn, KeepsLast, ReadsWalk}
+use Rattle.t85_core.specs.States.SizedImage.{sized}
+use Rattle.t85_core.proofs.BodiesDecode.WalkReadsOn.{held_turn, reads_nothing, reads_no_rows, reads_then, rows_off, rows_one, rows_same, rows_unread, waits_on}
+use Rattle.t85_core.proofs.StreamsAreWalked.StripesAreSkipped.{byte_of}
 use Rattle.t85_core.proofs.decoding.next_rows.Given.{Over}
 use Rattle.t85_core.proofs.decoding.next_rows.Goals.{After-next-answer}
 use Rattle.t85_core.proofs.decoding.next_rows.Goals as goal
@@ -34,8 +34,8 @@ module _ (g : Over) (c : After-next-answer g) where
   turned : (new : SourceView) (held' : List ℕ) (left : ℕ) → KeepsLast (g.S.HeldSource.view c.turns.stream) (g.S.HeldSource.bytes c.turns.stream) new held' left →
       (IfErr c.next-answer.result (λ f. f ≡ Truncated) → left ≡ length c.next-answer.new.piece.rest.now) → ((f : Fault) → c.next-answer.result ≡ Err f → f ≢ Truncated → left ≡ 0) →
       HeldTurn (sized (fields_of c.args.image.now.header) c.args.image.now.height) (here g c) (there g c) (reading (g.S.HeldSource.view c.turns.stream).known new.known) held' c.next-answer.result
-  turned new held' left k = held_turn (fields_of c.args.image.now.header) c.args.image.now.height (here g c) (there g c) (g.S.HeldSource.view c.turns.stream) new (g.S.HeldSource.bytes c.turns.stream) held'
-      c.next-answer.new.piece.rest.now left k c.next-answer.result
+  turned new held' left k = held_turn (fields_of c.args.image.now.header) c.args.image.now.height (here g c) (there g c) (g.S.HeldSource.view c.turns.stream) new (g.S.HeldSource.bytes c.turns.stream)
+      held' c.next-answer.new.piece.rest.now left k c.next-answer.result
       (subst (λ z. Turn (sized (fields_of c.args.image.now.header) c.args.image.now.height) (here g c) (there g c) z c.next-answer.new.piece.rest.now c.next-answer.result) c.held.ensures
       c.next-answer.ensures.step)
 
@@ -58,8 +58,8 @@ returns-in-Ok g c =
     let went = c.before.before.before.before in
     let k = c.keep.ensures in
     record {
-      turn = rows_one (fields_of c.args.image.now.header) c.args.image.now.height (first g went) (here g went) (there g went) (g.S.HeldSource.view c.args.stream.now) (g.S.HeldSource.view c.turns.stream)
-          (g.S.HeldSource.view c.keep.new.self) (on g went) (g.S.HeldSource.bytes c.keep.new.self) c.in-Ok.is_row c.from.result (c.from.ensures ∙ byte_of c.in-Ok.is_row)
+      turn = rows_one (fields_of c.args.image.now.header) c.args.image.now.height (first g went) (here g went) (there g went)
+          (g.S.HeldSource.view c.args.stream.now) (g.S.HeldSource.view c.turns.stream) (g.S.HeldSource.view c.keep.new.self) (on g went) (g.S.HeldSource.bytes c.keep.new.self) c.in-Ok.is_row c.from.result (c.from.ensures ∙ byte_of c.in-Ok.is_row)
           (subst (HeldTurn _ _ _ _ _) c.in-Ok.is (turned g went (g.S.HeldSource.view c.keep.new.self) (g.S.HeldSource.bytes c.keep.new.self) _
           (record { taken = k.taken; within = k.within; still = k.still; unfailed = k.unfailed; same_source = k.same_source }) (λ _. refl)
           (λ f e other. absurd (let same : ◌≡◌ {A = Result Bool Fault} (Ok c.in-Ok.is_row) (Err f) = sym c.in-Ok.is ∙ e in let bot : ⊥ = cc in bot))))
@@ -75,8 +75,8 @@ turns-preserved g c =
     (record { taken = k.taken; within = k.within; still = k.still; unfailed = k.unfailed; same_source = k.same_source }) (λ _. refl)
     (λ f e other. absurd (other (let same : ◌≡◌ {A = Result Bool Fault} (Err Truncated) (Err f) = sym cut ∙ e in cc)))).waits (subst (λ r. IsErrOf r Truncated) (sym cut) refl) in
     record {
-      on = reads_then (fields_of c.args.image.now.header) c.args.image.now.height (first g went) (here g went) (g.S.HeldSource.view c.args.stream.now).known (g.S.HeldSource.view c.turns.stream).known (on g went)
-          (there g went) (g.S.HeldSource.view c.refill.new.self).known []
+      on = reads_then (fields_of c.args.image.now.header) c.args.image.now.height (first g went) (here g went) (g.S.HeldSource.view c.args.stream.now).known
+          (g.S.HeldSource.view c.turns.stream).known (on g went) (there g went) (g.S.HeldSource.view c.refill.new.self).known []
           (waits_on (fields_of c.args.image.now.header) c.args.image.now.height (here g went) (there g went) (g.S.HeldSource.view c.turns.stream).known
           (g.S.HeldSource.view c.keep-in-Truncated.new.self).known (g.S.HeldSource.view c.refill.new.self).known (g.S.HeldSource.bytes c.keep-in-Truncated.new.self) waits
           c.in_ok-refill-in-Truncated.ensures.ok);
@@ -93,8 +93,8 @@ returns-in_err-refill-in-Truncated g c =
     (record { taken = k.taken; within = k.within; still = k.still; unfailed = k.unfailed; same_source = k.same_source }) (λ _. refl)
     (λ f e other. absurd (other (let same : ◌≡◌ {A = Result Bool Fault} (Err Truncated) (Err f) = sym cut ∙ e in cc)))).waits (subst (λ r. IsErrOf r Truncated) (sym cut) refl) in
     record {
-      turn = rows_unread (fields_of c.args.image.now.header) c.args.image.now.height (first g went) (here g went) (there g went) (g.S.HeldSource.view c.args.stream.now) (g.S.HeldSource.view c.turns.stream)
-          (g.S.HeldSource.view c.keep-in-Truncated.new.self) (on g went) (g.S.HeldSource.view c.refill.new.self) (g.S.HeldSource.bytes c.keep-in-Truncated.new.self)
+      turn = rows_unread (fields_of c.args.image.now.header) c.args.image.now.height (first g went) (here g went) (there g went)
+          (g.S.HeldSource.view c.args.stream.now) (g.S.HeldSource.view c.turns.stream) (g.S.HeldSource.view c.keep-in-Truncated.new.self) (on g went) (g.S.HeldSource.view c.refill.new.self) (g.S.HeldSource.bytes c.keep-in-Truncated.new.self)
           c.from_residual.result c.in_err-refill-in-Truncated.field-0.0 (Err c.in_err-refill-in-Truncated.field-0.0) c.from_residual.ensures.1 refl waits
           c.in_err-refill-in-Truncated.ensures.err c.in_err-refill-in-Truncated.ensures.reads (k.unfailed ∙ c.turns.invariant.unfailed) (k.same_source ∙ c.turns.invariant.same_source);
     }
@@ -104,8 +104,8 @@ returns-in_default g c =
     let went = c.before.before.before.before in
     let k = c.keep-in_default.ensures in
     record {
-      turn = rows_off (fields_of c.args.image.now.header) c.args.image.now.height (first g went) (here g went) (there g went) (g.S.HeldSource.view c.args.stream.now) (g.S.HeldSource.view c.turns.stream)
-          (g.S.HeldSource.view c.keep-in_default.new.self) (on g went) (g.S.HeldSource.bytes c.keep-in_default.new.self) c.in-Err.fault
+      turn = rows_off (fields_of c.args.image.now.header) c.args.image.now.height (first g went) (here g went) (there g went)
+          (g.S.HeldSource.view c.args.stream.now) (g.S.HeldSource.view c.turns.stream) (g.S.HeldSource.view c.keep-in_default.new.self) (on g went) (g.S.HeldSource.bytes c.keep-in_default.new.self) c.in-Err.fault
           (subst (HeldTurn _ _ _ _ _) c.in-Err.is (turned g went (g.S.HeldSource.view c.keep-in_default.new.self) (g.S.HeldSource.bytes c.keep-in_default.new.self) 0
           (record { taken = k.taken; within = k.within; still = k.still; unfailed = k.unfailed; same_source = k.same_source })
           (λ is. absurd (c.in_default.not-Truncated (subst (λ r. IfErr r (λ f. f ≡ Truncated)) c.in-Err.is is))) (λ _ _ _. refl)))

@@ -1,8 +1,8 @@
 use Rattle.std.proofs.Common.{◌≡◌, []}
 use Rattle.t85_core.specs.Options.{fields_of}
 use Rattle.t85_core.specs.Lent.{walk_lent}
-use Rattle.t85_core.specs.Steps.Reading.{ReadsWalk, still_left}
-use Rattle.t85_core.specs.Steps.SizedImage.{sized}
+use Rattle.t85_core.specs.Private.Reading.{ReadsWalk, still_left}
+use Rattle.t85_core.specs.States.SizedImage.{sized}
 use Rattle.t85_core.proofs.decoding.next_rows.Given as goal
 
 abbrev pub invariant-turns : goal.invariant-turns

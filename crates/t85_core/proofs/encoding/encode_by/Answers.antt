@@ -4,15 +4,15 @@ use Rattle.t85_core.specs.Encode.{IsEncodeFault, layout_for}
 use Rattle.t85_core.specs.Failures.{IfMissing}
 use Rattle.t85_core.specs.Jbg.{jbg}
 use Rattle.t85_core.specs.Options.{settings_of}
-use Rattle.t85_core.specs.Steps.Buffers.{held_of}
-use Rattle.t85_core.specs.Steps.EncodeStripes.{ImageCoded, ImageFront, JbgShort}
-use Rattle.t85_core.specs.Steps.Passage.{passage_from}
-use Rattle.t85_core.specs.Steps.Views.{text_taken}
+use Rattle.t85_core.specs.RowSink.{held_of}
+use Rattle.t85_core.specs.Private.EncodeStripes.{ImageCoded, ImageFront, JbgShort}
+use Rattle.t85_core.specs.States.Passage.{passage_from}
+use Rattle.t85_core.specs.States.Views.{text_taken}
 use Rattle.t85_core.specs.declared.fault.Fault.TheVariants.{Pbm, Write}
-use Rattle.t85_core.proofs.Bytes.Ends.{map_if_err, map_ok, of_err, of_ok, one_or_other}
-use Rattle.t85_core.proofs.Decodings.BufferDecoded.{all_handed, text_unheld}
-use Rattle.t85_core.proofs.Encodings.BufferEncoded.{coded_handed, front_handed, front_of, short_handed}
-use Rattle.t85_core.proofs.Encodings.Encoded.{are_settings, encoded, encodes_at, told_low}
+use Rattle.t85_core.proofs.BytesJoin.WalkEnds.{map_if_err, map_ok, of_err, of_ok, one_or_other}
+use Rattle.t85_core.proofs.BodiesDecode.ImageLeavesBuffer.{all_handed, text_unheld}
+use Rattle.t85_core.proofs.ImagesEncode.StreamLeavesBuffer.{coded_handed, front_handed, front_of, short_handed}
+use Rattle.t85_core.proofs.ImagesEncode.BodyIsEncoded.{are_settings, encoded, encodes_at, told_low}
 use Rattle.t85_core.proofs.encoding.encode_by.Goals as goal
 
 pub returns-clause-outcome : goal.returns-clause-outcome

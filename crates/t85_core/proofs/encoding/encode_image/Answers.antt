@@ -6,14 +6,14 @@ use Rattle.raster_core.specs.Window.{held}
 use Rattle.t85_core.specs.declared.fault.Fault.{Fault}
 use Rattle.t85_core.specs.declared.fault.Fault.TheVariants.{Pbm}
 use Rattle.t85_core.specs.Options.{settings_of}
-use Rattle.t85_core.specs.Steps.ByRow.{view_of}
-use Rattle.t85_core.specs.Steps.EncodeRows.{EndsInRow, RowTaken}
+use Rattle.t85_core.specs.States.ByRow.{view_of}
+use Rattle.t85_core.specs.Private.EncodeRows.{EndsInRow, RowTaken}
 use Rattle.t85_core.specs.RowImage.{image_of}
-use Rattle.t85_core.proofs.Bytes.Ends.{map_ok, exit_of, err_of}
-use Rattle.t85_core.proofs.Bytes.Sendings.{here_sent}
-use Rattle.t85_core.proofs.Encodings.HeadPut.{head_refused}
-use Rattle.t85_core.proofs.Encodings.RowsJoined.{reads_none, reads_join}
-use Rattle.t85_core.proofs.Encodings.ImageByRow.{front_short, cut_refused, end_refused, taken_lined}
+use Rattle.t85_core.proofs.BytesJoin.WalkEnds.{map_ok, exit_of, err_of}
+use Rattle.t85_core.proofs.BytesJoin.BytesAreSent.{here_sent}
+use Rattle.t85_core.proofs.ImagesEncode.HeadIsPut.{head_refused}
+use Rattle.t85_core.proofs.ImagesEncode.RowsJoin.{reads_none, reads_join}
+use Rattle.t85_core.proofs.ImagesEncode.RowsMakeImage.{front_short, cut_refused, end_refused, taken_lined}
 use Rattle.t85_core.proofs.encoding.encode_image.Goals as goal
 
 pub returns-in_err-write_head-clause-unwritten : goal.returns-in_err-write_head-clause-unwritten

@@ -2,9 +2,9 @@ use Rattle.std.proofs.Common.{◌≡◌, ◌≤◌, false}
 use Rattle.raster_core.specs.Window.{held, width_of}
 use Rattle.t85_core.specs.Options.{settings_of}
 use Rattle.t85_core.specs.RowImage.{image_of}
-use Rattle.t85_core.specs.Steps.Passage.{passage}
-use Rattle.t85_core.specs.Steps.ByRow.{MayGoOn, IsLined, view_of}
-use Rattle.t85_core.proofs.Encodings.ImageByRow.{ComeTo}
+use Rattle.t85_core.specs.States.Passage.{passage}
+use Rattle.t85_core.specs.States.ByRow.{MayGoOn, IsLined, view_of}
+use Rattle.t85_core.proofs.ImagesEncode.RowsMakeImage.{ComeTo}
 use Rattle.t85_core.proofs.encoding.encode_image.Given as goal
 
 abbrev pub invariant-rows : goal.invariant-rows

@@ -1,6 +1,6 @@
 use Rattle.std.proofs.Common.{◌≡◌, length, refl, rules}
 use Rattle.std.specs.Int.{div_ceil}
-use Rattle.t85_core.proofs.Encodings.RowsTaken.{row_taken, put_current}
+use Rattle.t85_core.proofs.ImagesEncode.EncoderTakesRow.{row_taken, put_current}
 use Rattle.t85_core.proofs.encoding.read_next_row.Goals as goal
 
 pub returns-in-Ok-clause-ok : goal.returns-in-Ok-clause-ok

@@ -1,8 +1,8 @@
 use Rattle.std.proofs.Common.{◌∙◌, Err, ap, sym}
-use Rattle.t85_core.specs.Steps.HeightWalk.{search_end_of}
-use Rattle.t85_core.proofs.Bytes.Ends.{exit, exit_of}
-use Rattle.t85_core.proofs.Walks.Found.{skips_faults}
-use Rattle.t85_core.proofs.Walks.HeightFound.{accepted, found_given, found_fixed, found_looking, open_looking}
+use Rattle.t85_core.specs.Private.HeightWalk.{search_end_of}
+use Rattle.t85_core.proofs.BytesJoin.WalkEnds.{exit, exit_of}
+use Rattle.t85_core.proofs.StreamsAreWalked.SkippedPartsJoin.{skips_faults}
+use Rattle.t85_core.proofs.StreamsAreWalked.HeightIsFound.{accepted, found_given, found_fixed, found_looking, open_looking}
 use Rattle.t85_core.proofs.height.find.Goals as goal
 
 pub returns-in_err-reached-clause-among : goal.returns-in_err-reached-clause-among

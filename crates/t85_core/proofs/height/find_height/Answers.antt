@@ -1,8 +1,8 @@
 use Rattle.std.proofs.Common.{rules, ◌∙◌, Err, ap, sym}
 use Rattle.t85_core.specs.Options.{fields_of}
-use Rattle.t85_core.proofs.Bytes.Held.{known_unheld}
-use Rattle.t85_core.proofs.Walks.HeightFound.{accepted}
-use Rattle.t85_core.proofs.Walks.FindingHeight.{headers_height, changes, fixed_height, height_given, height_broken, height_unread}
+use Rattle.t85_core.proofs.BytesJoin.InputHoldsBytes.{known_unheld}
+use Rattle.t85_core.proofs.StreamsAreWalked.HeightIsFound.{accepted}
+use Rattle.t85_core.proofs.StreamsAreWalked.HeightSearchEnds.{headers_height, changes, fixed_height, height_given, height_broken, height_unread}
 use Rattle.t85_core.proofs.height.find_height.Goals as goal
 
 pub returns-then-not-is_variable : goal.returns-then-not-is_variable

@@ -1,6 +1,6 @@
 use Rattle.std.proofs.Common.{◌∙◌, refl, true≢false}
 use Rattle.t85_core.specs.Options.{fields_of}
-use Rattle.t85_core.proofs.Walks.Looked.{looked_none, looked_comment, looked_to, looked_open, looked_code, looked_fault, piece_faults, no_failed_read}
+use Rattle.t85_core.proofs.StreamsAreWalked.WalkLooksBehind.{looked_none, looked_comment, looked_to, looked_open, looked_code, looked_fault, piece_faults, no_failed_read}
 use Rattle.t85_core.proofs.height.look.Goals as goal
 
 pub comments-init : goal.comments-init

@@ -1,6 +1,6 @@
 use Rattle.std.proofs.Common.{◌≡◌}
 use Rattle.t85_core.specs.Options.{fields_of}
-use Rattle.t85_core.proofs.Walks.Looked.{HasLooked}
+use Rattle.t85_core.proofs.StreamsAreWalked.WalkLooksBehind.{HasLooked}
 use Rattle.t85_core.proofs.height.look.Given as goal
 
 abbrev pub invariant-comments : goal.invariant-comments

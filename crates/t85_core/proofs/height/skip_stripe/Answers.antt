@@ -1,5 +1,5 @@
-use Rattle.t85_core.proofs.Bytes.Ends.{exit}
-use Rattle.t85_core.proofs.Walks.Skipped.{stripe_skipped, skipped_to, cut_rest, cut_pieces, moves_counted}
+use Rattle.t85_core.proofs.BytesJoin.WalkEnds.{exit}
+use Rattle.t85_core.proofs.StreamsAreWalked.StripesAreSkipped.{stripe_skipped, skipped_to, cut_rest, cut_pieces, moves_counted}
 use Rattle.t85_core.proofs.height.skip_stripe.Goals as goal
 
 pub returns-in_err-segments-clause-err : goal.returns-in_err-segments-clause-err

@@ -1,7 +1,7 @@
 use Rattle.std.proofs.Common.{◌≡◌, ◌+◌, ◌-◌, ◌∙◌, arith, refl}
 use Rattle.t85_core.specs.Options.{fields_of}
-use Rattle.t85_core.proofs.Bytes.Ends.{exit}
-use Rattle.t85_core.proofs.Walks.Skipped.{stripes_none, stripes_more, stripes_to, cut_stripes}
+use Rattle.t85_core.proofs.BytesJoin.WalkEnds.{exit}
+use Rattle.t85_core.proofs.StreamsAreWalked.StripesAreSkipped.{stripes_none, stripes_more, stripes_to, cut_stripes}
 use Rattle.t85_core.proofs.height.skip_stripes.Goals as goal
 
 pub stripes-init : goal.stripes-init

@@ -1,6 +1,6 @@
 use Rattle.std.proofs.Common.{◌≡◌, ◌≤◌, ◌-◌}
 use Rattle.t85_core.specs.Options.{fields_of}
-use Rattle.t85_core.proofs.Walks.Skipped.{HasStripes}
+use Rattle.t85_core.proofs.StreamsAreWalked.StripesAreSkipped.{HasStripes}
 use Rattle.t85_core.proofs.height.skip_stripes.Given as goal
 
 abbrev pub invariant-stripes : goal.invariant-stripes

@@ -1,4 +1,4 @@
-use Rattle.t85_core.proofs.Bytes.Held.{behind_read}
+use Rattle.t85_core.proofs.BytesJoin.InputHoldsBytes.{behind_read}
 use Rattle.t85_core.proofs.input_buffer.read_behind.Goals as goal
 
 pub returns-clause-ok : goal.returns-clause-ok

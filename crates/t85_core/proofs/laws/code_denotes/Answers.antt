@@ -1,4 +1,4 @@
-use Rattle.t85_core.proofs.Theorems.CodeDenotes.{code_denotes_at}
+use Rattle.t85_core.proofs.StreamsDenote.CodeDenotes.{code_denotes_at}
 use Rattle.t85_core.proofs.laws.code_denotes.Goals as goal
 
 pub returns : goal.returns

@@ -1,4 +1,4 @@
-use Rattle.t85_core.proofs.Encodings.RowCalls.{stands_elsewhere}
+use Rattle.t85_core.proofs.ImagesEncode.CallsHoldNothing.{stands_elsewhere}
 use Rattle.t85_core.proofs.laws.elsewhere.Goals as goal
 
 pub returns : goal.returns

@@ -1,6 +1,6 @@
-use Rattle.t85_core.proofs.Grammar.Heights.{whole_or_broken_at}
-use Rattle.t85_core.proofs.Grammar.Parsed.{parsed}
-use Rattle.t85_core.proofs.Theorems.FixedRows.{some_fixed_at, one_fixed_at}
+use Rattle.t85_core.proofs.BodiesParse.BodyHasOneHeight.{whole_or_broken_at}
+use Rattle.t85_core.proofs.BodiesParse.BodyParsesOrBreaks.{parsed}
+use Rattle.t85_core.proofs.StreamsDenote.BodyFixesRows.{some_fixed_at, one_fixed_at}
 use Rattle.t85_core.proofs.laws.faults.Goals as goal
 
 pub returns-clause-whole_or_broken : goal.returns-clause-whole_or_broken

@@ -1,4 +1,4 @@
-use Rattle.t85_core.proofs.Encodings.ImageByRow.{front_stands}
+use Rattle.t85_core.proofs.ImagesEncode.RowsMakeImage.{front_stands}
 use Rattle.t85_core.proofs.laws.fronts.Goals as goal
 
 pub returns : goal.returns

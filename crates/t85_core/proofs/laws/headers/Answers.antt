@@ -1,8 +1,8 @@
 use Rattle.std.proofs.Common.{[], subst, append-nil}
 use Rattle.t85_core.specs.Header.{HeaderOf, header_bytes}
-use Rattle.t85_core.proofs.Bytes.Known.{HeaderOf-append, header_fault-append}
-use Rattle.t85_core.proofs.Grammar.Unique.{accepted, header_is}
-use Rattle.t85_core.proofs.Theorems.HeaderWritten.{header_begins}
+use Rattle.t85_core.proofs.BytesJoin.BytesAreKnown.{HeaderOf-append, header_fault-append}
+use Rattle.t85_core.proofs.BodiesParse.StreamHasOneReading.{accepted, header_is}
+use Rattle.t85_core.proofs.StreamsDenote.HeaderIsWritten.{header_begins}
 use Rattle.t85_core.proofs.laws.headers.Goals as goal
 
 pub returns : goal.returns

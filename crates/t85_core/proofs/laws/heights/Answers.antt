@@ -1,5 +1,5 @@
-use Rattle.t85_core.proofs.Grammar.Heights.{one_height_of, height_within}
-use Rattle.t85_core.proofs.Grammar.SomeHeight.{some_height_of}
+use Rattle.t85_core.proofs.BodiesParse.BodyHasOneHeight.{one_height_of, height_within}
+use Rattle.t85_core.proofs.BodiesParse.HeightExists.{some_height_of}
 use Rattle.t85_core.proofs.laws.heights.Goals as goal
 
 pub returns-clause-one_height : goal.returns-clause-one_height

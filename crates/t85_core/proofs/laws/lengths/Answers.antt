@@ -1,4 +1,4 @@
-use Rattle.t85_core.proofs.Theorems.StreamLength.{stream_is_short}
+use Rattle.t85_core.proofs.StreamsDenote.StreamLengthIsBounded.{stream_is_short}
 use Rattle.t85_core.proofs.laws.lengths.Goals as goal
 
 pub returns : goal.returns

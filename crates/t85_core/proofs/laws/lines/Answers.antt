@@ -1,4 +1,4 @@
-use Rattle.t85_core.proofs.Grammar.Unique as unique
+use Rattle.t85_core.proofs.BodiesParse.StreamHasOneReading as unique
 use Rattle.t85_core.proofs.laws.lines.Goals as goal
 
 pub returns-clause-one_line : goal.returns-clause-one_line

@@ -1,5 +1,5 @@
-use Rattle.t85_core.proofs.Theorems.Stays.{decided_stays_at}
-use Rattle.t85_core.proofs.Theorems.Outcomes.{one_outcome_at}
+use Rattle.t85_core.proofs.StreamsDenote.DecidedRowsStay.{decided_stays_at}
+use Rattle.t85_core.proofs.StreamsDenote.OutcomeIsUnique.{one_outcome_at}
 use Rattle.t85_core.proofs.laws.outcomes.Goals as goal
 
 pub returns-clause-decided_stays : goal.returns-clause-decided_stays

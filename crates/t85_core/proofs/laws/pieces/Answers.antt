@@ -1,4 +1,4 @@
-use Rattle.t85_core.proofs.Theorems.InPieces.{taken_at, fed_at, wait_at, more_at, await_at, whole_at, consumed_at, broken_at}
+use Rattle.t85_core.proofs.StreamsDenote.CallsTakePieces.{taken_at, fed_at, wait_at, more_at, await_at, whole_at, consumed_at, broken_at}
 use Rattle.t85_core.proofs.laws.pieces.Goals as goal
 
 pub returns-clause-taken : goal.returns-clause-taken

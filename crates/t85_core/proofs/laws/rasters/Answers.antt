@@ -1,6 +1,6 @@
 use Rattle.std.proofs.Common.{arith}
-use Rattle.t85_core.proofs.Theorems.OneRaster.{one_raster_at, one_raster_of}
-use Rattle.t85_core.proofs.Theorems.SomeRaster.{some_raster_at}
+use Rattle.t85_core.proofs.StreamsDenote.RasterIsUnique.{one_raster_at, one_raster_of}
+use Rattle.t85_core.proofs.StreamsDenote.BodyDenotesRaster.{some_raster_at}
 use Rattle.t85_core.proofs.laws.rasters.Goals as goal
 
 pub returns-clause-one_raster : goal.returns-clause-one_raster

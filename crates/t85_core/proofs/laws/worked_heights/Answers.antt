@@ -1,4 +1,4 @@
-use Rattle.t85_core.proofs.Theorems.Worked.{worked_heights, worked_lines}
+use Rattle.t85_core.proofs.StreamsDenote.ExamplesHold.{worked_heights, worked_lines}
 use Rattle.t85_core.proofs.laws.worked_heights.Goals as goal
 
 pub returns-clause-heights : goal.returns-clause-heights

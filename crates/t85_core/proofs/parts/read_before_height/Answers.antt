@@ -1,7 +1,7 @@
 use Rattle.t85_core.specs.Options.{fields_of}
 use Rattle.std.proofs.Common.{Some}
-use Rattle.t85_core.proofs.Walks.Looked.{looked_none, looked_code, looked_fault}
-use Rattle.t85_core.proofs.Walks.PartsRead.{not_read}
+use Rattle.t85_core.proofs.StreamsAreWalked.WalkLooksBehind.{looked_none, looked_code, looked_fault}
+use Rattle.t85_core.proofs.StreamsAreWalked.PartsAreRead.{not_read}
 use Rattle.t85_core.proofs.parts.read_before_height.Goals as goal
 
 pub returns-in-Code-clause-none : goal.returns-in-Code-clause-none

@@ -1,6 +1,6 @@
 use Rattle.t85_core.specs.Options.{fields_of}
-use Rattle.t85_core.proofs.Bytes.Ends.{exit}
-use Rattle.t85_core.proofs.Walks.PartsRead.{not_read, missed_among, missed_piece, missed_entity, read_entity}
+use Rattle.t85_core.proofs.BytesJoin.WalkEnds.{exit}
+use Rattle.t85_core.proofs.StreamsAreWalked.PartsAreRead.{not_read, missed_among, missed_piece, missed_entity, read_entity}
 use Rattle.t85_core.proofs.parts.read_part.Goals as goal
 
 pub returns-in_err-height-clause-err : goal.returns-in_err-height-clause-err

@@ -1,6 +1,6 @@
 use Rattle.std.proofs.Common.{[], ◌∷◌, refl, arith}
-use Rattle.t85_core.proofs.Bytes.Ends.{Ends-at}
-use Rattle.t85_core.proofs.Walks.Pieces.{EndsNoCode, escape_taken, escape_in_code}
+use Rattle.t85_core.proofs.BytesJoin.WalkEnds.{Ends-at}
+use Rattle.t85_core.proofs.StreamsAreWalked.EscapesAreTaken.{EndsNoCode, escape_taken, escape_in_code}
 use Rattle.t85_core.proofs.segments.any_code.Goals as goal
 
 pub returns-in-4-clause-err : goal.returns-in-4-clause-err

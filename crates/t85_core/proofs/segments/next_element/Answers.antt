@@ -1,8 +1,8 @@
 use Rattle.std.proofs.Common.{◌≢◌, [], ◌∷◌, refl, cond, arith}
 use Rattle.t85_core.specs.Options.{fields_of}
-use Rattle.t85_core.proofs.Bytes.Streams.{Consumes-more}
-use Rattle.t85_core.proofs.Bytes.Ends.{exit, Ends-at, Ends-after}
-use Rattle.t85_core.proofs.Walks.Pieces.{EndsNoCode, escape_taken, unknown_escape}
+use Rattle.t85_core.proofs.BytesJoin.CallsJoin.{Consumes-more}
+use Rattle.t85_core.proofs.BytesJoin.WalkEnds.{exit, Ends-at, Ends-after}
+use Rattle.t85_core.proofs.StreamsAreWalked.EscapesAreTaken.{EndsNoCode, escape_taken, unknown_escape}
 use Rattle.t85_core.proofs.segments.next_element.Goals as goal
 
 pub returns-in-4-clause-err : goal.returns-in-4-clause-err

@@ -1,6 +1,6 @@
 use Rattle.std.proofs.Common.{[], ◌∷◌, arith}
-use Rattle.t85_core.proofs.Bytes.Streams.{Consumes-more}
-use Rattle.t85_core.proofs.Bytes.Ends.{Ends-after, exit}
+use Rattle.t85_core.proofs.BytesJoin.CallsJoin.{Consumes-more}
+use Rattle.t85_core.proofs.BytesJoin.WalkEnds.{Ends-after, exit}
 use Rattle.t85_core.proofs.segments.number.Goals as goal
 
 pub returns-in_err-c-clause-err : goal.returns-in_err-c-clause-err

@@ -1,9 +1,9 @@
 use Rattle.std.proofs.Common.{[], ◌∷◌, ◌++◌, arith, refl, inl, inr}
 use Rattle.byteorder.specs.Endian.{big_bytes}
 use Rattle.t85_core.specs.Options.{fields_of}
-use Rattle.t85_core.proofs.Bytes.Streams.{Consumes-more}
-use Rattle.t85_core.proofs.Bytes.Ends.{Ends-after, Ends-at, exit}
-use Rattle.t85_core.proofs.Walks.Segments.{move_refused}
+use Rattle.t85_core.proofs.BytesJoin.CallsJoin.{Consumes-more}
+use Rattle.t85_core.proofs.BytesJoin.WalkEnds.{Ends-after, Ends-at, exit}
+use Rattle.t85_core.proofs.StreamsAreWalked.SegmentsAreChecked.{move_refused}
 use Rattle.t85_core.proofs.segments.read_move.Goals as goal
 use Rattle.t85_core.proofs.segments.read_move.Goals.{then-row-header-via-then-row-header, then-row-header-via-else-row-header+then-offset-header, then-row-header-via-else-row-header+else-offset-header+then-last-ne0}
 

@@ -1,8 +1,8 @@
 use Rattle.std.proofs.Common.{◌∙◌, refl}
 use Rattle.t85_core.specs.Options.{fields_of}
 use Rattle.t85_core.specs.declared.segments.Next.TheVariants.{Height, Code}
-use Rattle.t85_core.proofs.Bytes.Ends.{exit}
-use Rattle.t85_core.proofs.Walks.Passed.{passed_none, passed_length, passed_move, passed_comment, segments_passed, cut_segments}
+use Rattle.t85_core.proofs.BytesJoin.WalkEnds.{exit}
+use Rattle.t85_core.proofs.StreamsAreWalked.StripeIsPassed.{passed_none, passed_length, passed_move, passed_comment, segments_passed, cut_segments}
 use Rattle.t85_core.proofs.segments.read_segments.Goals as goal
 
 pub pieces-init : goal.pieces-init

@@ -1,6 +1,6 @@
 use Rattle.std.proofs.Common.{◌≡◌}
 use Rattle.t85_core.specs.Options.{fields_of}
-use Rattle.t85_core.specs.Steps.Segments.{HasPassed, segments_so_far}
+use Rattle.t85_core.specs.States.Segments.{HasPassed, segments_so_far}
 use Rattle.t85_core.proofs.segments.read_segments.Given as goal
 
 abbrev pub invariant-pieces : goal.invariant-pieces

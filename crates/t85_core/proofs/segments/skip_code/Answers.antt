@@ -1,6 +1,6 @@
 use Rattle.std.proofs.Common.{◌∙◌, refl}
-use Rattle.t85_core.proofs.Bytes.Ends.{exit}
-use Rattle.t85_core.proofs.Walks.Passed.{skipped_none, skipped_plain, skipped_byte, code_ends, code_cut}
+use Rattle.t85_core.proofs.BytesJoin.WalkEnds.{exit}
+use Rattle.t85_core.proofs.StreamsAreWalked.StripeIsPassed.{skipped_none, skipped_plain, skipped_byte, code_ends, code_cut}
 use Rattle.t85_core.proofs.segments.skip_code.Goals as goal
 
 pub code-init : goal.code-init

@@ -1,5 +1,5 @@
 use Rattle.std.proofs.Common.{◌≡◌}
-use Rattle.t85_core.proofs.Walks.Passed.{HasSkipped}
+use Rattle.t85_core.proofs.StreamsAreWalked.StripeIsPassed.{HasSkipped}
 use Rattle.t85_core.proofs.segments.skip_code.Given as goal
 
 abbrev pub invariant-code : goal.invariant-code

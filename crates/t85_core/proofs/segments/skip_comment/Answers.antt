@@ -1,9 +1,9 @@
 use Rattle.std.proofs.Common.{◌∙◌, [], ◌∷◌, ◌++◌, arith}
 use Rattle.std.proofs.lemmas.List.{length_push}
 use Rattle.byteorder.specs.Endian.{big_bytes}
-use Rattle.t85_core.proofs.Bytes.Streams.{Consumes-more}
-use Rattle.t85_core.proofs.Bytes.Ends.{Ends-missing, exit}
-use Rattle.t85_core.proofs.Walks.Segments.{comment_cut}
+use Rattle.t85_core.proofs.BytesJoin.CallsJoin.{Consumes-more}
+use Rattle.t85_core.proofs.BytesJoin.WalkEnds.{Ends-missing, exit}
+use Rattle.t85_core.proofs.StreamsAreWalked.SegmentsAreChecked.{comment_cut}
 use Rattle.t85_core.proofs.segments.skip_comment.Goals as goal
 
 pub returns-in_err-next-clause-err : goal.returns-in_err-next-clause-err

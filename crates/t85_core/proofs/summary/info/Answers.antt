@@ -1,5 +1,5 @@
 use Rattle.t85_core.specs.Info.{Info}
-use Rattle.t85_core.proofs.Walks.InfoEnds.{exit_all, told_none, told_line}
+use Rattle.t85_core.proofs.StreamsAreWalked.InfoEnds.{exit_all, told_none, told_line}
 use Rattle.t85_core.proofs.summary.info.Goals as goal
 
 pub returns-in_err-found-clause-outcome : goal.returns-in_err-found-clause-outcome

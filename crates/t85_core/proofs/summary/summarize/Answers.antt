@@ -1,7 +1,7 @@
 use Rattle.std.proofs.Common.{rules, ◌∙◌, ap}
 use Rattle.t85_core.specs.Info.{Summarize}
-use Rattle.t85_core.proofs.Bytes.Held.{known_unheld}
-use Rattle.t85_core.proofs.Walks.InfoEnds.{exit_all, told_header, told_body}
+use Rattle.t85_core.proofs.BytesJoin.InputHoldsBytes.{known_unheld}
+use Rattle.t85_core.proofs.StreamsAreWalked.InfoEnds.{exit_all, told_header, told_body}
 use Rattle.t85_core.proofs.summary.summarize.Goals as goal
 
 pub returns-in_err-header : goal.returns-in_err-header

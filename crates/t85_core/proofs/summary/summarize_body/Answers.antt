@@ -1,7 +1,7 @@
 use Rattle.std.proofs.Common.{Err, ap}
-use Rattle.t85_core.proofs.Bytes.Ends.{exit, exit_of}
-use Rattle.t85_core.proofs.Walks.HeightFound.{accepted, skipped_refused, open_unfinished}
-use Rattle.t85_core.proofs.Walks.Summed.{none_numbers}
+use Rattle.t85_core.proofs.BytesJoin.WalkEnds.{exit, exit_of}
+use Rattle.t85_core.proofs.StreamsAreWalked.HeightIsFound.{accepted, skipped_refused, open_unfinished}
+use Rattle.t85_core.proofs.StreamsAreWalked.NumbersAreSummed.{none_numbers}
 use Rattle.t85_core.proofs.summary.summarize_body.Goals as goal
 
 pub returns-in_err-reached-clause-err : goal.returns-in_err-reached-clause-err

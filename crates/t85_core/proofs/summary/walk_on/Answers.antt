@@ -1,8 +1,8 @@
 use Rattle.std.proofs.Common.{refl}
-use Rattle.t85_core.proofs.Bytes.Ends.{exit, exit_of}
-use Rattle.t85_core.proofs.Walks.Found.{skips_faults, sought_whole}
-use Rattle.t85_core.proofs.Walks.HeightFound.{accepted}
-use Rattle.t85_core.proofs.Walks.Summed.{whole_numbers, joined_numbers, joined_refused, joined_unread}
+use Rattle.t85_core.proofs.BytesJoin.WalkEnds.{exit, exit_of}
+use Rattle.t85_core.proofs.StreamsAreWalked.SkippedPartsJoin.{skips_faults, sought_whole}
+use Rattle.t85_core.proofs.StreamsAreWalked.HeightIsFound.{accepted}
+use Rattle.t85_core.proofs.StreamsAreWalked.NumbersAreSummed.{whole_numbers, joined_numbers, joined_refused, joined_unread}
 use Rattle.t85_core.proofs.summary.walk_on.Goals as goal
 
 pub returns-then-reached-count-clause-ok : goal.returns-then-reached-count-clause-ok

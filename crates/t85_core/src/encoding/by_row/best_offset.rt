@@ -36,15 +36,16 @@ impl Choice {
 }
 
 impl RowEncoder {
-    ghost use Rattle.std.specs.Prelude.{ℕ, ◌≡◌, ◌≤◌, ◌<◌, ◌+◌, ◌*◌, ◌⊎◌, length, true, IfSome, is_some, ◌==◌, if◌then◌else◌};
+    ghost use Rattle.std.specs.Prelude.{◌≡◌, ◌≤◌, ◌<◌, ◌*◌, ◌⊎◌, length, true, IfSome, is_some, ◌==◌, if◌then◌else◌};
     ghost use Rattle.std.specs.Int.{div_ceil};
     ghost use Rattle.raster_core.specs.Window.{held, width_of};
     ghost use Rattle.t85_core.specs.RowImage.{may_name};
-    ghost use Rattle.t85_core.specs.Steps.ByRow.{MayGoOn, view_of};
-    ghost use Rattle.t85_core.specs.Steps.RowCalls.{takes_name};
-    ghost use Rattle.t85_core.specs.Steps.RowSteps.{IsGoing};
-    ghost use Rattle.t85_core.specs.Steps.State.{StripeStart};
-    ghost use Rattle.t85_core.specs.Steps.Trial.{Chooses, FindsOffset, IsCarriedTo, all_rows_in, are_stripe_rows, may_come_next, trial_from, trial_length, tried_lag};
+    ghost use Rattle.t85_core.specs.States.ByRow.{MayGoOn, view_of};
+    ghost use Rattle.t85_core.specs.States.RowCalls.{takes_name};
+    ghost use Rattle.t85_core.specs.States.RowSteps.{IsGoing};
+    ghost use Rattle.t85_core.specs.States.State.{StripeStart};
+    ghost use Rattle.t85_core.specs.Private.Trial.{Chooses, IsCarriedTo, trial_from, trial_length, tried_lag};
+    ghost use Rattle.t85_core.specs.States.Trial.{FindsOffset, all_rows_in, are_stripe_rows, may_come_next};
 
     /// For the stripe that begins with the next row: the offset of the adaptive pixel that gives it the fewest bytes,
     /// of the offset in use, the nominal one, and the lag at which the most pixels of its rows that are not typical

@@ -11,12 +11,14 @@ impl RowEncoder {
     ghost use Rattle.std.specs.Prelude.{◌<◌, ◌-◌, OnOk, OnErr};
     ghost use Rattle.raster_core.specs.Window.{held};
     ghost use Rattle.t85_core.specs.Lent.{StaysWindow};
-    ghost use Rattle.t85_core.specs.Steps.MostBytes.{AppendsEnd};
-    ghost use Rattle.t85_core.specs.Steps.RowSteps.{IsGoing};
-    ghost use Rattle.t85_core.specs.Steps.Views.{text_taken, WritesBehind};
-    ghost use Rattle.t85_core.specs.Steps.RowCalls.{LeavesClosed, HasRows, MayEnd};
+    ghost use Rattle.t85_core.specs.MostBytes.{AppendsEnd};
+    ghost use Rattle.t85_core.specs.States.RowSteps.{IsGoing};
+    ghost use Rattle.t85_core.specs.States.Views.{text_taken};
+    ghost use Rattle.t85_core.specs.Private.Views.{WritesBehind};
+    ghost use Rattle.t85_core.specs.States.RowCalls.{LeavesClosed, MayEnd};
+    ghost use Rattle.t85_core.specs.Private.RowCalls.{HasRows};
     ghost use Rattle.t85_core.specs.declared.encoding.learning.Learning.{Learning};
-    ghost use Rattle.t85_core.specs.Steps.ByRow.{view_of, MayGoOn, EndsImage, CutsImage};
+    ghost use Rattle.t85_core.specs.States.ByRow.{view_of, MayGoOn, EndsImage, CutsImage};
 
     /// Ends the stream, and writes the buffer.
     pub(super) fn end_held<W: Output>(

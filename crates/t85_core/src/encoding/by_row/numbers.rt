@@ -49,9 +49,9 @@ impl RowNumbers {
 
 impl RowEncoder {
     ghost use Rattle.std.specs.Prelude.{◌<◌};
-    ghost use Rattle.t85_core.specs.Steps.ByRow.{plan_of, view_of, IsPlan, MayGoOn};
+    ghost use Rattle.t85_core.specs.States.ByRow.{plan_of, view_of, IsPlan, MayGoOn};
     ghost use Rattle.t85_core.specs.RowImage.{image_for};
-    ghost use Rattle.t85_core.specs.Steps.RowSteps.{IsGoing};
+    ghost use Rattle.t85_core.specs.States.RowSteps.{IsGoing};
     ghost use Rattle.t85_core.specs.declared.encoding.by_row.RowEncoder.{RowEncoder};
     ghost use Rattle.t85_core.specs.declared.encoding.learning.Learning.{Learning};
 

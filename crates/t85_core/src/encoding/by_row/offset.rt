@@ -6,10 +6,10 @@ use crate::fault::Fault;
 
 impl RowEncoder {
     ghost use Rattle.std.specs.Prelude.{◌≡◌, ◌<◌, ◌-◌, OnOk, IfErr, Err, is_ok};
-    ghost use Rattle.t85_core.specs.Steps.RowCalls.{CodesNothing, takes_name};
+    ghost use Rattle.t85_core.specs.States.RowCalls.{CodesNothing, takes_name};
     ghost use Rattle.t85_core.specs.declared.encoding.learning.Learning.{Learning};
     ghost use Rattle.t85_core.specs.declared.fault.Fault.TheVariants.{MoveRefused};
-    ghost use Rattle.t85_core.specs.Steps.ByRow.{view_of, NamesOffset, MayGoOn};
+    ghost use Rattle.t85_core.specs.States.ByRow.{view_of, NamesOffset, MayGoOn};
     ghost use Rattle.t85_core.specs.RowImage.{may_name};
 
     /// Names the offset of the adaptive pixel for the stripe that begins with the next row, in place of the offset that

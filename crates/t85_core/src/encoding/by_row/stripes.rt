@@ -16,13 +16,16 @@ impl RowEncoder {
     ghost use Rattle.raster_core.specs.Window.{held, width_of};
     ghost use Rattle.t85_core.specs.Lent.{StaysWindow};
     ghost use Rattle.raster_core.specs.Packed.{Held};
-    ghost use Rattle.t85_core.specs.Steps.Buffers.{WritesOrFails, WritesOn};
-    ghost use Rattle.t85_core.specs.Steps.MostBytes.{AppendsAtMost, AppendsRow, AppendsEnd, CodesFew, most_code_bytes};
+    ghost use Rattle.t85_core.specs.Private.Buffers.{WritesOrFails};
+    ghost use Rattle.t85_core.specs.RowSink.{WritesOn};
+    ghost use Rattle.t85_core.specs.MostBytes.{AppendsAtMost, AppendsRow, AppendsEnd, CodesFew, most_code_bytes};
     ghost use Rattle.t85_core.specs.declared.fault.Fault.TheVariants.{Write};
     ghost use Rattle.t85_core.specs.declared.encoding.learning.Learning.{Learning};
-    ghost use Rattle.t85_core.specs.Steps.ByRow.{view_of, counted_of, IsAble, MayGoOn, IsLined, CutsRow, EndsImage, CutsImage};
-    ghost use Rattle.t85_core.specs.Steps.RowCalls.{AddsRow, LeavesClosed, HasRows, TakesRow, CodesNothing, KeepsRows, MayEnd, MayTakeRow};
-    ghost use Rattle.t85_core.specs.Steps.RowSteps.{IsGoing, TakesBelow, CutsBelow, StandsToRun, WaitsToRun, CutsMove, CodesRow, CutsCode, RunsToStand, CutsRunning, EndsStripe, CutsStripe, EndsStripes};
+    ghost use Rattle.t85_core.specs.States.ByRow.{view_of, counted_of, IsAble, MayGoOn, IsLined, CutsRow, EndsImage, CutsImage};
+    ghost use Rattle.t85_core.specs.Private.RowCalls.{AddsRow, HasRows};
+    ghost use Rattle.t85_core.specs.States.RowCalls.{LeavesClosed, TakesRow, CodesNothing, KeepsRows, MayEnd, MayTakeRow};
+    ghost use Rattle.t85_core.specs.States.RowSteps.{IsGoing};
+    ghost use Rattle.t85_core.specs.Private.RowSteps.{TakesBelow, CutsBelow, StandsToRun, WaitsToRun, CutsMove, CodesRow, CutsCode, RunsToStand, CutsRunning, EndsStripe, CutsStripe, EndsStripes};
 
     /// Encodes the window's current row. After a failed write, and after the end, it does nothing.
     pub(crate) fn put_taken<P: ByteTarget>(

@@ -61,9 +61,10 @@ impl Trial {
     ghost use Rattle.raster_core.specs.Window.{held};
     ghost use Rattle.raster_core.specs.Tally.{is_two_line, most_of};
     ghost use Rattle.t85_core.specs.RowImage.{may_name};
-    ghost use Rattle.t85_core.specs.Steps.ByRow.{IsLined};
-    ghost use Rattle.t85_core.specs.Steps.RowCalls.{HasRows};
-    ghost use Rattle.t85_core.specs.Steps.Trial.{CountsAsBefore, IsTried, MayTry, TrialOf, TriesRow, TriesRows, all_rows_in, tried_code, tried_lag};
+    ghost use Rattle.t85_core.specs.States.ByRow.{IsLined};
+    ghost use Rattle.t85_core.specs.Private.RowCalls.{HasRows};
+    ghost use Rattle.t85_core.specs.Private.Trial.{CountsAsBefore, IsTried, MayTry, TrialOf, TriesRow, TriesRows, tried_code, tried_lag};
+    ghost use Rattle.t85_core.specs.States.Trial.{all_rows_in};
 
     /// Encodes the window's current row, and counts it unless it is typical.
     fn code(&mut self, shape: Shape, window: &Window<'_>)

@@ -3,7 +3,7 @@
 ghost use Rattle.std.specs.Prelude.{◌≡◌, ◌≤◌, ◌⊎◌, Bool, length, None, IfErr, IfOk, IsErrOf, IsOk, Some};
 ghost use Rattle.t85_core.specs.declared.segments.Code.TheVariants as code;
 ghost use Rattle.t85_core.specs.declared.fault.Fault.TheVariants.{Truncated};
-ghost use Rattle.t85_core.specs.Steps.PieceCode.{FindsMarker, MissesMarker, KeepsCode, SkipsSome, SkipBreaks};
+ghost use Rattle.t85_core.specs.Private.PieceCode.{FindsMarker, MissesMarker, KeepsCode, SkipsSome, SkipBreaks};
 
 use crate::fault::Fault;
 use crate::input_buffer::ByteSource;

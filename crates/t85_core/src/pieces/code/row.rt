@@ -1,17 +1,17 @@
 //! Decodes a row of a stripe.
 
-ghost use Rattle.std.specs.Prelude.{◌≡◌, ◌≤◌, ◌<◌, ◌+◌, ◌^◌, ◌++◌, ℕ, List, [], None, Ok, Some, true, false, length, min, IfSome, OnOk};
+ghost use Rattle.std.specs.Prelude.{◌≡◌, ◌≤◌, ◌<◌, ◌+◌, ℕ, List, [], None, Ok, Some, true, false, length, min};
 ghost use Rattle.qm_core.specs.Place.{Estimate};
 ghost use Rattle.raster_core.specs.Row.{IsRowStart};
 ghost use Rattle.raster_core.specs.Window.{held, width_of};
 ghost use Rattle.raster_core.specs.declared.place.RowPlace.{RowPlace};
-ghost use Rattle.t85_core.specs.Steps.Segments.{IsByteOrMarker};
 ghost use Rattle.t85_core.specs.Lent.{KeepsWindow, KeepsLent, code_lent as over, code_view};
 ghost use Rattle.t85_core.specs.declared.pieces.course.Course.{Course};
-ghost use Rattle.t85_core.specs.Steps.PieceCode.{MarkerRead};
-ghost use Rattle.t85_core.specs.Steps.Pieces.{KeepsStripes, SomeStands, WalkStands};
-ghost use Rattle.t85_core.specs.Steps.RowTurns.{BegunLeaves, BegunStep, CodeGoes};
-ghost use Rattle.t85_core.specs.Steps.SizedImage.{sized, sized_of};
+ghost use Rattle.t85_core.specs.States.PieceCode.{MarkerRead};
+ghost use Rattle.t85_core.specs.Private.Pieces.{KeepsStripes, SomeStands};
+ghost use Rattle.t85_core.specs.States.Pieces.{WalkStands};
+ghost use Rattle.t85_core.specs.Private.RowTurns.{BegunLeaves, BegunStep, CodeGoes};
+ghost use Rattle.t85_core.specs.States.SizedImage.{sized, sized_of};
 ghost use Rattle.t85_core.specs.Header.{Fields};
 
 use crate::fault::Fault;

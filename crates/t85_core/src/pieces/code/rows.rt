@@ -1,13 +1,13 @@
 //! The rows of a stripe, apart from their code.
 
-ghost use Rattle.std.specs.Prelude.{◌≡◌, ◌≤◌, ◌<◌, ◌↔◌, ℕ, List, IsTrue, option_map};
+ghost use Rattle.std.specs.Prelude.{◌≡◌, ◌≤◌, ◌<◌, ◌↔◌, List, IsTrue, option_map};
 ghost use Rattle.qm_core.specs.Place.{Place, state_of};
 ghost use Rattle.qm_core.specs.Decoder.{DecoderIsAt};
 ghost use Rattle.qm_core.specs.declared.source.Pulled.{Pulled};
 ghost use Rattle.raster_core.specs.Row.{RowsSkipped, CanSkipRows};
 ghost use Rattle.t85_core.specs.Repeats.{IsSettled};
-ghost use Rattle.t85_core.specs.Steps.State.{offset_at};
-ghost use Rattle.t85_core.specs.Steps.DecodeRows.{pair_of};
+ghost use Rattle.t85_core.specs.States.State.{offset_at};
+ghost use Rattle.t85_core.specs.States.DecodeRows.{pair_of};
 
 use crate::segments::Move;
 use qm_core::{Decoder, Learned};

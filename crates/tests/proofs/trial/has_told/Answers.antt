@@ -1,5 +1,5 @@
 use Rattle.std.proofs.Common.{rules, ◌∙◌}
-use Rattle.tests.proofs.Told.{compared, no_fault}
+use Rattle.tests.proofs.LineIsWritten.{compared, no_fault}
 use Rattle.tests.proofs.trial.has_told.Goals as goal
 use Rattle.tests.proofs.trial.has_told.Goals.{then-ran-eq1, else-ran-eq1}
 

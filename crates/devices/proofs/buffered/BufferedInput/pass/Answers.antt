@@ -1,5 +1,5 @@
 use Rattle.std.proofs.Common.{◌≤◌, ◌+◌, refl, arith}
-use Rattle.devices.proofs.Held.{some_taken, length_between}
+use Rattle.devices.proofs.DeviceHoldsBytes.{some_taken, length_between}
 use Rattle.devices.proofs.buffered.BufferedInput.pass.Goals as goal
 
 pub returns-clause-passed : goal.returns-clause-passed

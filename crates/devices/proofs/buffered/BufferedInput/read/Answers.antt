@@ -1,7 +1,7 @@
 use Rattle.std.proofs.Common.{◌≡◌, ◌≤◌, ◌+◌, ◌-◌, ℕ, List, drop, refl, sym, length-take, arith}
 use Rattle.std.specs.Io.KnownBytes.{Keeps, IsAtEnd, prepend_known}
 use Rattle.devices.specs.Buffered.{bytes_between, view_behind}
-use Rattle.devices.proofs.Held.{Keeps-same, Keeps-consumes, keeps_refilled, none_held, some_taken, copied, at_end_unheld}
+use Rattle.devices.proofs.DeviceHoldsBytes.{Keeps-same, Keeps-consumes, keeps_refilled, none_held, some_taken, copied, at_end_unheld}
 use Rattle.devices.proofs.buffered.BufferedInput.read.Goals as goal
 use Rattle.devices.proofs.buffered.BufferedInput.read.Goals.{then-self+in-Ok, else-self}
 

@@ -1,4 +1,4 @@
-use Rattle.pbm_core.proofs.HeaderSteps.{scanned_cut}
+use Rattle.pbm_core.proofs.HeaderGrows.{scanned_cut}
 use Rattle.pbm_core.proofs.header_reader.HeaderReader.end.Goals as goal
 
 pub returns-clause-ends : goal.returns-clause-ends

@@ -2,7 +2,7 @@ use Rattle.std.proofs.Common.{refl, inl, inr, ◌∷◌, []}
 use Rattle.pbm_core.specs.declared.fault.PbmFault.TheVariants.{TooTall}
 use Rattle.pbm_core.specs.Pbm.{IsWhite}
 use Rattle.pbm_core.specs.Refusal.{most_height}
-use Rattle.pbm_core.proofs.HeaderSteps.{fault_grown, refused_number, size_lasts, height_refused, numbers_done, numbers_whole}
+use Rattle.pbm_core.proofs.HeaderGrows.{fault_grown, refused_number, size_lasts, height_refused, numbers_done, numbers_whole}
 use Rattle.pbm_core.proofs.header_reader.HeaderReader.end_height.Goals as goal
 
 pub returns-in-Err : goal.returns-in-Err

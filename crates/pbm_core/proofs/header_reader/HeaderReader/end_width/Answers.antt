@@ -1,5 +1,5 @@
 use Rattle.std.proofs.Common.{[]}
-use Rattle.pbm_core.proofs.HeaderSteps.{front_done}
+use Rattle.pbm_core.proofs.HeaderGrows.{front_done}
 use Rattle.pbm_core.proofs.header_reader.HeaderReader.end_width.Goals as goal
 
 pub returns-in-Ok : goal.returns-in-Ok

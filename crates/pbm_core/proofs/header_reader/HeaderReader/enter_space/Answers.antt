@@ -1,6 +1,6 @@
 use Rattle.std.proofs.Common.{refl, inl, inr, ◌∷◌, []}
 use Rattle.pbm_core.specs.Pbm.{IsWhite}
-use Rattle.pbm_core.proofs.HeaderSteps.{enters_gap}
+use Rattle.pbm_core.proofs.HeaderGrows.{enters_gap}
 use Rattle.pbm_core.proofs.header_reader.HeaderReader.enter_space.Goals as goal
 
 pub returns-else-byte-eq35 : goal.returns-else-byte-eq35

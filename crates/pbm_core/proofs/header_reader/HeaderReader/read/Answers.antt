@@ -1,7 +1,7 @@
 use Rattle.std.proofs.Common.{arith, sym, subst, ◌++◌, take}
 use Rattle.pbm_core.specs.HeaderPieces.{HasHeaderError}
-use Rattle.pbm_core.proofs.Lists.{taken_more}
-use Rattle.pbm_core.proofs.HeaderSteps.{scanned_cut}
+use Rattle.pbm_core.proofs.ListsGrow.{taken_more}
+use Rattle.pbm_core.proofs.HeaderGrows.{scanned_cut}
 use Rattle.pbm_core.proofs.header_reader.HeaderReader.read.Goals as goal
 
 pub returns-in-Broken-clause-takes : goal.returns-in-Broken-clause-takes

@@ -1,6 +1,6 @@
 use Rattle.std.proofs.Common.{rules}
 use Rattle.pbm_core.specs.Pbm.{IsLineEnd}
-use Rattle.pbm_core.proofs.HeaderSteps.{grown, gap_closed}
+use Rattle.pbm_core.proofs.HeaderGrows.{grown, gap_closed}
 use Rattle.pbm_core.proofs.header_reader.HeaderReader.read_comment.Goals as goal
 
 pub returns-then-is_line_end : goal.returns-then-is_line_end

@@ -1,6 +1,6 @@
 use Rattle.std.proofs.Common.{arith}
 use Rattle.pbm_core.specs.HeaderPieces.{limit_behind}
-use Rattle.pbm_core.proofs.HeaderSteps.{grown, next_digit}
+use Rattle.pbm_core.proofs.HeaderGrows.{grown, next_digit}
 use Rattle.pbm_core.proofs.header_reader.HeaderReader.read_digit.Goals as goal
 
 pub returns-clause-digits : goal.returns-clause-digits

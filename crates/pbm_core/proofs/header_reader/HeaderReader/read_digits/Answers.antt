@@ -1,7 +1,7 @@
 use Rattle.std.proofs.Common.{rules}
 use Rattle.pbm_core.specs.declared.fault.PbmFault.TheVariants.{BadNumber}
 use Rattle.pbm_core.specs.Pbm.{BeginsSpace, IsDigit}
-use Rattle.pbm_core.proofs.HeaderSteps.{fault_grown, bad_number}
+use Rattle.pbm_core.proofs.HeaderGrows.{fault_grown, bad_number}
 use Rattle.pbm_core.proofs.header_reader.HeaderReader.read_digits.Goals as goal
 
 pub returns-then-not-ends : goal.returns-then-not-ends

@@ -1,7 +1,7 @@
 use Rattle.std.proofs.Common.{rules}
 use Rattle.pbm_core.specs.declared.fault.PbmFault.TheVariants.{BadNumber}
 use Rattle.pbm_core.specs.Pbm.{BeginsSpace, IsDigit}
-use Rattle.pbm_core.proofs.HeaderSteps.{fault_grown, no_number}
+use Rattle.pbm_core.proofs.HeaderGrows.{fault_grown, no_number}
 use Rattle.pbm_core.proofs.header_reader.HeaderReader.read_gap.Goals as goal
 
 pub returns-then-not-is_digit : goal.returns-then-not-is_digit

@@ -1,6 +1,6 @@
 use Rattle.std.proofs.Common.{rules}
 use Rattle.pbm_core.specs.Pbm.{IsLineEnd}
-use Rattle.pbm_core.proofs.HeaderSteps.{comment_goes_on, comment_ends}
+use Rattle.pbm_core.proofs.HeaderGrows.{comment_goes_on, comment_ends}
 use Rattle.pbm_core.proofs.header_reader.HeaderReader.read_last_comment.Goals as goal
 
 pub returns-then-is_line_end : goal.returns-then-is_line_end

@@ -1,4 +1,4 @@
-use Rattle.pbm_core.proofs.RowSteps.{filled_cut}
+use Rattle.pbm_core.proofs.RowGrows.{filled_cut}
 use Rattle.pbm_core.proofs.row_reader.RowReader.end.Goals as goal
 
 pub returns-clause-ends : goal.returns-clause-ends

@@ -1,7 +1,7 @@
 use Rattle.std.proofs.Common.{◌≡◌, ◌+◌, ◌*◌, ◌/◌, ◌%◌, length, arith, sym, refl, append-nil, length-append, ◌∙◌, ◌∷◌, ◌++◌, []}
 use Rattle.std.proofs.lemmas.List.{length_push}
-use Rattle.pbm_core.proofs.Eights.{bool_weight, byte_shifted}
-use Rattle.pbm_core.proofs.RowSteps.{made_grown, stored_at, eight_stored, counts, grows, row_has, whole_stored}
+use Rattle.pbm_core.proofs.PixelsFillBytes.{bool_weight, byte_shifted}
+use Rattle.pbm_core.proofs.RowGrows.{made_grown, stored_at, eight_stored, counts, grows, row_has, whole_stored}
 use Rattle.pbm_core.proofs.row_reader.RowReader.put.Goals as goal
 
 pub returns-then-filled-size : goal.returns-then-filled-size

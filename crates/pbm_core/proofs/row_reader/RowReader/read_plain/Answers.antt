@@ -4,8 +4,8 @@ use Rattle.pbm_core.specs.Pbm.{IsWhite}
 use Rattle.pbm_core.specs.Image.{EndsInPixels, IsRowOf}
 use Rattle.pbm_core.specs.declared.fault.PbmFault.TheVariants.{BadDigit}
 use Rattle.pbm_core.specs.RowPieces.{ScansPixels}
-use Rattle.pbm_core.proofs.Lists.{taken_more}
-use Rattle.pbm_core.proofs.RowSteps.{white_more, digit_more, digit_last, no_digit}
+use Rattle.pbm_core.proofs.ListsGrow.{taken_more}
+use Rattle.pbm_core.proofs.RowGrows.{white_more, digit_more, digit_last, no_digit}
 use Rattle.pbm_core.proofs.row_reader.RowReader.read_plain.Goals as goal
 
 pub bytes-preserved-then-not-put : goal.bytes-preserved-then-not-put

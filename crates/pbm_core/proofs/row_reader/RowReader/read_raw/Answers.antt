@@ -1,6 +1,6 @@
 use Rattle.std.proofs.Common.{◌≡◌, ◌≤◌, ◌+◌, ℕ, length, arith, ◌∙◌, ◌++◌, ap, take}
 use Rattle.std.proofs.lemmas.List.{length-take-le}
-use Rattle.pbm_core.proofs.RowSteps.{length_mid, filled_row, cleared_row}
+use Rattle.pbm_core.proofs.RowGrows.{length_mid, filled_row, cleared_row}
 use Rattle.pbm_core.proofs.row_reader.RowReader.read_raw.Goals as goal
 
 pub returns-clause-takes : goal.returns-clause-takes

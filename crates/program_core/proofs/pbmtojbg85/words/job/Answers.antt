@@ -1,5 +1,5 @@
-use Rattle.program_core.proofs.Numbers.{number_of_rows}
-use Rattle.program_core.proofs.Defaults.{default_given, lone_at}
+use Rattle.program_core.proofs.GetterReadsNumber.{number_of_rows}
+use Rattle.program_core.proofs.DefaultsGiveNumbers.{default_given, lone_at}
 use Rattle.std.proofs.Common.{arith, codes, inl, inr, is_some, refl, sym, ap, map, subst, ◌≡◌, ◌∙◌, List}
 use Rattle.std.proofs.lemmas.Result.{IfErr-weaker, err_from_is_err_and}
 use Rattle.clap.specs.Words.{App, Row, found_of, app_of, fault_of, is_simple, is_simple_and_free, matches_of, rows_of}

@@ -1,6 +1,6 @@
 use Rattle.std.proofs.Common.{sym, ◌∙◌}
 use Rattle.clap.specs.Words.{found_of}
-use Rattle.program_core.proofs.Numbers.{is_there, number_is}
+use Rattle.program_core.proofs.GetterReadsNumber.{is_there, number_is}
 use Rattle.program_core.proofs.pbmtojbg85.words.number_or_default.Goals as goal
 
 pub unwrap-requires : goal.unwrap-requires

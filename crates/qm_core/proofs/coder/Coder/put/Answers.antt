@@ -1,5 +1,5 @@
 use Rattle.std.proofs.Common.{refl}
-use Rattle.qm_core.proofs.Coding.{puts_one}
+use Rattle.qm_core.proofs.CallsPutEvents.{puts_one}
 use Rattle.qm_core.proofs.coder.Coder.put.Goals as goal
 
 pub returns : goal.returns

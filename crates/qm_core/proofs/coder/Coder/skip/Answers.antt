@@ -1,5 +1,5 @@
 use Rattle.std.proofs.Common.{refl}
-use Rattle.qm_core.proofs.Coding.{skips_run}
+use Rattle.qm_core.proofs.CallsPutEvents.{skips_run}
 use Rattle.qm_core.proofs.coder.Coder.skip.Goals as goal
 
 pub returns : goal.returns

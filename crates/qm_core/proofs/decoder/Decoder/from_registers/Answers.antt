@@ -1,5 +1,5 @@
 use Rattle.std.proofs.Common.{ap, rules, Some}
-use Rattle.qm_core.proofs.DecoderNumbers.{one_decoder}
+use Rattle.qm_core.proofs.NumbersFixDecoder.{one_decoder}
 use Rattle.qm_core.proofs.decoder.Decoder.from_registers.Goals as goal
 
 pub returns-clause-same : goal.returns-clause-same

@@ -3,7 +3,7 @@ use Rattle.qm_core.specs.Place.{state_of}
 use Rattle.qm_core.specs.Source.{Pulls, Gives}
 use Rattle.qm_core.specs.Decoder.{DecoderIsAt}
 use Rattle.qm_core.specs.declared.source.Pulled.{Pulled}
-use Rattle.qm_core.proofs.Deciding.{next_ok, next_err}
+use Rattle.qm_core.proofs.DecoderDecides.{next_ok, next_err}
 use Rattle.qm_core.proofs.decoder.Decoder.next.Goals as goal
 use Rattle.qm_core.proofs.decoder.Decoder.next.Goals.{then-self-lt16+in_ok-fill, else-self-lt16}
 

@@ -1,5 +1,5 @@
 use Rattle.std.proofs.Common.{refl}
-use Rattle.qm_core.proofs.Resuming.{stands_again, stands_still}
+use Rattle.qm_core.proofs.DecoderResumes.{stands_again, stands_still}
 use Rattle.qm_core.proofs.decoder.Decoder.resume.Goals as goal
 
 pub returns-in-Stopped-clause-stands : goal.returns-in-Stopped-clause-stands

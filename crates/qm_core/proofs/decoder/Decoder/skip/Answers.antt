@@ -1,8 +1,8 @@
 use Rattle.std.proofs.Common.{arith, refl}
 use Rattle.qm_core.specs.Place.{state_of}
 use Rattle.qm_core.specs.Puts.{event_of}
-use Rattle.qm_core.proofs.FavouredRuns.{is_run}
-use Rattle.qm_core.proofs.FavouredBits.{Leaves, room_left, stands_run, pulled_enough, code_below, can_skip}
+use Rattle.qm_core.proofs.RunLowersSize.{is_run}
+use Rattle.qm_core.proofs.DecoderSkipsRun.{Leaves, room_left, stands_run, pulled_enough, code_below, can_skip}
 use Rattle.qm_core.proofs.decoder.Decoder.skip.Goals as goal
 
 pub invariant_of-self-clause-whole : goal.invariant_of-self-clause-whole

@@ -2,10 +2,10 @@ use Rattle.std.proofs.Common.{◌-◌, ◌++◌, List, ℕ, arith}
 use Rattle.qm_core.specs.Code.{IsChosen, stuffed}
 use Rattle.qm_core.specs.Encoder.{EncoderIsAt}
 use Rattle.qm_core.specs.Place.{Place}
-use Rattle.qm_core.proofs.Written.{writes_more, writes_err}
-use Rattle.qm_core.proofs.Tails.{batch_bytes}
-use Rattle.qm_core.proofs.Fronts.{whole_batch}
-use Rattle.qm_core.proofs.Finishing.{Ended, whole_128, value_room, value_whole, chosen_digits, next_digits, digits_low, last_digits, is_chosen, code_is, stuffed_all, rest_zeros, shifted_whole}
+use Rattle.qm_core.proofs.WritesJoin.{writes_more, writes_err}
+use Rattle.qm_core.proofs.TailTakesByte.{batch_bytes}
+use Rattle.qm_core.proofs.OutputIsFront.{whole_batch}
+use Rattle.qm_core.proofs.LastBytesFinish.{Ended, whole_128, value_room, value_whole, chosen_digits, next_digits, digits_low, last_digits, is_chosen, code_is, stuffed_all, rest_zeros, shifted_whole}
 use Rattle.qm_core.proofs.encoder.Encoder.finish_short.Given as given
 use Rattle.qm_core.proofs.encoder.Encoder.finish_short.Goals as goal
 use Rattle.qm_core.proofs.encoder.Encoder.finish_short.Goals.{After-settle-rest}

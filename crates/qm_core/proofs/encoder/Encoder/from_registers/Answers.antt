@@ -1,9 +1,8 @@
 use Rattle.std.proofs.Common.{ap, rules, Some, arith, ℕ, ◌+◌, ◌-◌, ◌*◌, ◌%◌, ◌^◌, ◌≤◌, ◌<◌}
 use Rattle.std.proofs.Math.Nat.{pow-le-pow_right}
-use Rattle.qm_core.proofs.EncoderNumbers.{one_encoder, whole_low, stands}
+use Rattle.qm_core.proofs.NumbersFixEncoder.{one_encoder, whole_low, stands}
 use Rattle.qm_core.proofs.encoder.Encoder.from_registers.Goals as goal
-use Rattle.qm_core.proofs.encoder.Encoder.from_registers.Goals.{then-bits-lt16-via-then-bits-lt16, then-bits-lt16-via-else-bits-lt16+then-bits-gt39}
-use Rattle.qm_core.proofs.encoder.Encoder.from_registers.Goals.{then-bits-lt16-via-else-bits-lt16+else-bits-gt39+then-low-ne0}
+use Rattle.qm_core.proofs.encoder.Encoder.from_registers.Goals.{then-bits-lt16-via-then-bits-lt16, then-bits-lt16-via-else-bits-lt16+then-bits-gt39, then-bits-lt16-via-else-bits-lt16+else-bits-gt39+then-low-ne0}
 
 pub returns-then-bits-lt16-clause-same : goal.returns-then-bits-lt16-clause-same
 returns-then-bits-lt16-clause-same c e p pushed at going is =

@@ -1,4 +1,4 @@
-use Rattle.qm_core.proofs.Fronts.{codes_batches}
+use Rattle.qm_core.proofs.OutputIsFront.{codes_batches}
 use Rattle.qm_core.proofs.encoder.Encoder.shift_out.Goals as goal
 
 pub returns-clause-goes : goal.returns-clause-goes

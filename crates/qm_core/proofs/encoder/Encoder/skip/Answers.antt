@@ -2,8 +2,8 @@ use Rattle.std.proofs.Common.{◌≡◌, ◌-◌, ◌*◌, arith, refl, sym}
 use Rattle.qm_core.specs.Place.{state_of}
 use Rattle.qm_core.specs.Puts.{event_of}
 use Rattle.qm_core.specs.Skipping.{upper_size}
-use Rattle.qm_core.proofs.FavouredRuns.{is_run, after_run}
-use Rattle.qm_core.proofs.Putting.{codes_lower}
+use Rattle.qm_core.proofs.RunLowersSize.{is_run, after_run}
+use Rattle.qm_core.proofs.EncoderPuts.{codes_lower}
 use Rattle.qm_core.proofs.encoder.Encoder.skip.Goals as goal
 
 pub returns-in-Some-clause-skipped : goal.returns-in-Some-clause-skipped

@@ -1,7 +1,7 @@
 use Rattle.std.proofs.Common.{◌^◌, arith}
-use Rattle.qm_core.proofs.Aligned.{multiple_shifted}
-use Rattle.qm_core.proofs.Narrowing.{shift_by, shift_of, span_whole}
-use Rattle.qm_core.proofs.Raising.{room_shifted, low_whole, digits_shifted}
+use Rattle.qm_core.proofs.MultiplesShift.{multiple_shifted}
+use Rattle.qm_core.proofs.RegistersShift.{shift_by, shift_of, span_whole}
+use Rattle.qm_core.proofs.RegistersDouble.{room_shifted, low_whole, digits_shifted}
 use Rattle.qm_core.proofs.encoder.shifting.raise.Goals as goal
 
 pub overflow_sub-shift : goal.overflow_sub-shift

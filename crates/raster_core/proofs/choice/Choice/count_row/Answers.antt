@@ -1,7 +1,7 @@
 use Rattle.std.proofs.Common.{not, sym, ap, subst, arith, ◌∙◌}
 use Rattle.raster_core.specs.Choice.{PixelCounts}
 use Rattle.raster_core.specs.Counting.{HasCounts, counting_of, fit_lines}
-use Rattle.raster_core.proofs.KitCounts.{counts_full, counts_typical, row_counted}
+use Rattle.raster_core.proofs.ChoiceCountsRows.{counts_full, counts_typical, row_counted}
 use Rattle.raster_core.proofs.choice.Choice.count_row.Goals as goal
 
 pub returns-then-self-gt-ENOUGH-clause-counted : goal.returns-then-self-gt-ENOUGH-clause-counted

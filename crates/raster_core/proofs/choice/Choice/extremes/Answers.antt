@@ -2,7 +2,7 @@ use Rattle.std.proofs.Common.{◌≡◌, ℕ, ◌+◌, ◌-◌, ◌≤◌, sym, 
 use Rattle.std.specs.Prelude.{max}
 use Rattle.raster_core.specs.Tally.{least_lag}
 use Rattle.raster_core.specs.Counting.{counting_of}
-use Rattle.raster_core.proofs.KitChoice.{greatest_more, least_more}
+use Rattle.raster_core.proofs.CountsChooseOffset.{greatest_more, least_more}
 use Rattle.raster_core.proofs.choice.Choice.extremes.Goals as goal
 
 pub loop-lag-preserved : goal.loop-lag-preserved

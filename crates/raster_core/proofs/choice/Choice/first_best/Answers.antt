@@ -1,7 +1,7 @@
 use Rattle.std.proofs.Common.{◌≡◌, ℕ, ◌-◌, ◌+◌, arith, min, inl, inr}
 use Rattle.raster_core.specs.Tally.{least_lag}
 use Rattle.raster_core.specs.Counting.{counting_of}
-use Rattle.raster_core.proofs.KitChoice.{first_best_is, is_offered_by}
+use Rattle.raster_core.proofs.CountsChooseOffset.{first_best_is, is_offered_by}
 use Rattle.raster_core.proofs.choice.Choice.first_best.Goals as goal
 
 pub returns-clause-best : goal.returns-clause-best

@@ -3,7 +3,7 @@ use Rattle.std.specs.Prelude.{if◌then◌else◌}
 use Rattle.raster_core.specs.Choice.{Counting, PixelCounts, counts_of}
 use Rattle.raster_core.specs.Counting.{counting_of, is_offered, is_reset}
 use Rattle.raster_core.specs.Offset.{candidates}
-use Rattle.raster_core.proofs.KitChoice.{worth_of, moved, stays, small, offered_is}
+use Rattle.raster_core.proofs.CountsChooseOffset.{worth_of, moved, stays, small, offered_is}
 use Rattle.raster_core.proofs.choice.Choice.offset.Goals as goal
 
 pub returns-then-is_worth-clause-chosen : goal.returns-then-is_worth-clause-chosen

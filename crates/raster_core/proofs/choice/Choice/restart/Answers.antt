@@ -1,5 +1,5 @@
 use Rattle.std.proofs.Common.{refl}
-use Rattle.raster_core.proofs.KitCounts.{none_counted}
+use Rattle.raster_core.proofs.ChoiceCountsRows.{none_counted}
 use Rattle.raster_core.proofs.choice.Choice.restart.Goals as goal
 
 pub returns-clause-counted : goal.returns-clause-counted

@@ -1,5 +1,5 @@
 use Rattle.std.proofs.Common.{◌*◌}
-use Rattle.raster_core.proofs.Among.{between_word}
+use Rattle.raster_core.proofs.ColumnsAgree.{between_word}
 use Rattle.raster_core.proofs.columns.Columns.mask_at.Goals as goal
 
 pub returns : goal.returns

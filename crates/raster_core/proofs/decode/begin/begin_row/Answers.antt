@@ -1,9 +1,9 @@
 use mathlib.Core.Bool.{beq}
 use Rattle.std.proofs.Common.{◌≡◌, true}
 use Rattle.raster_core.specs.Window.{shape_mode}
-use Rattle.raster_core.proofs.Alongs.{exit_err}
-use Rattle.raster_core.proofs.Firsts.{first_next, first_none, first_stop, same_of}
-use Rattle.raster_core.proofs.RowsBegun.{begin_pixels, begun_pixels, by_begun, not_true, not_false}
+use Rattle.raster_core.proofs.PixelsAreDecoded.{exit_err}
+use Rattle.raster_core.proofs.FlagIsDecoded.{first_next, first_none, first_stop, same_of}
+use Rattle.raster_core.proofs.RowIsBegun.{begin_pixels, begun_pixels, by_begun, not_true, not_false}
 use Rattle.raster_core.proofs.decode.begin.begin_row.Goals as goal
 use Rattle.raster_core.proofs.decode.begin.begin_row.Goals.{else-shape-via-then-shape+else-not-place, else-shape-via-else-shape}
 

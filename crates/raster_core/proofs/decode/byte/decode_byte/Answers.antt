@@ -1,7 +1,7 @@
 use Rattle.std.proofs.Common.{◌≡◌, arith, refl, sym, ◌∙◌}
-use Rattle.raster_core.proofs.Before.{begins, goes_on, grows}
-use Rattle.raster_core.proofs.Alongs.{along_none, along_next, along_stop}
-use Rattle.raster_core.proofs.Joins.{had_not_stopped, not_both}
+use Rattle.raster_core.proofs.PixelNumbersSplit.{begins, goes_on, grows}
+use Rattle.raster_core.proofs.PixelsAreDecoded.{along_none, along_next, along_stop}
+use Rattle.raster_core.proofs.AnswersJoin.{had_not_stopped, not_both}
 use Rattle.raster_core.proofs.decode.byte.decode_byte.Goals as goal
 
 pub loop-j-init : goal.loop-j-init

@@ -1,7 +1,7 @@
 use Rattle.std.proofs.Common.{arith}
-use Rattle.raster_core.proofs.Alongs.{exit_pair}
-use Rattle.raster_core.proofs.LaneTables.{if_ok, if_err}
-use Rattle.raster_core.proofs.LaneContexts.{more_then, stops_first, stops_then}
+use Rattle.raster_core.proofs.PixelsAreDecoded.{exit_pair}
+use Rattle.raster_core.proofs.TablesFillLanes.{if_ok, if_err}
+use Rattle.raster_core.proofs.LanesGiveContexts.{more_then, stops_first, stops_then}
 use Rattle.raster_core.proofs.decode.byte.decode_four.Goals as goal
 
 pub returns-in_err-one-clause-pixels : goal.returns-in_err-one-clause-pixels

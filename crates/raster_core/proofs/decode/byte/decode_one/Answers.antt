@@ -1,7 +1,7 @@
 use Rattle.std.proofs.Common.{arith, refl, sym, ap}
 use Rattle.raster_core.specs.Machine.Registers.{is_moved}
-use Rattle.raster_core.proofs.Alongs.{along_next, along_stop}
-use Rattle.raster_core.proofs.LaneContexts.{lane_context}
+use Rattle.raster_core.proofs.PixelsAreDecoded.{along_next, along_stop}
+use Rattle.raster_core.proofs.LanesGiveContexts.{lane_context}
 use Rattle.raster_core.proofs.decode.byte.decode_one.Goals as goal
 
 pub returns-in-Err-clause-pixels : goal.returns-in-Err-clause-pixels

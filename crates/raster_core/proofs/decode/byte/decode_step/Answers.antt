@@ -1,8 +1,8 @@
 use Rattle.std.proofs.Common.{arith}
-use Rattle.raster_core.proofs.Alongs.{along_none, exit_pair}
-use Rattle.raster_core.proofs.LaneTables.{if_ok, if_err}
-use Rattle.raster_core.proofs.LaneContexts.{are_first, are_last}
-use Rattle.raster_core.proofs.SkipsAlong.{skipped_along}
+use Rattle.raster_core.proofs.PixelsAreDecoded.{along_none, exit_pair}
+use Rattle.raster_core.proofs.TablesFillLanes.{if_ok, if_err}
+use Rattle.raster_core.proofs.LanesGiveContexts.{are_first, are_last}
+use Rattle.raster_core.proofs.RunsAreSkipped.{skipped_along}
 use Rattle.raster_core.proofs.decode.byte.decode_step.Goals as goal
 
 pub returns-then-skip_byte-clause-pixels : goal.returns-then-skip_byte-clause-pixels

@@ -1,7 +1,7 @@
 use Rattle.std.proofs.Common.{◌-◌, ◌*◌, ◌%◌, ◌^◌, ◌<◌, arith, sym, ◌∙◌, length-set}
-use Rattle.raster_core.proofs.Joins.{had_not_stopped, not_both}
-use Rattle.raster_core.proofs.RowBytes.{bytes_next, bytes_stop, bytes_all, wrap, whole}
-use Rattle.raster_core.proofs.FilledAlong.{bytes_skipped, kept_along}
+use Rattle.raster_core.proofs.AnswersJoin.{had_not_stopped, not_both}
+use Rattle.raster_core.proofs.BytesAreDecoded.{bytes_next, bytes_stop, bytes_all, wrap, whole}
+use Rattle.raster_core.proofs.FilledBytesAreSkipped.{bytes_skipped, kept_along}
 use Rattle.raster_core.proofs.decode.row.decode_bytes.Goals as goal
 
 pub returns-in-Err-clause-leaves : goal.returns-in-Err-clause-leaves

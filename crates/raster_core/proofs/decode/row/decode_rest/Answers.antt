@@ -1,6 +1,6 @@
 use Rattle.std.proofs.Common.{◌∙◌}
-use Rattle.raster_core.proofs.LaneTables.{if_err, on_ok}
-use Rattle.raster_core.proofs.RowBytes.{ended_row, then_row}
+use Rattle.raster_core.proofs.TablesFillLanes.{if_err, on_ok}
+use Rattle.raster_core.proofs.BytesAreDecoded.{ended_row, then_row}
 use Rattle.raster_core.proofs.decode.row.decode_rest.Goals as goal
 
 pub returns-then-from-context-clause-leaves : goal.returns-then-from-context-clause-leaves

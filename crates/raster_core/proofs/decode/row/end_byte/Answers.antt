@@ -1,5 +1,5 @@
 use Rattle.std.proofs.Common.{arith}
-use Rattle.raster_core.proofs.RowBytes.{byte_ended, byte_stopped, wrap}
+use Rattle.raster_core.proofs.BytesAreDecoded.{byte_ended, byte_stopped, wrap}
 use Rattle.raster_core.proofs.decode.row.end_byte.Goals as goal
 
 pub returns-in-Ok-clause-ok : goal.returns-in-Ok-clause-ok

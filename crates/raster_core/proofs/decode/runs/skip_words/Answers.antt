@@ -1,5 +1,5 @@
 use Rattle.std.proofs.Common.{◌*◌, arith, sym, ◌∙◌}
-use Rattle.raster_core.proofs.FilledAlong.{along_join}
+use Rattle.raster_core.proofs.FilledBytesAreSkipped.{along_join}
 use Rattle.raster_core.proofs.decode.runs.skip_words.Goals as goal
 
 pub words-preserved : goal.words-preserved

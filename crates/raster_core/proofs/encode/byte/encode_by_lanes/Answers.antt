@@ -1,6 +1,6 @@
 use Rattle.std.proofs.Common.{◌<◌, arith}
-use Rattle.raster_core.proofs.Held.{first_lanes, both_lanes}
-use Rattle.raster_core.proofs.Putting.{puts_as, puts_join, puts_stop}
+use Rattle.raster_core.proofs.ByteHasLines.{first_lanes, both_lanes}
+use Rattle.raster_core.proofs.EventsArePut.{puts_as, puts_join, puts_stop}
 use Rattle.raster_core.proofs.encode.byte.encode_by_lanes.Goals as goal
 
 pub returns-in_err-encode_four : goal.returns-in_err-encode_four

@@ -1,5 +1,5 @@
-use Rattle.raster_core.proofs.EventLists.{two_and_two}
-use Rattle.raster_core.proofs.Putting.{puts_as, puts_join, puts_stop}
+use Rattle.raster_core.proofs.EventListsJoin.{two_and_two}
+use Rattle.raster_core.proofs.EventsArePut.{puts_as, puts_join, puts_stop}
 use Rattle.raster_core.proofs.encode.byte.encode_four.Goals as goal
 
 pub returns-in_err-encode_two : goal.returns-in_err-encode_two

@@ -1,9 +1,9 @@
 use Rattle.std.proofs.Common.{◌+◌, ◌<◌, arith, refl, sym, ◌∙◌}
 use Rattle.raster_core.specs.Machine.Bytes.{byte_lines}
-use Rattle.raster_core.proofs.Before.{begins, goes_on, grows}
-use Rattle.raster_core.proofs.EventLists.{events_none, events_rest}
-use Rattle.raster_core.proofs.Held.{holds_past, pixel_next, pixel_of_byte, past_more}
-use Rattle.raster_core.proofs.Putting.{puts_as, puts_join, puts_none, puts_stop}
+use Rattle.raster_core.proofs.PixelNumbersSplit.{begins, goes_on, grows}
+use Rattle.raster_core.proofs.EventListsJoin.{events_none, events_rest}
+use Rattle.raster_core.proofs.ByteHasLines.{holds_past, pixel_next, pixel_of_byte, past_more}
+use Rattle.raster_core.proofs.EventsArePut.{puts_as, puts_join, puts_none, puts_stop}
 use Rattle.raster_core.proofs.encode.byte.encode_pixels.Goals as goal
 
 pub loop-j-init : goal.loop-j-init

@@ -1,4 +1,4 @@
-use Rattle.raster_core.proofs.Putting.{puts_join, puts_stop}
+use Rattle.raster_core.proofs.EventsArePut.{puts_join, puts_stop}
 use Rattle.raster_core.proofs.encode.byte.encode_two.Goals as goal
 
 pub returns-in_err-encode_one : goal.returns-in_err-encode_one

@@ -2,9 +2,9 @@ use Rattle.std.proofs.Common.{◌<◌, ◌+◌, ◌*◌, ◌%◌, arith, refl, s
 use Rattle.raster_core.specs.Lines.{Lines}
 use Rattle.raster_core.specs.Machine.Bytes.{byte_lines}
 use Rattle.raster_core.specs.Machine.Rows.{lines_in}
-use Rattle.raster_core.proofs.EventLists.{events_none, events_on, events_rest, length-events}
-use Rattle.raster_core.proofs.Putting.{puts_as, puts_join, puts_none, puts_stop}
-use Rattle.raster_core.proofs.RowsIn.{stands_as, byte_as, byte_on}
+use Rattle.raster_core.proofs.EventListsJoin.{events_none, events_on, events_rest, length-events}
+use Rattle.raster_core.proofs.EventsArePut.{puts_as, puts_join, puts_none, puts_stop}
+use Rattle.raster_core.proofs.BytesHoldRows.{stands_as, byte_as, byte_on}
 use Rattle.raster_core.proofs.encode.row.encode_bytes.Goals as goal
 
 pub bytes-init : goal.bytes-init

@@ -1,8 +1,8 @@
 use Rattle.std.proofs.Common.{◌≡◌, ◌+◌, ◌-◌, ◌*◌, arith, refl, sym, ◌∙◌, ap, subst, replicate}
 use Rattle.std.proofs.lemmas.List.{replicate-append-replicate}
 use Rattle.raster_core.specs.Machine.Uniform.{uniform_event}
-use Rattle.raster_core.proofs.Putting.{puts_as, puts_idle, puts_join, puts_none}
-use Rattle.raster_core.proofs.RowsIn.{uniform_none, uniform_more}
+use Rattle.raster_core.proofs.EventsArePut.{puts_as, puts_idle, puts_join, puts_none}
+use Rattle.raster_core.proofs.BytesHoldRows.{uniform_none, uniform_more}
 use Rattle.raster_core.proofs.RunEnds.{ends_above, ends_below, ends_full}
 use Rattle.raster_core.specs.Machine.Rows.{StopsAt}
 use Rattle.raster_core.proofs.encode.runs.skip_bytes.Goals.{then-words-test+then-is_all+else-skip_pixels, then-words-test+else-is_all, else-words-test}

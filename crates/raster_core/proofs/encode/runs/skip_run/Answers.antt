@@ -1,8 +1,8 @@
 use Rattle.std.proofs.Common.{sym, ◌∙◌}
 use Rattle.raster_core.specs.Machine.Rows.{RemembersOnly}
 use Rattle.raster_core.specs.Machine.Uniform.{colour_of}
-use Rattle.raster_core.proofs.Putting.{puts_as}
-use Rattle.raster_core.proofs.RowsIn.{no_run, stands_on, run_events}
+use Rattle.raster_core.proofs.EventsArePut.{puts_as}
+use Rattle.raster_core.proofs.BytesHoldRows.{no_run, stands_on, run_events}
 use Rattle.raster_core.proofs.RunEnds.{ends_alike, ends_mixed, ends_other, ends_unlike}
 use Rattle.raster_core.proofs.encode.runs.skip_run.Goals.{else-rows-i-via-then-rows-i+else-is_filled, else-rows-i-via-else-rows-i}
 use Rattle.raster_core.proofs.encode.runs.skip_run.Goals as goal

@@ -1,5 +1,5 @@
 use Rattle.std.proofs.Common.{arith, refl}
-use Rattle.raster_core.proofs.RowsIn.{current_in, above_in, second_in, read_byte, next_read}
+use Rattle.raster_core.proofs.BytesHoldRows.{current_in, above_in, second_in, read_byte, next_read}
 use Rattle.raster_core.proofs.row_byte.Around.byte.Goals as goal
 
 pub returns : goal.returns

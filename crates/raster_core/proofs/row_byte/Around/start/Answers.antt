@@ -1,7 +1,7 @@
 use Rattle.std.proofs.Common.{refl, sym}
 use Rattle.raster_core.specs.Machine.Rows.{lines_in}
-use Rattle.raster_core.proofs.Before.{before_none}
-use Rattle.raster_core.proofs.RowsIn.{above_in, second_in, first_read}
+use Rattle.raster_core.proofs.PixelNumbersSplit.{before_none}
+use Rattle.raster_core.proofs.BytesHoldRows.{above_in, second_in, first_read}
 use Rattle.raster_core.proofs.row_byte.Around.start.Goals as goal
 
 pub returns : goal.returns

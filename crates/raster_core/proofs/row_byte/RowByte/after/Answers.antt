@@ -1,5 +1,5 @@
 use Rattle.std.proofs.Common.{◌≡◌, ◌+◌, ◌*◌, arith, refl}
-use Rattle.raster_core.proofs.Skips.{past_run}
+use Rattle.raster_core.proofs.ByteHasOneColour.{past_run}
 use Rattle.raster_core.proofs.row_byte.RowByte.after.Goals as goal
 
 pub returns : goal.returns

@@ -1,5 +1,5 @@
 use Rattle.std.proofs.Common.{◌<◌, arith, nat_eq, sym}
-use Rattle.raster_core.proofs.HeldRuns.{byte_run}
+use Rattle.raster_core.proofs.UniformPixelsRun.{byte_run}
 use Rattle.raster_core.proofs.row_byte.RowByte.is_run.Goals as goal
 
 pub returns-clause-run : goal.returns-clause-run

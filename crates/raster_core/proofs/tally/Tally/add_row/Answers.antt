@@ -3,8 +3,8 @@ use Rattle.std.specs.Int.{div_ceil}
 use Rattle.raster_core.specs.Offset.{agreements}
 use Rattle.raster_core.specs.Tally.{least_lag, last_lag}
 use Rattle.raster_core.specs.Machine.Words.{part_agreement}
-use Rattle.raster_core.proofs.Parts.{part_all, all_push, length_push}
-use Rattle.raster_core.proofs.Tallies.{once_more, row_more}
+use Rattle.raster_core.proofs.WordsAgree.{part_all, all_push, length_push}
+use Rattle.raster_core.proofs.TallyChoosesLag.{once_more, row_more}
 use Rattle.raster_core.proofs.tally.Tally.add_row.Goals as goal
 
 pub returns-clause-counts : goal.returns-clause-counts

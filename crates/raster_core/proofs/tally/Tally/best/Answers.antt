@@ -1,5 +1,5 @@
 use Rattle.std.proofs.Common.{sym, arith}
-use Rattle.raster_core.proofs.Tallies.{best_by}
+use Rattle.raster_core.proofs.TallyChoosesLag.{best_by}
 use Rattle.raster_core.proofs.tally.Tally.best.Goals as goal
 
 pub returns-clause-best : goal.returns-clause-best

@@ -1,6 +1,6 @@
 use Rattle.std.proofs.Common.{◌∙◌, sym}
-use Rattle.raster_core.proofs.Choosing.{some_if}
-use Rattle.raster_core.proofs.Tallies.{chosen_by}
+use Rattle.raster_core.proofs.BestIsFound.{some_if}
+use Rattle.raster_core.proofs.TallyChoosesLag.{chosen_by}
 use Rattle.raster_core.proofs.tally.Tally.choose.Goals as goal
 
 pub returns-clause-chosen : goal.returns-clause-chosen

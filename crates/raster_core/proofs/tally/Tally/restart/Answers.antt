@@ -1,5 +1,5 @@
 use Rattle.std.proofs.Common.{refl}
-use Rattle.raster_core.proofs.Tallies.{none_counted}
+use Rattle.raster_core.proofs.TallyChoosesLag.{none_counted}
 use Rattle.raster_core.proofs.tally.Tally.restart.Goals as goal
 
 pub returns-clause-counts : goal.returns-clause-counts

@@ -1,5 +1,5 @@
 use Rattle.std.proofs.Common.{rules}
-use Rattle.raster_core.proofs.Places.{zeros_held}
+use Rattle.raster_core.proofs.RingHoldsRows.{zeros_held}
 use Rattle.raster_core.proofs.window.Window.clear.Goals as goal
 
 pub returns-clause-white : goal.returns-clause-white

@@ -1,6 +1,6 @@
 use Rattle.std.proofs.Common.{rules}
 use Rattle.raster_core.specs.Window.{held}
-use Rattle.raster_core.proofs.Places.{repeats}
+use Rattle.raster_core.proofs.RingHoldsRows.{repeats}
 use Rattle.raster_core.proofs.window.Window.repeat.Goals as goal
 
 pub returns-clause-repeated : goal.returns-clause-repeated

@@ -1,5 +1,5 @@
 use Rattle.raster_core.specs.Window.{held}
-use Rattle.t85_core.proofs.Encodings.RowsCleared.{cleared_lined, cleared_stays}
+use Rattle.t85_core.proofs.ImagesEncode.PaddingIsCleared.{cleared_lined, cleared_stays}
 use Rattle.t85_core.proofs.encoding.rows.clear_padding.Goals as goal
 
 pub returns-clause-lined : goal.returns-clause-lined

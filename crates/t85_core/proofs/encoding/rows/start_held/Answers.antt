@@ -5,11 +5,11 @@ use Rattle.raster_core.specs.Packed.{HasLines, white_lines}
 use Rattle.raster_core.specs.Window.{held}
 use Rattle.t85_core.specs.Jbg.{head_of}
 use Rattle.t85_core.specs.Options.{settings_of}
-use Rattle.t85_core.specs.Steps.Views.{text_taken}
-use Rattle.t85_core.proofs.Bytes.Streams.{Appends-keeps, beginning_all}
-use Rattle.t85_core.proofs.Decodings.BufferDecoded.{all_handed}
-use Rattle.t85_core.proofs.Encodings.RowCalls.{stands_kept}
-use Rattle.t85_core.proofs.Walks.InfoEnds.{exit_all}
+use Rattle.t85_core.specs.States.Views.{text_taken}
+use Rattle.t85_core.proofs.BytesJoin.CallsJoin.{Appends-keeps, beginning_all}
+use Rattle.t85_core.proofs.BodiesDecode.ImageLeavesBuffer.{all_handed}
+use Rattle.t85_core.proofs.ImagesEncode.CallsHoldNothing.{stands_kept}
+use Rattle.t85_core.proofs.StreamsAreWalked.InfoEnds.{exit_all}
 use Rattle.t85_core.proofs.encoding.rows.start_held.Goals as goal
 
 pub returns-clause-begun : goal.returns-clause-begun

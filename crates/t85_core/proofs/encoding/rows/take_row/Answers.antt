@@ -1,8 +1,8 @@
 use Rattle.std.proofs.Common.{◌≡◌, length, rules}
 use Rattle.std.specs.Int.{div_ceil}
 use Rattle.raster_core.specs.Window.{held}
-use Rattle.t85_core.proofs.Encodings.RowGiven.{row_below}
-use Rattle.t85_core.proofs.Encodings.RowsTaken.{put_current}
+use Rattle.t85_core.proofs.ImagesEncode.RowIsGiven.{row_below}
+use Rattle.t85_core.proofs.ImagesEncode.EncoderTakesRow.{put_current}
 use Rattle.t85_core.proofs.encoding.rows.take_row.Goals as goal
 
 pub returns-clause-below : goal.returns-clause-below

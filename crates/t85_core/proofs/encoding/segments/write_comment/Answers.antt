@@ -1,9 +1,9 @@
 use Rattle.std.proofs.Common.{◌∙◌, le_trans}
-use Rattle.t85_core.specs.Steps.Buffers.{PutsBytes}
-use Rattle.t85_core.proofs.Bytes.Ends.{map_ok, on_err}
-use Rattle.t85_core.proofs.Bytes.Streams.{Appends-more, beginning_after, beginning_longer}
-use Rattle.t85_core.proofs.Encodings.HeadPut.{counts_on}
-use Rattle.t85_core.proofs.Walks.InfoEnds.{exit_all}
+use Rattle.t85_core.specs.RowSink.{PutsBytes}
+use Rattle.t85_core.proofs.BytesJoin.WalkEnds.{map_ok, on_err}
+use Rattle.t85_core.proofs.BytesJoin.CallsJoin.{Appends-more, beginning_after, beginning_longer}
+use Rattle.t85_core.proofs.ImagesEncode.HeadIsPut.{counts_on}
+use Rattle.t85_core.proofs.StreamsAreWalked.InfoEnds.{exit_all}
 use Rattle.t85_core.proofs.encoding.segments.write_comment.Goals as goal
 
 pub returns-in_err-put : goal.returns-in_err-put

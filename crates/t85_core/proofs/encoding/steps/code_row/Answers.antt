@@ -1,10 +1,10 @@
 use Rattle.std.specs.Prelude.{IfErr}
 use Rattle.std.proofs.Common.{rules, ◌≡◌, ◌≤◌, ◌∙◌, ap, sym, subst}
-use Rattle.t85_core.specs.Steps.Buffers.{SameSink}
-use Rattle.t85_core.specs.Steps.Views.{sink_view}
+use Rattle.t85_core.specs.Private.Buffers.{SameSink}
+use Rattle.t85_core.specs.Private.Views.{sink_view}
 use Rattle.t85_core.specs.Failures.{CountsWrite}
 use Rattle.t85_core.specs.declared.fault.Fault.TheVariants.{Write}
-use Rattle.t85_core.proofs.Encodings.RowInked.{row_stays, row_inked, sent_err, sent_counts}
+use Rattle.t85_core.proofs.ImagesEncode.TargetAcceptsRow.{row_stays, row_inked, sent_err, sent_counts}
 use Rattle.t85_core.proofs.encoding.steps.code_row.Given as given
 use Rattle.t85_core.proofs.encoding.steps.code_row.Goals as goal
 

@@ -1,5 +1,5 @@
 use Rattle.std.proofs.Common.{subst}
-use Rattle.t85_core.specs.Steps.EncodeRows.{IsCountedTo}
+use Rattle.t85_core.specs.States.Written.{IsCountedTo}
 use Rattle.t85_core.proofs.encoding.steps.count_row.Goals as goal
 
 pub returns-in-Some-clause-counts : goal.returns-in-Some-clause-counts

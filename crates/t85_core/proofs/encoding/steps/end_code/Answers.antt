@@ -1,10 +1,10 @@
 use Rattle.std.specs.Prelude.{IfErr}
 use Rattle.std.proofs.Common.{rules, ◌≡◌, ◌≤◌, ◌∙◌, ap, sym, subst}
-use Rattle.t85_core.specs.Steps.Buffers.{SameSink}
-use Rattle.t85_core.specs.Steps.Views.{sink_view}
+use Rattle.t85_core.specs.Private.Buffers.{SameSink}
+use Rattle.t85_core.specs.Private.Views.{sink_view}
 use Rattle.t85_core.specs.Failures.{CountsWrite}
 use Rattle.t85_core.specs.declared.fault.Fault.TheVariants.{Write}
-use Rattle.t85_core.proofs.Encodings.RowInked.{end_stays, end_inked, sent_err, sent_counts}
+use Rattle.t85_core.proofs.ImagesEncode.TargetAcceptsRow.{end_stays, end_inked, sent_err, sent_counts}
 use Rattle.t85_core.proofs.encoding.steps.end_code.Given as given
 use Rattle.t85_core.proofs.encoding.steps.end_code.Goals as goal
 

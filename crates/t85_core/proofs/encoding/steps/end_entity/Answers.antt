@@ -1,6 +1,6 @@
-use Rattle.t85_core.specs.Steps.RowSteps.{CodeEnded}
-use Rattle.t85_core.proofs.Walks.InfoEnds.{exit_all}
-use Rattle.t85_core.proofs.Encodings.EntityEnds.{code_cut, entity_ended}
+use Rattle.t85_core.specs.Private.RowSteps.{CodeEnded}
+use Rattle.t85_core.proofs.StreamsAreWalked.InfoEnds.{exit_all}
+use Rattle.t85_core.proofs.ImagesEncode.EntityEnds.{code_cut, entity_ended}
 use Rattle.t85_core.proofs.encoding.steps.end_entity.Goals as goal
 
 pub returns-in_err-end_code-clause-ended : goal.returns-in_err-end_code-clause-ended

@@ -1,5 +1,5 @@
 use Rattle.std.proofs.Common.{arith}
-use Rattle.t85_core.proofs.Encodings.FewAppended.{beginning_few}
+use Rattle.t85_core.proofs.ImagesEncode.FewBytesAreAppended.{beginning_few}
 use Rattle.t85_core.proofs.encoding.steps.move_pixel.Goals as goal
 
 pub returns-in_err-write_move-in-Some-clause-few : goal.returns-in_err-write_move-in-Some-clause-few

@@ -2,10 +2,10 @@ use Rattle.std.proofs.Common.{◌∙◌, ap, le_trans}
 use Rattle.std.specs.Prelude.{option_map}
 use Rattle.t85_core.specs.Header.{header_bytes}
 use Rattle.t85_core.specs.Options.{settings_of}
-use Rattle.t85_core.specs.Steps.Buffers.{PutsBytes}
-use Rattle.t85_core.proofs.Bytes.Ends.{on_ok, on_err, always}
-use Rattle.t85_core.proofs.Walks.InfoEnds.{exit_all}
-use Rattle.t85_core.proofs.Encodings.HeadPut.{counts_on, head_plain, head_commented, header_cut, comment_cut}
+use Rattle.t85_core.specs.RowSink.{PutsBytes}
+use Rattle.t85_core.proofs.BytesJoin.WalkEnds.{on_ok, on_err, always}
+use Rattle.t85_core.proofs.StreamsAreWalked.InfoEnds.{exit_all}
+use Rattle.t85_core.proofs.ImagesEncode.HeadIsPut.{counts_on, head_plain, head_commented, header_cut, comment_cut}
 use Rattle.t85_core.proofs.encoding.steps.write_head.Goals as goal
 
 pub returns-in_err-put : goal.returns-in_err-put

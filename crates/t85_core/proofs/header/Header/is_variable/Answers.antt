@@ -1,4 +1,4 @@
-use Rattle.t85_core.proofs.Walks.StripeBegins.{variable_bit}
+use Rattle.t85_core.proofs.StreamsAreWalked.StripeBegins.{variable_bit}
 use Rattle.t85_core.proofs.header.Header.is_variable.Goals as goal
 
 pub returns : goal.returns

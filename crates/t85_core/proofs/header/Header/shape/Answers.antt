@@ -1,5 +1,5 @@
 use Rattle.std.proofs.Common.{refl}
-use Rattle.t85_core.proofs.Walks.StripeBegins.{two_line_bit, typical_bit}
+use Rattle.t85_core.proofs.StreamsAreWalked.StripeBegins.{two_line_bit, typical_bit}
 use Rattle.t85_core.proofs.header.Header.shape.Goals as goal
 
 pub returns-clause-mode : goal.returns-clause-mode

@@ -1,8 +1,8 @@
 use Rattle.std.proofs.Common.{◌≡◌, ◌≤◌, ◌<◌, ◌+◌, ◌-◌, ℕ, List, length, refl, arith}
 use Rattle.std.specs.Io.KnownBytes.{Keeps, prepend_known}
 use Rattle.devices.specs.Device.{InputView}
-use Rattle.t85_core.specs.Steps.Buffers.{held_of}
-use Rattle.t85_core.proofs.Bytes.Held.{Keeps-same, Keeps-consumes, keeps_refilled, none_held, next_taken}
+use Rattle.t85_core.specs.RowSink.{held_of}
+use Rattle.t85_core.proofs.BytesJoin.InputHoldsBytes.{Keeps-same, Keeps-consumes, keeps_refilled, none_held, next_taken}
 use Rattle.t85_core.proofs.input_buffer.InputBufferByteSource.next.Goals as goal
 use Rattle.t85_core.proofs.input_buffer.InputBufferByteSource.next.Goals.{then-self+in-Ok, else-self}
 

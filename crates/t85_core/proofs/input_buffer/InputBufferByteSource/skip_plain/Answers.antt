@@ -1,6 +1,6 @@
 use Rattle.std.proofs.Common.{◌≤◌, ◌+◌, ◌-◌, take, drop, length-take, refl, arith}
-use Rattle.t85_core.specs.Steps.Buffers.{held_of}
-use Rattle.t85_core.proofs.Bytes.Held.{some_taken}
+use Rattle.t85_core.specs.RowSink.{held_of}
+use Rattle.t85_core.proofs.BytesJoin.InputHoldsBytes.{some_taken}
 use Rattle.t85_core.proofs.input_buffer.InputBufferByteSource.skip_plain.Goals as goal
 
 pub returns : goal.returns

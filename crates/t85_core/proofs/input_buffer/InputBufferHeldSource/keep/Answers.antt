@@ -1,5 +1,5 @@
 use Rattle.std.proofs.Common.{◌≤◌, ◌+◌, ◌-◌, length, refl, arith}
-use Rattle.t85_core.proofs.Bytes.Held.{held_long, kept_last}
+use Rattle.t85_core.proofs.BytesJoin.InputHoldsBytes.{held_long, kept_last}
 use Rattle.t85_core.proofs.input_buffer.InputBufferHeldSource.keep.Goals as goal
 
 pub returns : goal.returns

@@ -1,6 +1,6 @@
 use Rattle.std.proofs.Common.{◌≡◌, ◌&&◌, ◌∙◌, sym, ap, refl, Bool, true, false, not}
 use Rattle.t85_core.specs.Coding.{has_bit}
-use Rattle.t85_core.proofs.Walks.StripeBegins.{variable_bit}
+use Rattle.t85_core.proofs.StreamsAreWalked.StripeBegins.{variable_bit}
 use Rattle.t85_core.proofs.options.Options.adds_bit.Goals as goal
 
 twice : (t : Bool) → t ≡ not (not t)

@@ -1,7 +1,7 @@
 use Rattle.std.proofs.Common.{◌≡◌, ◌+◌, ◌-◌, ℕ, List, ◌++◌, length, take, length-take, arith}
 use borrow.Rule.Slice.PartMut.{put_mid}
-use Rattle.t85_core.specs.Steps.Buffers.{held_of}
-use Rattle.t85_core.proofs.Bytes.HeldBack.{appends_held, held_grows}
+use Rattle.t85_core.specs.RowSink.{held_of}
+use Rattle.t85_core.proofs.BytesJoin.OutputHoldsBytes.{appends_held, held_grows}
 use Rattle.t85_core.proofs.output_buffer.OutputBuffer.fill.Goals as goal
 
 pub returns-clause-text : goal.returns-clause-text

@@ -2,11 +2,11 @@ use Rattle.std.proofs.Common.{◌≡◌, ◌≤◌, ◌-◌, length, take, drop,
 use Rattle.std.proofs.lemmas.List.{take_rest}
 use Rattle.std.proofs.Math.Seq.{take-add}
 use Rattle.std.specs.Io.KnownBytes.{Keeps, append_known}
-use Rattle.t85_core.specs.Steps.Buffers.{PutsBytes, held_of, known_length}
-use Rattle.t85_core.specs.Steps.Views.{writer_of}
-use Rattle.t85_core.proofs.Bytes.Streams.{Appends-more, Appends-keeps}
-use Rattle.t85_core.proofs.Bytes.Held.{Keeps-same}
-use Rattle.t85_core.proofs.Walks.InfoEnds.{exit_all}
+use Rattle.t85_core.specs.RowSink.{PutsBytes, held_of, known_length}
+use Rattle.t85_core.specs.States.Views.{writer_of}
+use Rattle.t85_core.proofs.BytesJoin.CallsJoin.{Appends-more, Appends-keeps}
+use Rattle.t85_core.proofs.BytesJoin.InputHoldsBytes.{Keeps-same}
+use Rattle.t85_core.proofs.StreamsAreWalked.InfoEnds.{exit_all}
 use Rattle.t85_core.proofs.output_buffer.OutputBuffer.hold.Goals as goal
 use Rattle.t85_core.proofs.output_buffer.OutputBuffer.hold.Goals.{then-self+in_ok-write_held, else-self}
 

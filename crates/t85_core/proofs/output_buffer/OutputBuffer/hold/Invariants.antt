@@ -1,7 +1,7 @@
 use Rattle.std.proofs.Common.{◌≡◌, ◌≤◌, ◌-◌, length, take}
 use Rattle.std.specs.Io.KnownBytes.{Appends, append_known}
-use Rattle.t85_core.specs.Steps.Buffers.{held_of, known_length}
-use Rattle.t85_core.specs.Steps.Views.{writer_of}
+use Rattle.t85_core.specs.RowSink.{held_of, known_length}
+use Rattle.t85_core.specs.States.Views.{writer_of}
 use Rattle.t85_core.proofs.output_buffer.OutputBuffer.hold.Given as goal
 
 -- the bytes up to here were taken

@@ -1,5 +1,5 @@
 use Rattle.std.proofs.Common.{◌≤◌, ◌+◌, ◌-◌, length-take, drop, refl, arith}
-use Rattle.t85_core.proofs.Bytes.HeldBack.{keeps_counted, keeps_handed, grows_with}
+use Rattle.t85_core.proofs.BytesJoin.OutputHoldsBytes.{keeps_counted, keeps_handed, grows_with}
 use Rattle.t85_core.proofs.output_buffer.OutputBuffer.write_held.Goals as goal
 
 pub returns-in-Ok-clause-text : goal.returns-in-Ok-clause-text

@@ -1,6 +1,6 @@
 use Rattle.std.proofs.Common.{refl}
 use Rattle.t85_core.specs.Options.{fields_of}
-use Rattle.t85_core.proofs.Walks.PartsTold.{tells_taken, any_header, tells_refused, tells_header, tells_behind}
+use Rattle.t85_core.proofs.StreamsAreWalked.PartsAreReturned.{tells_taken, any_header, tells_refused, tells_header, tells_behind}
 use Rattle.t85_core.proofs.parts.PartWalk.next.Goals as goal
 
 pub returns-in-Err-clause-told : goal.returns-in-Err-clause-told

@@ -1,5 +1,5 @@
 use Rattle.std.proofs.Common.{◌-◌, length, refl, ap}
-use Rattle.t85_core.proofs.Walks.PartsTold.{tells_taken, any_taken, takes_before, never_before}
+use Rattle.t85_core.proofs.StreamsAreWalked.PartsAreReturned.{tells_taken, any_taken, takes_before, never_before}
 use Rattle.t85_core.proofs.parts.PartWalk.next_before_height.Goals as goal
 
 pub returns-in-Some-clause-told : goal.returns-in-Some-clause-told

@@ -1,7 +1,7 @@
 use Rattle.std.proofs.Common.{refl, subst}
 use Rattle.t85_core.specs.Options.{fields_of}
-use Rattle.t85_core.specs.Steps.PartSteps.{SeesHeight}
-use Rattle.t85_core.proofs.Walks.PartsTold.{before_of, whole_there}
+use Rattle.t85_core.specs.Private.PartSteps.{SeesHeight}
+use Rattle.t85_core.proofs.StreamsAreWalked.PartsAreReturned.{before_of, whole_there}
 use Rattle.t85_core.proofs.parts.PartWalk.next_behind.Goals as goal
 
 pub returns-then-sees_height-clause-told : goal.returns-then-sees_height-clause-told

@@ -1,5 +1,5 @@
 use Rattle.std.proofs.Common.{◌-◌, length, refl, ap}
-use Rattle.t85_core.proofs.Walks.PartsTold.{tells_taken, any_taken, takes_in_stripe, breaks_in_stripe}
+use Rattle.t85_core.proofs.StreamsAreWalked.PartsAreReturned.{tells_taken, any_taken, takes_in_stripe, breaks_in_stripe}
 use Rattle.t85_core.proofs.parts.PartWalk.next_in_stripe.Goals as goal
 
 pub returns-in-Ok-clause-told : goal.returns-in-Ok-clause-told

@@ -1,5 +1,5 @@
 use Rattle.std.proofs.Common.{◌∙◌, sym}
-use Rattle.t85_core.proofs.Walks.PartsTold.{ends_given, ends_fixed, seen}
+use Rattle.t85_core.proofs.StreamsAreWalked.PartsAreReturned.{ends_given, ends_fixed, seen}
 use Rattle.t85_core.proofs.parts.PartWalk.sees_height.Goals as goal
 
 pub returns-then-is_given : goal.returns-then-is_given

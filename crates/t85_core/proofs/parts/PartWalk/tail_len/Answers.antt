@@ -1,5 +1,5 @@
 use Rattle.std.proofs.Common.{sym, ◌∙◌}
-use Rattle.t85_core.proofs.Walks.PartsTold.{tail_none, tail_marker}
+use Rattle.t85_core.proofs.StreamsAreWalked.PartsAreReturned.{tail_none, tail_marker}
 use Rattle.t85_core.proofs.parts.PartWalk.tail_len.Goals as goal
 
 pub returns-in-Some-clause-is : goal.returns-in-Some-clause-is

@@ -2,9 +2,9 @@ use Rattle.std.proofs.Common.{◌≡◌, ◌≤◌, ap, sym, subst, ◌∙◌, t
 use Rattle.std.specs.Prelude.{is_some}
 use Rattle.t85_core.specs.Options.{fields_of}
 use Rattle.t85_core.specs.Pieces.{IsLeastHeight}
-use Rattle.t85_core.proofs.Decodings.PieceCertain.{least_known, least_late}
-use Rattle.t85_core.proofs.Decodings.PieceNumbers.{looks_of}
-use Rattle.t85_core.proofs.Decodings.PieceStood.{closed_of, open_looks}
+use Rattle.t85_core.proofs.BodiesDecode.LeastHeightIsCertain.{least_known, least_late}
+use Rattle.t85_core.proofs.BodiesDecode.NumbersFixDecoder.{looks_of}
+use Rattle.t85_core.proofs.BodiesDecode.PieceStands.{closed_of, open_looks}
 use Rattle.t85_core.proofs.pieces.PieceDecoder.certain.Goals as goal
 use Rattle.t85_core.proofs.pieces.PieceDecoder.certain.Goals.{then-not-looks-via-then-not-looks, then-not-looks-via-else-not-looks+then-is_some}
 

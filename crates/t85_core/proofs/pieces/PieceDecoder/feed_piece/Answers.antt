@@ -2,7 +2,7 @@ use Rattle.std.proofs.Common.{[], append-nil, refl, subst}
 use Rattle.t85_core.specs.Feeds.{held_bytes, IsFeed}
 use Rattle.t85_core.specs.Pieces.{call_of}
 use Rattle.t85_core.specs.Lent.{decoder_lent}
-use Rattle.t85_core.proofs.Decodings.PieceFeeds.{feeds}
+use Rattle.t85_core.proofs.BodiesDecode.DecoderHoldsRest.{feeds}
 use Rattle.t85_core.proofs.pieces.PieceDecoder.feed_piece.Goals as goal
 
 pub returns-clause-feed : goal.returns-clause-feed

@@ -1,10 +1,10 @@
 use Rattle.std.proofs.Common.{◌≡◌, ◌≤◌, ◌++◌, ◌+◌, ◌-◌, length, length-append, drop, sym, subst, ap, ◌∙◌, rules, arith}
 use Rattle.t85_core.specs.Feeds.{held_bytes, IsFeed}
-use Rattle.t85_core.specs.Steps.Feeds.{Settles}
+use Rattle.t85_core.specs.Private.Feeds.{Settles}
 use Rattle.t85_core.specs.Pieces.{call_of}
 use Rattle.t85_core.specs.Lent.{decoder_lent}
-use Rattle.t85_core.proofs.Decodings.PieceStood.{split_is}
-use Rattle.t85_core.proofs.Decodings.PieceFeeds.{feeds, feeds_on}
+use Rattle.t85_core.proofs.BodiesDecode.PieceStands.{split_is}
+use Rattle.t85_core.proofs.BodiesDecode.DecoderHoldsRest.{feeds, feeds_on}
 use Rattle.t85_core.proofs.pieces.PieceDecoder.feed_some.Goals as goal
 
 pub returns-then-not-goes_on-clause-feed : goal.returns-then-not-goes_on-clause-feed

@@ -1,10 +1,10 @@
 use Rattle.std.proofs.Common.{◌≡◌, ◌+◌, [], false, refl, arith}
 use Rattle.t85_core.specs.Lent.{code_lent, phase_lent}
-use Rattle.t85_core.specs.Steps.Pieces.{SomeStands}
-use Rattle.t85_core.specs.Steps.RowTurns.{BegunLeaves, BegunStep}
+use Rattle.t85_core.specs.Private.Pieces.{SomeStands}
+use Rattle.t85_core.specs.Private.RowTurns.{BegunLeaves, BegunStep}
 use Rattle.t85_core.specs.declared.pieces.phase.Phase.TheVariants as phase
-use Rattle.t85_core.proofs.Decodings.PieceSteps.{in_code_of}
-use Rattle.t85_core.proofs.Decodings.PieceStood.{at_first, row_given, row_after, some_waits}
+use Rattle.t85_core.proofs.BodiesDecode.WalkGoesOn.{in_code_of}
+use Rattle.t85_core.proofs.BodiesDecode.PieceStands.{at_first, row_given, row_after, some_waits}
 use Rattle.t85_core.proofs.pieces.PieceDecoder.give_row.Goals as goal
 
 pub returns-clause-gives : goal.returns-clause-gives

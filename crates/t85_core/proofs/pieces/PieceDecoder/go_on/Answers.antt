@@ -1,7 +1,7 @@
 use Rattle.std.proofs.Common.{[], Some, refl, ◌∙◌, arith}
 use Rattle.t85_core.specs.Lent.{decoder_lent}
-use Rattle.t85_core.proofs.Decodings.Entities.{none_of}
-use Rattle.t85_core.proofs.Decodings.PieceStood.{leaves_after, on_compose, on_none}
+use Rattle.t85_core.proofs.BodiesDecode.EntityIsPulled.{none_of}
+use Rattle.t85_core.proofs.BodiesDecode.PieceStands.{leaves_after, on_compose, on_none}
 use Rattle.t85_core.proofs.pieces.PieceDecoder.go_on.Goals as goal
 
 pub returns-in-Some-clause-leaves : goal.returns-in-Some-clause-leaves

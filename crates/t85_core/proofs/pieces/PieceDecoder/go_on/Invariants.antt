@@ -1,6 +1,6 @@
 use Rattle.std.proofs.Common.{◌≡◌, ◌≤◌, [], length}
 use Rattle.t85_core.specs.Phases.{phase_waits}
-use Rattle.t85_core.specs.Steps.PieceSteps.{DecoderOn, steps_left}
+use Rattle.t85_core.specs.Private.PieceSteps.{DecoderOn, steps_left}
 use Rattle.t85_core.specs.Lent.{KeepsLent, decoder_lent}
 use Rattle.t85_core.proofs.pieces.PieceDecoder.go_on.Given as goal
 

@@ -6,16 +6,17 @@ use Rattle.t85_core.specs.declared.pieces.phase.Phase.TheVariants as phase
 use Rattle.t85_core.specs.Lent.{decoder_lent, phase_lent, stage_lent}
 use Rattle.t85_core.specs.Options.{fields_of}
 use Rattle.t85_core.specs.Stages.{code_kind, stage_behind}
-use Rattle.t85_core.specs.Steps.Behind.{StopsBehind, behind_at}
-use Rattle.t85_core.specs.Steps.PieceSteps.{EndsConsumed, EndsWhole, LookIsOver, is_last_of, place_after}
-use Rattle.t85_core.specs.Steps.StripeEnds.{EndsAtMarker}
-use Rattle.t85_core.proofs.Decodings.HeadParts.{started_view}
-use Rattle.t85_core.proofs.Decodings.LookOver.{look_consumed, look_whole}
-use Rattle.t85_core.proofs.Decodings.PieceBelow.{leaves_code, leaves_fault, leaves_look}
-use Rattle.t85_core.proofs.Decodings.PieceLook.{look_code, look_fault, own_first}
-use Rattle.t85_core.proofs.Decodings.PieceOver.{head_over, last_in, not_last_in, stripe_over}
-use Rattle.t85_core.proofs.Decodings.PieceSteps.{in_code_of}
-use Rattle.t85_core.proofs.Decodings.PieceStood.{at_first, behind_broken, broken_where, code_entered, done_where, leaves_broken, leaves_done, leaves_on, on_where, own_height, row_where}
+use Rattle.t85_core.specs.Private.Behind.{StopsBehind}
+use Rattle.t85_core.specs.States.Behind.{behind_at}
+use Rattle.t85_core.specs.Private.PieceSteps.{EndsConsumed, EndsWhole, LookIsOver, is_last_of, place_after}
+use Rattle.t85_core.specs.Private.StripeEnds.{EndsAtMarker}
+use Rattle.t85_core.proofs.BodiesDecode.SegmentsPrecedeCode.{started_view}
+use Rattle.t85_core.proofs.BodiesDecode.NoHeightFollows.{look_consumed, look_whole}
+use Rattle.t85_core.proofs.BodiesDecode.NoHeightIsBelow.{leaves_code, leaves_fault, leaves_look}
+use Rattle.t85_core.proofs.BodiesDecode.DecoderLooksBehind.{look_code, look_fault, own_first}
+use Rattle.t85_core.proofs.BodiesDecode.StripeIsOver.{head_over, last_in, not_last_in, stripe_over}
+use Rattle.t85_core.proofs.BodiesDecode.WalkGoesOn.{in_code_of}
+use Rattle.t85_core.proofs.BodiesDecode.PieceStands.{at_first, behind_broken, broken_where, code_entered, done_where, leaves_broken, leaves_done, leaves_on, on_where, own_height, row_where}
 use Rattle.t85_core.proofs.pieces.PieceDecoder.go_past.Goals as goal
 
 -- by what comes next

@@ -1,7 +1,7 @@
 use Rattle.std.proofs.Common.{nat_le, sym}
 use Rattle.t85_core.specs.Stages.{code_kind}
-use Rattle.t85_core.proofs.Decodings.PieceSteps.{in_code_of}
-use Rattle.t85_core.proofs.Decodings.PieceStood.{in_code_last}
+use Rattle.t85_core.proofs.BodiesDecode.WalkGoesOn.{in_code_of}
+use Rattle.t85_core.proofs.BodiesDecode.PieceStands.{in_code_last}
 use Rattle.t85_core.proofs.pieces.PieceDecoder.is_last.Goals as goal
 
 pub returns : goal.returns

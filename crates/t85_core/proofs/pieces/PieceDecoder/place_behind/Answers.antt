@@ -1,8 +1,8 @@
 use Rattle.std.proofs.Common.{◌∙◌, ap, sym}
 use Rattle.t85_core.specs.Stages.{code_kind}
-use Rattle.t85_core.specs.Steps.PieceStands.{place_at}
-use Rattle.t85_core.proofs.Decodings.PieceSteps.{in_code_of}
-use Rattle.t85_core.proofs.Decodings.PieceStood.{in_code_entities}
+use Rattle.t85_core.specs.States.PieceStands.{place_at}
+use Rattle.t85_core.proofs.BodiesDecode.WalkGoesOn.{in_code_of}
+use Rattle.t85_core.proofs.BodiesDecode.PieceStands.{in_code_entities}
 use Rattle.t85_core.proofs.pieces.PieceDecoder.place_behind.Goals as goal
 
 pub returns : goal.returns

@@ -1,6 +1,6 @@
 use Rattle.std.proofs.Common.{◌<◌, ◌∙◌, refl, arith}
 use Rattle.t85_core.specs.Lent.{decoder_lent}
-use Rattle.t85_core.proofs.Decodings.PieceRepeats.{repeats_none, repeats_then}
+use Rattle.t85_core.proofs.BodiesDecode.DecoderRepeatsRows.{repeats_none, repeats_then}
 use Rattle.t85_core.proofs.pieces.PieceDecoder.repeat_all.Goals as goal
 
 pub rows-init : goal.rows-init

@@ -2,7 +2,7 @@ use Rattle.std.proofs.Common.{◌≡◌, ◌∙◌, refl, sym, ap, rules}
 use Rattle.t85_core.specs.Lent.{code_lent, phase_lent}
 use Rattle.t85_core.specs.declared.pieces.course.Stage.TheVariants as stage
 use Rattle.t85_core.specs.declared.pieces.phase.Phase.TheVariants as phase
-use Rattle.t85_core.proofs.Decodings.PieceRepeats.{code_is_in_code, none_of_some, repeats_known, repeats_of, repeats_open, unmoved}
+use Rattle.t85_core.proofs.BodiesDecode.DecoderRepeatsRows.{code_is_in_code, none_of_some, repeats_known, repeats_of, repeats_open, unmoved}
 use Rattle.t85_core.proofs.pieces.PieceDecoder.repeat_some.Goals as goal
 
 pub returns-in-Code-stage-clause-repeats : goal.returns-in-Code-stage-clause-repeats

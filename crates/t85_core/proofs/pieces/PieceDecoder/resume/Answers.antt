@@ -1,7 +1,7 @@
 use Rattle.std.proofs.Common.{◌≡◌, Some, None, ap, refl, sym, ◌∙◌}
 use Rattle.t85_core.specs.Phases.{phase_behind, phase_is_open, phase_stage, phase_waits}
 use Rattle.t85_core.specs.Lent.{stage_view}
-use Rattle.t85_core.proofs.Decodings.PieceNumbers.{some_is, stands_as, stays}
+use Rattle.t85_core.proofs.BodiesDecode.NumbersFixDecoder.{some_is, stands_as, stays}
 use Rattle.t85_core.proofs.pieces.PieceDecoder.resume.Goals as goal
 
 pub returns-in_err-phase-clause-all : goal.returns-in_err-phase-clause-all

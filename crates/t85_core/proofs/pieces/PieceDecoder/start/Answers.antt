@@ -2,9 +2,10 @@ use Rattle.std.proofs.Common.{◌≡◌, ◌∙◌, [], ap, refl, sym, subst, ru
 use Rattle.t85_core.specs.Lent.{stage_lent}
 use Rattle.t85_core.specs.Options.{fields_of}
 use Rattle.t85_core.specs.Phases.{phase_behind, phase_is_open, phase_stage, phase_waits}
-use Rattle.t85_core.specs.Steps.Pieces.{IsFirstWalk, WalkStands}
-use Rattle.t85_core.specs.Steps.SizedImage.{sized}
-use Rattle.t85_core.proofs.Decodings.PieceStood.{first_none, first_open, first_stage, first_waits, started}
+use Rattle.t85_core.specs.Private.Pieces.{IsFirstWalk}
+use Rattle.t85_core.specs.States.Pieces.{WalkStands}
+use Rattle.t85_core.specs.States.SizedImage.{sized}
+use Rattle.t85_core.proofs.BodiesDecode.PieceStands.{first_none, first_open, first_stage, first_waits, started}
 use Rattle.t85_core.proofs.pieces.PieceDecoder.start.Goals as goal
 
 pub returns-clause-none : goal.returns-clause-none

@@ -4,15 +4,15 @@ use Rattle.t85_core.specs.Lent.{code_lent, phase_lent, stage_lent}
 use Rattle.t85_core.specs.Options.{fields_of}
 use Rattle.t85_core.specs.Phases.{phase_looks}
 use Rattle.t85_core.specs.Stages.{head_start}
-use Rattle.t85_core.specs.Steps.InTime.{MarkerAfterRows}
-use Rattle.t85_core.specs.Steps.Pieces.{HasMarker}
-use Rattle.t85_core.specs.Steps.RowTurns.{CodeGoes}
-use Rattle.t85_core.specs.Steps.SizedImage.{sized}
-use Rattle.t85_core.proofs.Decodings.PieceBehind.{some_of}
-use Rattle.t85_core.proofs.Decodings.PieceInTime.{in_time_more}
-use Rattle.t85_core.proofs.Decodings.PieceRepeats.{none_of_some}
-use Rattle.t85_core.proofs.Decodings.PieceSteps.{over_done}
-use Rattle.t85_core.proofs.Decodings.PieceStood.{at_first, code_broken, code_of, known_more, known_open, leaves_done, leaves_of, leaves_on, leaves_row, leaves_stop, on_none, put_code, put_waits, some_code, taken_is, turn_broken, turn_consumed, turn_on, turn_whole, waits_first}
+use Rattle.t85_core.specs.States.PieceStands.{MarkerAfterRows}
+use Rattle.t85_core.specs.States.Pieces.{HasMarker}
+use Rattle.t85_core.specs.Private.RowTurns.{CodeGoes}
+use Rattle.t85_core.specs.States.SizedImage.{sized}
+use Rattle.t85_core.proofs.BodiesDecode.SegmentsComeBehind.{some_of}
+use Rattle.t85_core.proofs.BodiesDecode.MarkerComesInTime.{in_time_more}
+use Rattle.t85_core.proofs.BodiesDecode.DecoderRepeatsRows.{none_of_some}
+use Rattle.t85_core.proofs.BodiesDecode.WalkGoesOn.{over_done}
+use Rattle.t85_core.proofs.BodiesDecode.PieceStands.{at_first, code_broken, code_of, known_more, known_open, leaves_done, leaves_of, leaves_on, leaves_row, leaves_stop, on_none, put_code, put_waits, some_code, taken_is, turn_broken, turn_consumed, turn_on, turn_whole, waits_first}
 use Rattle.t85_core.proofs.pieces.PieceDecoder.step.Goals as goal
 
 -- ---- the height is known

@@ -2,8 +2,9 @@ use Rattle.std.proofs.Common.{Some, true, refl, subst, rules, arith}
 use Rattle.t85_core.specs.Lent.{PieceView, decoder_lent, phase_lent}
 use Rattle.t85_core.specs.Options.{fields_of}
 use Rattle.t85_core.specs.Phases.{phase_waits}
-use Rattle.t85_core.specs.Steps.Behind.{StopsBehind, behind_at}
-use Rattle.t85_core.specs.Steps.PieceSteps.{is_last_of}
+use Rattle.t85_core.specs.Private.Behind.{StopsBehind}
+use Rattle.t85_core.specs.States.Behind.{behind_at}
+use Rattle.t85_core.specs.Private.PieceSteps.{is_last_of}
 use Rattle.t85_core.specs.declared.fault.Fault.TheVariants.{Truncated}
 use Rattle.t85_core.specs.declared.lent.Lent.{Lent}
 use Rattle.t85_core.specs.declared.pieces.Outcome.TheVariants as outcome
@@ -11,9 +12,9 @@ use Rattle.t85_core.specs.declared.pieces.PieceDecoder.{PieceDecoder}
 use Rattle.t85_core.specs.declared.pieces.code.InCode.{InCode}
 use Rattle.t85_core.specs.declared.pieces.head.Head.{Head}
 use Rattle.t85_core.specs.declared.pieces.phase.Phase.TheVariants as phase
-use Rattle.t85_core.proofs.Decodings.PieceLook.{passed_behind}
-use Rattle.t85_core.proofs.Decodings.PieceOpen.{still_open}
-use Rattle.t85_core.proofs.Decodings.PieceStood.{fewer_after, leaves_after, leaves_more, on_none}
+use Rattle.t85_core.proofs.BodiesDecode.DecoderLooksBehind.{passed_behind}
+use Rattle.t85_core.proofs.BodiesDecode.HeightStaysOpen.{still_open}
+use Rattle.t85_core.proofs.BodiesDecode.PieceStands.{fewer_after, leaves_after, leaves_more, on_none}
 use Rattle.t85_core.proofs.pieces.PieceDecoder.step_behind.Goals as goal
 
 -- the decoder there, with these marker segments

@@ -10,12 +10,13 @@ use Rattle.t85_core.specs.declared.pieces.phase.Phase.TheVariants as phase
 use Rattle.t85_core.specs.Grammar.{is_valid_length}
 use Rattle.t85_core.specs.Lent.{PieceView, phase_view, stage_view}
 use Rattle.t85_core.specs.Options.{fields_of}
-use Rattle.t85_core.specs.Steps.Behind.{StopsBehind, behind_at}
-use Rattle.t85_core.specs.Steps.PieceSteps.{HeadEntered, HeightComes, KeepsDecoder, SomeStand}
-use Rattle.t85_core.proofs.Decodings.HeadParts.{started_view}
-use Rattle.t85_core.proofs.Decodings.PieceLook.{passed_behind, raised_on}
-use Rattle.t85_core.proofs.Decodings.PieceOpen.{still_open}
-use Rattle.t85_core.proofs.Decodings.PieceStood.{behind_broken, broken_where, closed_none, code_entered, entered, leaves_after, leaves_broken, leaves_more, leaves_on, not_head, on_none, on_where}
+use Rattle.t85_core.specs.Private.Behind.{StopsBehind}
+use Rattle.t85_core.specs.States.Behind.{behind_at}
+use Rattle.t85_core.specs.Private.PieceSteps.{HeadEntered, HeightComes, KeepsDecoder, SomeStand}
+use Rattle.t85_core.proofs.BodiesDecode.SegmentsPrecedeCode.{started_view}
+use Rattle.t85_core.proofs.BodiesDecode.DecoderLooksBehind.{passed_behind, raised_on}
+use Rattle.t85_core.proofs.BodiesDecode.HeightStaysOpen.{still_open}
+use Rattle.t85_core.proofs.BodiesDecode.PieceStands.{behind_broken, broken_where, closed_none, code_entered, entered, leaves_after, leaves_broken, leaves_more, leaves_on, not_head, on_none, on_where}
 use Rattle.t85_core.proofs.pieces.PieceDecoder.step_first.Goals as goal
 
 -- the decoder there, with these marker segments

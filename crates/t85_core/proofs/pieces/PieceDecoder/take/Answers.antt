@@ -4,7 +4,7 @@ use Rattle.t85_core.specs.Outcomes.{end_in}
 use Rattle.t85_core.specs.Pieces.{HasDecoded, HandsOut, stream_of, row_held}
 use Rattle.t85_core.specs.declared.fault.Fault.TheVariants.{Truncated}
 use Rattle.t85_core.specs.Lent.{decoder_lent}
-use Rattle.t85_core.proofs.Decodings.PieceStood.{call_on, taken_is}
+use Rattle.t85_core.proofs.BodiesDecode.PieceStands.{call_on, taken_is}
 use Rattle.t85_core.proofs.pieces.PieceDecoder.take.Goals as goal
 
 pub returns-clause-call : goal.returns-clause-call

@@ -1,14 +1,14 @@
 use Rattle.std.proofs.Common.{◌≡◌, ◌≤◌, ◌<◌, ◌-◌, true, min, refl, ap, arith}
 use Rattle.t85_core.specs.Lent.{phase_lent, decoder_lent, stage_lent}
 use Rattle.t85_core.specs.Stages.{code_kind, stage_behind}
-use Rattle.t85_core.specs.Steps.StripeEnds.{EndsAtMarker}
+use Rattle.t85_core.specs.Private.StripeEnds.{EndsAtMarker}
 use Rattle.t85_core.specs.declared.pieces.course.Stage.TheVariants as stage
 use Rattle.t85_core.specs.declared.pieces.phase.Phase.TheVariants as phase
-use Rattle.t85_core.proofs.Decodings.PieceBelow.{leaves_height}
-use Rattle.t85_core.proofs.Decodings.PieceLook.{height_over, late_consumed, late_whole, raised_on}
-use Rattle.t85_core.proofs.Decodings.PieceOver.{head_over, more_follow, not_last_in}
-use Rattle.t85_core.proofs.Decodings.PieceSteps.{in_code_of}
-use Rattle.t85_core.proofs.Decodings.PieceStood.{at_first, leaves_done, leaves_on, on_where, row_where}
+use Rattle.t85_core.proofs.BodiesDecode.NoHeightIsBelow.{leaves_height}
+use Rattle.t85_core.proofs.BodiesDecode.DecoderLooksBehind.{height_over, late_consumed, late_whole, raised_on}
+use Rattle.t85_core.proofs.BodiesDecode.StripeIsOver.{head_over, more_follow, not_last_in}
+use Rattle.t85_core.proofs.BodiesDecode.WalkGoesOn.{in_code_of}
+use Rattle.t85_core.proofs.BodiesDecode.PieceStands.{at_first, leaves_done, leaves_on, on_where, row_where}
 use Rattle.t85_core.proofs.pieces.PieceDecoder.take_height.Goals as goal
 
 pub returns-then-behind-min-clause-leaves : goal.returns-then-behind-min-clause-leaves

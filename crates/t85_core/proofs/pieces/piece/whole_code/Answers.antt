@@ -1,5 +1,5 @@
-use Rattle.t85_core.proofs.Decodings.PieceFew.{ends_few}
-use Rattle.t85_core.proofs.Decodings.PieceMarker.{code_ends}
+use Rattle.t85_core.proofs.BodiesDecode.FewBytesRemain.{ends_few}
+use Rattle.t85_core.proofs.BodiesDecode.MarkerIsFound.{code_ends}
 use Rattle.t85_core.proofs.pieces.piece.whole_code.Goals as goal
 
 pub returns-in-Err-clause-err : goal.returns-in-Err-clause-err

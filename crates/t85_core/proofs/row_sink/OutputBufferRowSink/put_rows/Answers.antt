@@ -2,11 +2,11 @@ use Rattle.std.proofs.Common.{◌≡◌, ◌-◌, ◌+◌, ◌++◌, ℕ, sym, a
 use Rattle.std.specs.Io.KnownBytes.{Appends}
 use Rattle.devices.specs.Device.{AppendsBeginning}
 use Rattle.t85_core.specs.Failures.{writes_after}
-use Rattle.t85_core.specs.Steps.Buffers.{PutsBytes, copies}
-use Rattle.t85_core.proofs.Bytes.Streams.{Appends-more, beginning_after, beginning_longer}
-use Rattle.t85_core.proofs.Decodings.RowPut.{appends_nothing}
-use Rattle.t85_core.proofs.Decodings.TypicalRows.{copies_next, copies_front}
-use Rattle.t85_core.proofs.Walks.InfoEnds.{exit_all}
+use Rattle.t85_core.specs.RowSink.{PutsBytes, copies}
+use Rattle.t85_core.proofs.BytesJoin.CallsJoin.{Appends-more, beginning_after, beginning_longer}
+use Rattle.t85_core.proofs.BodiesDecode.RowIsPut.{appends_nothing}
+use Rattle.t85_core.proofs.BodiesDecode.TypicalRowsAreCopies.{copies_next, copies_front}
+use Rattle.t85_core.proofs.StreamsAreWalked.InfoEnds.{exit_all}
 use Rattle.t85_core.proofs.row_sink.OutputBufferRowSink.put_rows.Goals as goal
 
 pub loop-copy-init : goal.loop-copy-init

@@ -1,7 +1,7 @@
 use Rattle.std.proofs.Common.{◌≡◌, ◌≤◌, ◌-◌}
 use Rattle.std.specs.Io.KnownBytes.{Appends}
-use Rattle.t85_core.specs.Steps.Buffers.{copies}
-use Rattle.t85_core.specs.Steps.Views.{target_view}
+use Rattle.t85_core.specs.RowSink.{copies}
+use Rattle.t85_core.specs.States.Views.{target_view}
 use Rattle.t85_core.proofs.row_sink.OutputBufferRowSink.put_rows.Given as goal
 
 -- so many copies were taken

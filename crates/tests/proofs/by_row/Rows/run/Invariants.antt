@@ -1,6 +1,6 @@
 use Rattle.std.proofs.Common.{◌≡◌, false}
 use Rattle.raster_core.specs.Window.{width_of}
-use Rattle.t85_core.specs.Steps.ByRow.{MayGoOn}
+use Rattle.t85_core.specs.States.ByRow.{MayGoOn}
 use Rattle.tests.proofs.by_row.Rows.run.Given as goal
 
 abbrev pub invariant-rows : goal.invariant-rows

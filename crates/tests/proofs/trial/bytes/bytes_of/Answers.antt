@@ -1,5 +1,5 @@
 use Rattle.std.proofs.Common.{rules}
-use Rattle.tests.proofs.Hex.{two}
+use Rattle.tests.proofs.DigitsMakeBytes.{two}
 use Rattle.tests.proofs.trial.bytes.bytes_of.Goals as goal
 
 pub loop-c-preserved : goal.loop-c-preserved

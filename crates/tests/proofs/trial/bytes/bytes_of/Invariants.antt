@@ -1,4 +1,4 @@
-use Rattle.tests.proofs.Hex.{Pairs}
+use Rattle.tests.proofs.DigitsMakeBytes.{Pairs}
 use Rattle.tests.proofs.trial.bytes.bytes_of.Given as goal
 
 abbrev pub invariant-loop-c : goal.invariant-loop-c

@@ -1,11 +1,11 @@
 use Rattle.std.specs.Prelude.{OnErr, List, Bool, ◌++◌, ◌∷◌, []}
 use Rattle.raster_core.specs.Packed.{Held}
-use Rattle.t85_core.specs.Steps.Sent.{Origin}
-use Rattle.t85_core.specs.Steps.RowStream.{StreamCut}
-use Rattle.t85_core.specs.Steps.ByRow.{Waits, view_of}
+use Rattle.t85_core.specs.States.Sent.{Origin}
+use Rattle.t85_core.specs.States.RowStream.{StreamCut}
+use Rattle.t85_core.specs.States.ByRow.{Waits, view_of}
 use Rattle.t85_core.specs.RowImage.{Image}
-use Rattle.t85_core.proofs.Walks.InfoEnds.{exit_all}
-use Rattle.t85_core.proofs.Encodings.RowSteps.{stripe_begun, move_cut}
+use Rattle.t85_core.proofs.StreamsAreWalked.InfoEnds.{exit_all}
+use Rattle.t85_core.proofs.ImagesEncode.RowEncoderAdvances.{stripe_begun, move_cut}
 use Rattle.t85_core.proofs.encoding.by_row.RowEncoder.begin_stripe.Goals as goal
 
 pub returns-in_err-move_pixel-clause-cut : goal.returns-in_err-move_pixel-clause-cut

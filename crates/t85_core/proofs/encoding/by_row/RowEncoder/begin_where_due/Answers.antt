@@ -1,5 +1,5 @@
-use Rattle.t85_core.proofs.Bytes.Ends.{map_ok, on_err}
-use Rattle.t85_core.proofs.Encodings.RowSteps.{stands_waiting}
+use Rattle.t85_core.proofs.BytesJoin.WalkEnds.{map_ok, on_err}
+use Rattle.t85_core.proofs.ImagesEncode.RowEncoderAdvances.{stands_waiting}
 use Rattle.t85_core.proofs.encoding.by_row.RowEncoder.begin_where_due.Goals as goal
 
 pub returns-then-self-eq0-clause-ok : goal.returns-then-self-eq0-clause-ok

@@ -1,11 +1,11 @@
 use Rattle.std.proofs.Common.{◌≤◌, ◌/◌, refl, sym, ◌∙◌, arith, length}
 use Rattle.pbm_core.specs.Pbm.{bytes_of_row}
 use Rattle.raster_core.specs.Window.{held}
-use Rattle.t85_core.specs.Steps.ByRow.{view_of}
-use Rattle.t85_core.specs.Steps.Trial.{all_rows_in}
-use Rattle.t85_core.proofs.Encodings.RowSteps.{stands_waiting}
-use Rattle.t85_core.proofs.Encodings.Trials.{length-packed_rows}
-use Rattle.t85_core.proofs.Encodings.BestOffsets.{carried, found_two, found_three, rows_held}
+use Rattle.t85_core.specs.States.ByRow.{view_of}
+use Rattle.t85_core.specs.States.Trial.{all_rows_in}
+use Rattle.t85_core.proofs.ImagesEncode.RowEncoderAdvances.{stands_waiting}
+use Rattle.t85_core.proofs.ImagesEncode.TrialCountsBytes.{length-packed_rows}
+use Rattle.t85_core.proofs.ImagesEncode.OffsetIsBest.{carried, found_two, found_three, rows_held}
 use Rattle.t85_core.proofs.encoding.by_row.RowEncoder.best_offset.Goals as goal
 
 pub returns-in-Some-clause-best : goal.returns-in-Some-clause-best

@@ -2,16 +2,16 @@ use Rattle.std.specs.Prelude.{OnErr, List, Bool, ◌++◌, ◌∷◌, []}
 use Rattle.std.proofs.Common.{arith, ◌∙◌}
 use Rattle.raster_core.specs.Packed.{Held}
 use Rattle.raster_core.specs.Window.{held}
-use Rattle.t85_core.specs.Steps.Written.{row_start_in}
-use Rattle.t85_core.specs.Steps.State.{lines_with}
-use Rattle.t85_core.specs.Steps.Sent.{Origin}
-use Rattle.t85_core.specs.Steps.RowStream.{StreamCut}
-use Rattle.t85_core.specs.Steps.ByRow.{Runs, IsBelow, view_of}
+use Rattle.t85_core.specs.States.Written.{row_start_in}
+use Rattle.t85_core.specs.States.State.{lines_with}
+use Rattle.t85_core.specs.States.Sent.{Origin}
+use Rattle.t85_core.specs.States.RowStream.{StreamCut}
+use Rattle.t85_core.specs.States.ByRow.{Runs, IsBelow, view_of}
 use Rattle.t85_core.specs.RowImage.{Image}
-use Rattle.t85_core.proofs.Walks.InfoEnds.{exit_all}
-use Rattle.t85_core.proofs.Encodings.RowSteps.{events_more, row_coded, row_cut, lines_are}
-use Rattle.t85_core.specs.Steps.MostBytes.{CodesFew}
-use Rattle.t85_core.proofs.Encodings.FewAppended.{row_put_few, row_cut_few}
+use Rattle.t85_core.proofs.StreamsAreWalked.InfoEnds.{exit_all}
+use Rattle.t85_core.proofs.ImagesEncode.RowEncoderAdvances.{events_more, row_coded, row_cut, lines_are}
+use Rattle.t85_core.specs.MostBytes.{CodesFew}
+use Rattle.t85_core.proofs.ImagesEncode.FewBytesAreAppended.{row_put_few, row_cut_few}
 use Rattle.t85_core.proofs.encoding.by_row.RowEncoder.code.Goals as goal
 
 pub returns-in_err-code_row-clause-cut : goal.returns-in_err-code_row-clause-cut

@@ -1,7 +1,7 @@
-use Rattle.t85_core.proofs.Bytes.Ends.{map_ok, on_err}
-use Rattle.t85_core.proofs.Encodings.RowSteps.{stream_ended, ending_cut}
+use Rattle.t85_core.proofs.BytesJoin.WalkEnds.{map_ok, on_err}
+use Rattle.t85_core.proofs.ImagesEncode.RowEncoderAdvances.{stream_ended, ending_cut}
 use Rattle.qm_core.specs.Encoder.{waiting_bytes}
-use Rattle.t85_core.proofs.Encodings.FewAppended.{end_few, ending_few}
+use Rattle.t85_core.proofs.ImagesEncode.FewBytesAreAppended.{end_few, ending_few}
 use Rattle.t85_core.proofs.encoding.by_row.RowEncoder.end.Goals as goal
 
 pub returns-clause-ok : goal.returns-clause-ok

@@ -1,6 +1,6 @@
-use Rattle.t85_core.proofs.Bytes.Ends.{map_ok, always_err}
-use Rattle.t85_core.proofs.Bytes.Sendings.{Sends-keeps, sends_all}
-use Rattle.t85_core.proofs.Decodings.BufferDecoded.{all_handed}
+use Rattle.t85_core.proofs.BytesJoin.WalkEnds.{map_ok, always_err}
+use Rattle.t85_core.proofs.BytesJoin.BytesAreSent.{Sends-keeps, sends_all}
+use Rattle.t85_core.proofs.BodiesDecode.ImageLeavesBuffer.{all_handed}
 use Rattle.t85_core.proofs.encoding.by_row.RowEncoder.end_held.Goals as goal
 
 pub returns-clause-ok : goal.returns-clause-ok

@@ -1,8 +1,8 @@
 use Rattle.std.proofs.Common.{◌<◌, arith}
 use Rattle.raster_core.specs.Window.{held}
-use Rattle.t85_core.specs.Steps.ByRow.{view_of}
-use Rattle.t85_core.proofs.Bytes.Ends.{map_ok, on_err}
-use Rattle.t85_core.proofs.Encodings.RowSteps.{stands_waiting, stands_running, waits_ended, ended_stripes, cut_stripes}
+use Rattle.t85_core.specs.States.ByRow.{view_of}
+use Rattle.t85_core.proofs.BytesJoin.WalkEnds.{map_ok, on_err}
+use Rattle.t85_core.proofs.ImagesEncode.RowEncoderAdvances.{stands_waiting, stands_running, waits_ended, ended_stripes, cut_stripes}
 use Rattle.t85_core.proofs.encoding.by_row.RowEncoder.end_last.Goals as goal
 
 pub returns-then-self-eq0-clause-ok : goal.returns-then-self-eq0-clause-ok

@@ -1,15 +1,15 @@
 use Rattle.std.specs.Prelude.{OnErr, List, Bool, []}
 use Rattle.raster_core.specs.Window.{held}
-use Rattle.t85_core.specs.Steps.Written.{row_start_in}
-use Rattle.t85_core.specs.Steps.Sent.{Origin}
-use Rattle.t85_core.specs.Steps.ByRow.{Runs, view_of}
+use Rattle.t85_core.specs.States.Written.{row_start_in}
+use Rattle.t85_core.specs.States.Sent.{Origin}
+use Rattle.t85_core.specs.States.ByRow.{Runs, view_of}
 use Rattle.t85_core.specs.RowImage.{Image}
-use Rattle.t85_core.specs.Steps.RowSteps.{StripeBegun}
-use Rattle.t85_core.proofs.Walks.InfoEnds.{exit_all}
-use Rattle.t85_core.proofs.Bytes.Ends.{always, always_err}
-use Rattle.t85_core.proofs.Bytes.Streams.{Appends-keeps, beginning_all}
-use Rattle.t85_core.proofs.Encodings.RowSteps.{stripe_ended, stripe_cut, held_by_carried, carried_by_held}
-use Rattle.t85_core.proofs.Encodings.FewAppended.{code_ended_few, kept_few}
+use Rattle.t85_core.specs.Private.RowSteps.{StripeBegun}
+use Rattle.t85_core.proofs.StreamsAreWalked.InfoEnds.{exit_all}
+use Rattle.t85_core.proofs.BytesJoin.WalkEnds.{always, always_err}
+use Rattle.t85_core.proofs.BytesJoin.CallsJoin.{Appends-keeps, beginning_all}
+use Rattle.t85_core.proofs.ImagesEncode.RowEncoderAdvances.{stripe_ended, stripe_cut, held_by_carried, carried_by_held}
+use Rattle.t85_core.proofs.ImagesEncode.FewBytesAreAppended.{code_ended_few, kept_few}
 use Rattle.t85_core.proofs.encoding.by_row.RowEncoder.end_stripe.Goals as goal
 
 pub returns-in_err-end_entity-clause-cut : goal.returns-in_err-end_entity-clause-cut

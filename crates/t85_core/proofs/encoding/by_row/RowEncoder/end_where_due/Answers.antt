@@ -1,8 +1,8 @@
 use Rattle.std.proofs.Common.{◌∙◌, sym, inl}
 use Rattle.raster_core.specs.Window.{held}
-use Rattle.t85_core.specs.Steps.ByRow.{view_of}
-use Rattle.t85_core.proofs.Bytes.Ends.{map_ok, on_err}
-use Rattle.t85_core.proofs.Encodings.RowSteps.{ended_waits, cut_stream}
+use Rattle.t85_core.specs.States.ByRow.{view_of}
+use Rattle.t85_core.proofs.BytesJoin.WalkEnds.{map_ok, on_err}
+use Rattle.t85_core.proofs.ImagesEncode.RowEncoderAdvances.{ended_waits, cut_stream}
 use Rattle.t85_core.proofs.encoding.by_row.RowEncoder.end_where_due.Goals as goal
 
 pub returns-then-self-clause-ok : goal.returns-then-self-clause-ok

@@ -2,18 +2,18 @@ use Rattle.std.proofs.Common.{rules, ◌≡◌, ◌≤◌, subst, arith}
 use Rattle.t85_core.specs.Encode.{raster_of}
 use Rattle.raster_core.specs.Window.{held}
 use Rattle.t85_core.specs.Jbg.{jbg}
-use Rattle.t85_core.specs.Steps.Buffers.{held_of, known_length}
-use Rattle.t85_core.specs.Steps.Views.{text_taken}
-use Rattle.t85_core.specs.Steps.Sent.{Sends, SendsBeginning}
-use Rattle.t85_core.specs.Steps.ByRow.{view_of}
-use Rattle.t85_core.proofs.Bytes.Sendings.{beginning_sent}
-use Rattle.t85_core.proofs.Bytes.Ends.{map_ok, on_err}
-use Rattle.t85_core.proofs.Decodings.BufferDecoded.{text_unheld}
-use Rattle.t85_core.proofs.Encodings.RowCalls.{moved, stands_cleared, stands_grown}
+use Rattle.t85_core.specs.RowSink.{held_of, known_length}
+use Rattle.t85_core.specs.States.Views.{text_taken}
+use Rattle.t85_core.specs.States.Sent.{Sends, SendsBeginning}
+use Rattle.t85_core.specs.States.ByRow.{view_of}
+use Rattle.t85_core.proofs.BytesJoin.BytesAreSent.{beginning_sent}
+use Rattle.t85_core.proofs.BytesJoin.WalkEnds.{map_ok, on_err}
+use Rattle.t85_core.proofs.BodiesDecode.ImageLeavesBuffer.{text_unheld}
+use Rattle.t85_core.proofs.ImagesEncode.CallsHoldNothing.{moved, stands_cleared, stands_grown}
 use Rattle.qm_core.specs.Encoder.{waiting_bytes}
 use Rattle.std.specs.Prelude.{◌+◌, ◌*◌}
-use Rattle.t85_core.specs.Steps.MostBytes.{AppendsAtMost}
-use Rattle.t85_core.proofs.Encodings.FewAppended.{handed_few}
+use Rattle.t85_core.specs.MostBytes.{AppendsAtMost}
+use Rattle.t85_core.proofs.ImagesEncode.FewBytesAreAppended.{handed_few}
 use Rattle.t85_core.proofs.encoding.by_row.RowEncoder.finish.Goals as goal
 
 pub returns-clause-ok : goal.returns-clause-ok

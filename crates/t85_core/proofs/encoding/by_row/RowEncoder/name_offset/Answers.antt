@@ -1,7 +1,7 @@
 use Rattle.std.proofs.Common.{sym, ◌∙◌, not}
 use Rattle.t85_core.specs.RowImage.{may_name}
-use Rattle.t85_core.specs.Steps.ByRow.{view_of}
-use Rattle.t85_core.proofs.Encodings.RowNames.{offset_named, name_waits}
+use Rattle.t85_core.specs.States.ByRow.{view_of}
+use Rattle.t85_core.proofs.ImagesEncode.OffsetIsNamed.{offset_named, name_waits}
 use Rattle.t85_core.proofs.encoding.by_row.RowEncoder.name_offset.Goals as goal
 
 pub returns-then-takes_name-clause-named : goal.returns-then-takes_name-clause-named

@@ -3,9 +3,9 @@ use Rattle.std.specs.Prelude.{nat_lt, length}
 use Rattle.raster_core.specs.Offset.{candidates}
 use Rattle.t85_core.specs.Coding.{mode_of}
 use Rattle.t85_core.specs.Options.{settings_of}
-use Rattle.t85_core.proofs.Encodings.Encoded.{are_settings}
-use Rattle.t85_core.proofs.Theorems.HeaderWritten.{written_bits}
-use Rattle.t85_core.proofs.Encodings.RowSteps.{none_stand}
+use Rattle.t85_core.proofs.ImagesEncode.BodyIsEncoded.{are_settings}
+use Rattle.t85_core.proofs.StreamsDenote.HeaderIsWritten.{written_bits}
+use Rattle.t85_core.proofs.ImagesEncode.RowEncoderAdvances.{none_stand}
 use Rattle.t85_core.proofs.encoding.by_row.RowEncoder.new.Goals as goal
 
 pub returns-clause-plan : goal.returns-clause-plan

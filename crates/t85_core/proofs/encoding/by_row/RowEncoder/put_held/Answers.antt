@@ -2,11 +2,11 @@ use Rattle.std.specs.Prelude.{OnErr, Result, List, Bool, Option, ℕ, ◌++◌, 
 use Rattle.raster_core.specs.Packed.{Held}
 use Rattle.raster_core.specs.Window.{held}
 use Rattle.t85_core.specs.declared.fault.Fault.{Fault}
-use Rattle.t85_core.specs.Steps.Views.{text_taken}
-use Rattle.t85_core.specs.Steps.ByRow.{CutsRow, IsBelow, RowView, view_of}
-use Rattle.t85_core.proofs.Walks.InfoEnds.{exit_all}
-use Rattle.t85_core.proofs.Decodings.BufferDecoded.{all_handed}
-use Rattle.t85_core.proofs.Encodings.RowCalls.{stands_kept, front_cut}
+use Rattle.t85_core.specs.States.Views.{text_taken}
+use Rattle.t85_core.specs.States.ByRow.{CutsRow, IsBelow, RowView, view_of}
+use Rattle.t85_core.proofs.StreamsAreWalked.InfoEnds.{exit_all}
+use Rattle.t85_core.proofs.BodiesDecode.ImageLeavesBuffer.{all_handed}
+use Rattle.t85_core.proofs.ImagesEncode.CallsHoldNothing.{stands_kept, front_cut}
 use Rattle.t85_core.proofs.encoding.by_row.RowEncoder.put_held.Goals as goal
 
 abbrev Cut : RowView → Held → Option (List ℕ) → Option (List ℕ) → Result (Unit {0}) Fault → Type 0

@@ -2,11 +2,11 @@ use Rattle.std.specs.Prelude.{OnErr, Result, List, Bool, Option, ℕ, ◌++◌, 
 use Rattle.raster_core.specs.Packed.{Held}
 use Rattle.raster_core.specs.Window.{held}
 use Rattle.t85_core.specs.declared.fault.Fault.{Fault}
-use Rattle.t85_core.specs.Steps.ByRow.{CutsRow, IsBelow, RowView, view_of}
-use Rattle.t85_core.proofs.Walks.InfoEnds.{exit_all}
+use Rattle.t85_core.specs.States.ByRow.{CutsRow, IsBelow, RowView, view_of}
+use Rattle.t85_core.proofs.StreamsAreWalked.InfoEnds.{exit_all}
 use Rattle.qm_core.specs.Encoder.{waiting_bytes}
 use Rattle.std.proofs.Common.{ap}
-use Rattle.t85_core.proofs.Encodings.FewAppended.{row_few, row_begun_few}
+use Rattle.t85_core.proofs.ImagesEncode.FewBytesAreAppended.{row_few, row_begun_few}
 use Rattle.t85_core.proofs.encoding.by_row.RowEncoder.put_taken.Goals as goal
 
 -- a beginning of each stream that begins with the rows and this one

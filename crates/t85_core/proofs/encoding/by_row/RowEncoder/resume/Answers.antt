@@ -1,5 +1,5 @@
 use Rattle.std.proofs.Common.{◌≡◌, refl, ap}
-use Rattle.t85_core.proofs.Encodings.RowNumbers.{one_view}
+use Rattle.t85_core.proofs.ImagesEncode.NumbersFixEncoder.{one_view}
 use Rattle.t85_core.proofs.encoding.by_row.RowEncoder.resume.Goals as goal
 
 pub returns-in_err-encoder-clause-resumes : goal.returns-in_err-encoder-clause-resumes

@@ -3,15 +3,15 @@ use Rattle.devices.specs.Device.{AppendsBeginning}
 use Rattle.raster_core.specs.Window.{held}
 use Rattle.t85_core.specs.Jbg.{head_of}
 use Rattle.t85_core.specs.Options.{settings_of}
-use Rattle.t85_core.specs.Steps.Buffers.{held_of, known_length}
-use Rattle.t85_core.specs.Steps.Views.{text_taken}
-use Rattle.t85_core.specs.Steps.Sent.{here}
-use Rattle.t85_core.specs.Steps.ByRow.{Stands, view_of}
+use Rattle.t85_core.specs.RowSink.{held_of, known_length}
+use Rattle.t85_core.specs.States.Views.{text_taken}
+use Rattle.t85_core.specs.States.Sent.{here}
+use Rattle.t85_core.specs.States.ByRow.{Stands, view_of}
 use Rattle.t85_core.specs.RowImage.{image_of}
-use Rattle.t85_core.proofs.Bytes.Ends.{map_if_ok, err_of}
-use Rattle.t85_core.proofs.Bytes.HeldBack.{beginning_handed}
-use Rattle.t85_core.proofs.Decodings.BufferDecoded.{text_unheld}
-use Rattle.t85_core.proofs.Encodings.RowCalls.{moved}
+use Rattle.t85_core.proofs.BytesJoin.WalkEnds.{map_if_ok, err_of}
+use Rattle.t85_core.proofs.BytesJoin.OutputHoldsBytes.{beginning_handed}
+use Rattle.t85_core.proofs.BodiesDecode.ImageLeavesBuffer.{text_unheld}
+use Rattle.t85_core.proofs.ImagesEncode.CallsHoldNothing.{moved}
 use Rattle.t85_core.proofs.encoding.by_row.RowEncoder.start.Goals as goal
 
 pub returns-clause-begun : goal.returns-clause-begun

@@ -3,8 +3,9 @@ use Rattle.std.specs.Prelude.{flat_map}
 use Rattle.raster_core.specs.Window.{held}
 use Rattle.t85_core.specs.Grammar.{segment_bytes}
 use Rattle.t85_core.specs.Jbg.{move_segments}
-use Rattle.t85_core.specs.Steps.Trial.{all_rows_in, named_move, trial_from, tried_code}
-use Rattle.t85_core.proofs.Encodings.BestOffsets.{copied, trial_begins, others_are, summed}
+use Rattle.t85_core.specs.States.Trial.{all_rows_in}
+use Rattle.t85_core.specs.Private.Trial.{named_move, trial_from, tried_code}
+use Rattle.t85_core.proofs.ImagesEncode.OffsetIsBest.{copied, trial_begins, others_are, summed}
 use Rattle.t85_core.proofs.encoding.by_row.RowEncoder.try_offset.Goals as goal
 
 pub returns-clause-bytes : goal.returns-clause-bytes

@@ -1,8 +1,8 @@
 use Rattle.std.proofs.Common.{◌∙◌, ap}
 use Rattle.t85_core.specs.Coding.{mode_of}
 use Rattle.t85_core.specs.Options.{settings_of}
-use Rattle.t85_core.proofs.Encodings.Encoded.{are_settings}
-use Rattle.t85_core.proofs.Theorems.HeaderWritten.{written_bits}
+use Rattle.t85_core.proofs.ImagesEncode.BodyIsEncoded.{are_settings}
+use Rattle.t85_core.proofs.StreamsDenote.HeaderIsWritten.{written_bits}
 use Rattle.t85_core.proofs.encoding.learning.Learning.first.Goals as goal
 
 pub returns : goal.returns

@@ -1,8 +1,8 @@
 use Rattle.std.proofs.Common.{ap, refl, ◌∙◌, rules}
 use Rattle.t85_core.specs.Stages.{code_kind}
-use Rattle.t85_core.proofs.Decodings.PieceFits.{row_in_stripe}
-use Rattle.t85_core.proofs.Decodings.PieceSteps.{at_stage}
-use Rattle.t85_core.proofs.Decodings.PieceWalk.{row_entered}
+use Rattle.t85_core.proofs.BodiesDecode.WalkNumbersFit.{row_in_stripe}
+use Rattle.t85_core.proofs.BodiesDecode.WalkGoesOn.{at_stage}
+use Rattle.t85_core.proofs.BodiesDecode.WalkTakesRows.{row_entered}
 use Rattle.t85_core.proofs.pieces.code.InCode.enter_row.Goals as goal
 
 pub returns-clause-enters : goal.returns-clause-enters

@@ -4,15 +4,15 @@ use Rattle.t85_core.specs.Options.{fields_of}
 use Rattle.t85_core.specs.Lent.{code_view}
 use Rattle.t85_core.specs.Stages.{code_kind}
 use Rattle.t85_core.specs.declared.segments.Code.TheVariants as code
-use Rattle.t85_core.specs.Steps.Segments.{RestFault}
-use Rattle.t85_core.proofs.Bytes.Ends.{exit}
-use Rattle.t85_core.proofs.Decodings.Entities.{none_of}
-use Rattle.t85_core.proofs.Decodings.ImagePut.{in_use}
-use Rattle.t85_core.proofs.Decodings.PieceEnds.{before_all, never_changed}
-use Rattle.t85_core.proofs.Decodings.PieceFits.{between_rows, rows_all}
-use Rattle.t85_core.proofs.Decodings.PieceInTime.{in_time_found, unread}
-use Rattle.t85_core.proofs.Decodings.PieceSteps.{on_same, walk_at, at_stage, put_stage, stays, step_exit, other_exit, step_ok}
-use Rattle.t85_core.proofs.Decodings.PieceWalk.{ahead_is, behind_is, marker_off, code_kept, code_marked}
+use Rattle.t85_core.specs.Private.Segments.{RestFault}
+use Rattle.t85_core.proofs.BytesJoin.WalkEnds.{exit}
+use Rattle.t85_core.proofs.BodiesDecode.EntityIsPulled.{none_of}
+use Rattle.t85_core.proofs.BodiesDecode.ImageIsPut.{in_use}
+use Rattle.t85_core.proofs.BodiesDecode.WholeCodeNeverBreaks.{before_all, never_changed}
+use Rattle.t85_core.proofs.BodiesDecode.WalkNumbersFit.{between_rows, rows_all}
+use Rattle.t85_core.proofs.BodiesDecode.MarkerComesInTime.{in_time_found, unread}
+use Rattle.t85_core.proofs.BodiesDecode.WalkGoesOn.{on_same, walk_at, at_stage, put_stage, stays, step_exit, other_exit, step_ok}
+use Rattle.t85_core.proofs.BodiesDecode.WalkTakesRows.{ahead_is, behind_is, marker_off, code_kept, code_marked}
 use Rattle.t85_core.proofs.pieces.code.InCode.find_end.Goals as goal
 
 pub returns-in-Some-clause-step : goal.returns-in-Some-clause-step

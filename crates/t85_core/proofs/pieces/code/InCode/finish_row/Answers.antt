@@ -9,21 +9,23 @@ use Rattle.raster_core.specs.declared.shape.Shape.{Shape}
 use Rattle.t85_core.specs.Lent.{carried_by, code_lent, code_view}
 use Rattle.t85_core.specs.Options.{fields_of}
 use Rattle.t85_core.specs.declared.fault.Fault.TheVariants.{Changed, Truncated}
-use Rattle.t85_core.specs.Steps.CoderLaws.{CoderLaws}
-use Rattle.t85_core.specs.Steps.Cut.{OpenStripe, open_stripe}
-use Rattle.t85_core.specs.Steps.Views.{piece_view}
-use Rattle.t85_core.specs.Steps.PieceCode.{FromRow, Handed, MarkerRead, PieceRowTaken, RowAtMarker, RowBroken, RowState, RowWaits, handed, row_state_at, EndsRow, BreaksRow, StopsInRow, WaitsInRow}
-use Rattle.t85_core.specs.Steps.Pieces.{InRowStands, StepsOff, WalkStands, code_place, head_place, rows_in}
-use Rattle.t85_core.specs.Steps.RowTurns.{BegunLeaves, BegunStep}
-use Rattle.t85_core.specs.Steps.Segments.{RestFault}
-use Rattle.t85_core.specs.Steps.SizedImage.{sized_of}
-use Rattle.t85_core.proofs.Decodings.ImagePut.{in_use}
-use Rattle.t85_core.proofs.Decodings.PieceEnds.{whole_text, never_breaks, never_changed, stays_marked, before_all}
-use Rattle.t85_core.proofs.Decodings.PieceFits.{resumed}
-use Rattle.t85_core.proofs.Decodings.PieceInTime.{in_time_row, none_read}
-use Rattle.t85_core.proofs.Decodings.PieceRows.{row_taken, row_unread, row_broken, row_waits, row_at_marker}
-use Rattle.t85_core.proofs.Decodings.PieceSteps.{on_same, at_stage}
-use Rattle.t85_core.proofs.Decodings.PieceWalk.{ahead_is, behind_is, in_row_shape, row_on, row_off, row_kept}
+use Rattle.t85_core.specs.Private.CoderLaws.{CoderLaws}
+use Rattle.t85_core.specs.States.Cut.{OpenStripe, open_stripe}
+use Rattle.t85_core.specs.Private.Views.{piece_view}
+use Rattle.t85_core.specs.Private.PieceCode.{FromRow, Handed, PieceRowTaken, RowAtMarker, RowBroken, RowState, RowWaits, handed, row_state_at, EndsRow, BreaksRow, StopsInRow, WaitsInRow}
+use Rattle.t85_core.specs.States.PieceCode.{MarkerRead}
+use Rattle.t85_core.specs.States.Pieces.{InRowStands, WalkStands, code_place, head_place, rows_in}
+use Rattle.t85_core.specs.Private.Pieces.{StepsOff}
+use Rattle.t85_core.specs.Private.RowTurns.{BegunLeaves, BegunStep}
+use Rattle.t85_core.specs.Private.Segments.{RestFault}
+use Rattle.t85_core.specs.States.SizedImage.{sized_of}
+use Rattle.t85_core.proofs.BodiesDecode.ImageIsPut.{in_use}
+use Rattle.t85_core.proofs.BodiesDecode.WholeCodeNeverBreaks.{whole_text, never_breaks, never_changed, stays_marked, before_all}
+use Rattle.t85_core.proofs.BodiesDecode.WalkNumbersFit.{resumed}
+use Rattle.t85_core.proofs.BodiesDecode.MarkerComesInTime.{in_time_row, none_read}
+use Rattle.t85_core.proofs.BodiesDecode.RowMayWait.{row_taken, row_unread, row_broken, row_waits, row_at_marker}
+use Rattle.t85_core.proofs.BodiesDecode.WalkGoesOn.{on_same, at_stage}
+use Rattle.t85_core.proofs.BodiesDecode.WalkTakesRows.{ahead_is, behind_is, in_row_shape, row_on, row_off, row_kept}
 use Rattle.t85_core.proofs.pieces.code.InCode.finish_row.Given.{Over}
 use Rattle.t85_core.proofs.pieces.code.InCode.finish_row.Goals.{After-go_on_row-went}
 use Rattle.t85_core.proofs.pieces.code.InCode.finish_row.Goals as goal
@@ -246,7 +248,8 @@ returns-else-unwrap_or-clause-step g c =
             let at = m.1 unread in
             (at.waits.given, at.waits.taken, in_time_row (stood went w) c.coder_laws.ensures (in_use c.args.image.now) at)),
       );
-      err = if_err _ {P = λ f. StepsOff (sized_of c.args.image.now) (code_lent c.args.course.now (record c.args.self.now { begun = Some c.args.row.place }) c.args.lent.now) c.args.piece.now.rest.now f} (λ f e text out w.
+      err = if_err _ {P = λ f. StepsOff (sized_of c.args.image.now) (code_lent c.args.course.now (record c.args.self.now { begun = Some c.args.row.place }) c.args.lent.now) c.args.piece.now.rest.now f}
+          (λ f e text out w.
           let k = stood went w in
           row_off k c.coder_laws.ensures (in_use c.args.image.now) c.args.piece.now.rest.now f
           (broken went w f (breaks_row went off c.coder_laws.ensures f (c.row_result-answer.ensures.fault f e)) _ (let few = k.few in omega arith)));

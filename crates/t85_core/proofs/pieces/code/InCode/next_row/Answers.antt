@@ -2,11 +2,12 @@ use Rattle.std.proofs.Common.{[], ℕ, List, Some, refl, sym, subst, append-nil,
 use Rattle.t85_core.specs.Options.{fields_of}
 use Rattle.raster_core.specs.Window.{held}
 use Rattle.t85_core.specs.Lent.{code_view, code_lent}
-use Rattle.t85_core.specs.Steps.Pieces.{SomeStands, StepsOn, WalkStands}
-use Rattle.t85_core.specs.Steps.RowTurns.{BegunLeaves, BegunStep}
-use Rattle.t85_core.specs.Steps.SizedImage.{sized}
-use Rattle.t85_core.proofs.Decodings.PieceSteps.{on_same}
-use Rattle.t85_core.proofs.Decodings.PieceTurns.{begun_then, begun_leaves_then}
+use Rattle.t85_core.specs.Private.Pieces.{SomeStands, StepsOn}
+use Rattle.t85_core.specs.States.Pieces.{WalkStands}
+use Rattle.t85_core.specs.Private.RowTurns.{BegunLeaves, BegunStep}
+use Rattle.t85_core.specs.States.SizedImage.{sized}
+use Rattle.t85_core.proofs.BodiesDecode.WalkGoesOn.{on_same}
+use Rattle.t85_core.proofs.BodiesDecode.RowEndsOrWaits.{begun_then, begun_leaves_then}
 use Rattle.t85_core.proofs.pieces.code.InCode.next_row.Goals as goal
 
 pub returns-in-Some-clause-step : goal.returns-in-Some-clause-step

@@ -4,13 +4,13 @@ use Rattle.t85_core.specs.Options.{fields_of}
 use Rattle.raster_core.specs.Window.{held}
 use Rattle.t85_core.specs.Lent.{carried_by, code_view}
 use Rattle.t85_core.specs.Stages.{code_kind}
-use Rattle.t85_core.specs.Steps.Buffers.{copies}
-use Rattle.t85_core.specs.Steps.DecodeRows.{pair_of}
-use Rattle.t85_core.specs.Steps.Pieces.{CodeStands, rows_in, head_place, code_place}
-use Rattle.t85_core.specs.Steps.SizedImage.{sized}
-use Rattle.t85_core.proofs.Decodings.PieceSteps.{at_stage, put_stage}
-use Rattle.t85_core.proofs.Decodings.RowsRepeated.{repeats_rows}
-use Rattle.t85_core.proofs.Decodings.WalkDecoded.{code_repeated}
+use Rattle.t85_core.specs.RowSink.{copies}
+use Rattle.t85_core.specs.States.DecodeRows.{pair_of}
+use Rattle.t85_core.specs.States.Pieces.{CodeStands, rows_in, head_place, code_place}
+use Rattle.t85_core.specs.States.SizedImage.{sized}
+use Rattle.t85_core.proofs.BodiesDecode.WalkGoesOn.{at_stage, put_stage}
+use Rattle.t85_core.proofs.BodiesDecode.RepeatedRowsArePut.{repeats_rows}
+use Rattle.t85_core.proofs.BodiesDecode.WalkDecodesImage.{code_repeated}
 use Rattle.t85_core.proofs.pieces.code.InCode.repeat.Goals as goal
 
 pub returns-clause-on : goal.returns-clause-on

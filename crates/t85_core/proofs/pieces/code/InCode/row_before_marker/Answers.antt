@@ -1,12 +1,12 @@
 use Rattle.std.proofs.Common.{◌≤◌, min, refl, arith}
 use Rattle.t85_core.specs.Options.{fields_of}
 use Rattle.t85_core.specs.Lent.{code_lent}
-use Rattle.t85_core.specs.Steps.RowTurns.{CodeGoes}
-use Rattle.t85_core.specs.Steps.SizedImage.{sized}
+use Rattle.t85_core.specs.Private.RowTurns.{CodeGoes}
+use Rattle.t85_core.specs.States.SizedImage.{sized}
 use Rattle.raster_core.specs.Window.{held}
-use Rattle.t85_core.proofs.Decodings.PieceSteps.{in_code_of}
-use Rattle.t85_core.proofs.Walks.InfoEnds.{exit_all}
-use Rattle.t85_core.proofs.Decodings.PieceTurns.{code_broke_off, code_ended, code_goes}
+use Rattle.t85_core.proofs.BodiesDecode.WalkGoesOn.{in_code_of}
+use Rattle.t85_core.proofs.StreamsAreWalked.InfoEnds.{exit_all}
+use Rattle.t85_core.proofs.BodiesDecode.RowEndsOrWaits.{code_broke_off, code_ended, code_goes}
 use Rattle.t85_core.proofs.pieces.code.InCode.row_before_marker.Goals as goal
 
 pub returns-then-self-min-clause-goes : goal.returns-then-self-min-clause-goes

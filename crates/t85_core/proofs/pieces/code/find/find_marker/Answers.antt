@@ -1,8 +1,8 @@
 use Rattle.std.proofs.Common.{◌≡◌, Some, sym, ap, ◌∙◌}
 use Rattle.t85_core.specs.declared.segments.Code.TheVariants as code
-use Rattle.t85_core.proofs.Decodings.Entities.{none_of}
-use Rattle.t85_core.proofs.Decodings.PieceMarker.{found_before, found_ahead, none_ahead, byte_ahead, finds_on, misses_on, keeps_on}
-use Rattle.t85_core.proofs.Decodings.PieceFew.{skip_few}
+use Rattle.t85_core.proofs.BodiesDecode.EntityIsPulled.{none_of}
+use Rattle.t85_core.proofs.BodiesDecode.MarkerIsFound.{found_before, found_ahead, none_ahead, byte_ahead, finds_on, misses_on, keeps_on}
+use Rattle.t85_core.proofs.BodiesDecode.FewBytesRemain.{skip_few}
 use Rattle.t85_core.proofs.pieces.code.find.find_marker.Goals as goal
 
 pub returns-in-Some-clause-ok : goal.returns-in-Some-clause-ok

@@ -1,8 +1,8 @@
 use Rattle.std.proofs.Common.{◌∙◌, ap, Some, sym, subst, ◌++◌}
 use Rattle.qm_core.specs.Code.{stuffed}
-use Rattle.t85_core.specs.Steps.Entity.{CodeEnds}
-use Rattle.t85_core.specs.Steps.PieceCode.{SkipsSome}
-use Rattle.t85_core.proofs.Walks.Passed.{skipped_plain, skipped_byte, code_ends}
+use Rattle.t85_core.specs.Private.Entity.{CodeEnds}
+use Rattle.t85_core.specs.Private.PieceCode.{SkipsSome}
+use Rattle.t85_core.proofs.StreamsAreWalked.StripeIsPassed.{skipped_plain, skipped_byte, code_ends}
 use Rattle.t85_core.proofs.pieces.code.find.skip_some.Goals as goal
 
 pub code-preserved : goal.code-preserved

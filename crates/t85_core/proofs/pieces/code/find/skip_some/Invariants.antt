@@ -1,5 +1,5 @@
 use Rattle.std.proofs.Common.{length, Some}
-use Rattle.t85_core.proofs.Walks.Passed.{HasSkipped}
+use Rattle.t85_core.proofs.StreamsAreWalked.StripeIsPassed.{HasSkipped}
 use Rattle.t85_core.proofs.pieces.code.find.skip_some.Given as goal
 
 abbrev pub invariant-code : goal.invariant-code

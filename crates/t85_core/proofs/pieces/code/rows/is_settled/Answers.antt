@@ -1,7 +1,7 @@
 use Rattle.std.proofs.Common.{◌≡◌, ◌+◌, ◌==◌, ℕ, if◌then◌else◌, option_map, arith, ap}
 use Rattle.std.proofs.lemmas.Bool.Decides.{nat_tests}
-use Rattle.t85_core.specs.Steps.State.{offset_at}
-use Rattle.t85_core.specs.Steps.DecodeRows.{pair_of}
+use Rattle.t85_core.specs.States.State.{offset_at}
+use Rattle.t85_core.specs.States.DecodeRows.{pair_of}
 use Rattle.t85_core.proofs.pieces.code.rows.is_settled.Goals as goal
 
 pub returns-in-Some : goal.returns-in-Some

@@ -7,19 +7,20 @@ use Rattle.t85_core.specs.Stages as kind
 use Rattle.t85_core.specs.declared.pieces.code.InCode.{InCode}
 use Rattle.t85_core.specs.declared.pieces.course.Stage.{Stage}
 use Rattle.t85_core.specs.declared.pieces.course.Stage.TheVariants as stage
-use Rattle.t85_core.specs.Steps.DecodeRows.{IsCarried}
-use Rattle.t85_core.specs.Steps.DecodeStripes.{StripesRead}
-use Rattle.t85_core.specs.Steps.Passage.{passage}
-use Rattle.t85_core.specs.Steps.PieceCode.{MarkerFound, MarkerIs}
-use Rattle.t85_core.specs.Steps.Pieces.{CodeStands, IsInCode, StageStands, WalkStands, code_place_of, head_place_of}
-use Rattle.t85_core.specs.Steps.SizedImage.{sized}
-use Rattle.t85_core.specs.Steps.State.{RowStart, first_row_start, next_stripe_start}
-use Rattle.t85_core.proofs.Decodings.ImagePut.{in_use}
-use Rattle.t85_core.proofs.Decodings.PieceFits.{none_begun, rows_all}
-use Rattle.t85_core.proofs.Decodings.PieceMarker.{found_marker}
-use Rattle.t85_core.proofs.Decodings.PieceSteps.{kept_wide, at_stage, last_stripe, next_stripe}
-use Rattle.t85_core.proofs.Decodings.PieceStood.{no_bytes}
-use Rattle.t85_core.proofs.Decodings.PieceWalk.{whole, stripe_last, stripe_on}
+use Rattle.t85_core.specs.States.DecodeRows.{IsCarried}
+use Rattle.t85_core.specs.States.DecodeStripes.{StripesRead}
+use Rattle.t85_core.specs.States.Passage.{passage}
+use Rattle.t85_core.specs.Private.PieceCode.{MarkerFound}
+use Rattle.t85_core.specs.States.PieceCode.{MarkerIs}
+use Rattle.t85_core.specs.States.Pieces.{CodeStands, IsInCode, StageStands, WalkStands, code_place_of, head_place_of}
+use Rattle.t85_core.specs.States.SizedImage.{sized}
+use Rattle.t85_core.specs.States.State.{RowStart, first_row_start, next_stripe_start}
+use Rattle.t85_core.proofs.BodiesDecode.ImageIsPut.{in_use}
+use Rattle.t85_core.proofs.BodiesDecode.WalkNumbersFit.{none_begun, rows_all}
+use Rattle.t85_core.proofs.BodiesDecode.MarkerIsFound.{found_marker}
+use Rattle.t85_core.proofs.BodiesDecode.WalkGoesOn.{kept_wide, at_stage, last_stripe, next_stripe}
+use Rattle.t85_core.proofs.BodiesDecode.PieceStands.{no_bytes}
+use Rattle.t85_core.proofs.BodiesDecode.WalkTakesRows.{whole, stripe_last, stripe_on}
 use Rattle.t85_core.proofs.pieces.course.Course.end_stripe.Goals.{After-next_stripe}
 use Rattle.t85_core.proofs.pieces.course.Course.end_stripe.Goals as goal
 

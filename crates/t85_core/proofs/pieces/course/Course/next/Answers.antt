@@ -4,10 +4,10 @@ use Rattle.t85_core.specs.Options.{fields_of}
 use Rattle.t85_core.specs.Lent.{code_lent, stage_lent}
 use Rattle.t85_core.specs.Stages.{stage_behind}
 use Rattle.t85_core.specs.declared.pieces.course.Stage.TheVariants as stage
-use Rattle.t85_core.specs.Steps.SizedImage.{sized}
-use Rattle.t85_core.specs.Steps.Pieces.{StepsOn}
-use Rattle.t85_core.proofs.Decodings.PieceSteps.{counts_kept, counts_then, ended_counts, ends_on, in_code_of, on_then, off_then, stays, turn_exit, turn_row}
-use Rattle.t85_core.proofs.Decodings.PieceTurns.{is_row, row_on}
+use Rattle.t85_core.specs.States.SizedImage.{sized}
+use Rattle.t85_core.specs.Private.Pieces.{StepsOn}
+use Rattle.t85_core.proofs.BodiesDecode.WalkGoesOn.{counts_kept, counts_then, ended_counts, ends_on, in_code_of, on_then, off_then, stays, turn_exit, turn_row}
+use Rattle.t85_core.proofs.BodiesDecode.RowEndsOrWaits.{is_row, row_on}
 use Rattle.t85_core.proofs.pieces.course.Course.next.Goals as goal
 
 pub steps-init : goal.steps-init
@@ -73,7 +73,8 @@ returns-then-code-min-clause-step c =
     (code_lent c.next_row.new.course c.next_row.new.self c.next_row.new.lent) c.args.piece.now.rest.now c.next_row.new.piece.rest.now
     (on_then (fields_of c.args.image.now.header) c.args.image.now.height (stage_lent c.args.self.now c.args.stage.now c.args.lent.now)
     (code_lent c.steps.self c.in-Code.code c.steps.lent) c.args.piece.now.rest.now c.steps.piece.rest.now on
-    (code_lent c.next_row.new.course c.next_row.new.self c.next_row.new.lent) c.next_row.new.piece.rest.now (held c.next_row.new.lent.window.now).current (row_on c.in_ok-next_row-in-Code.field-0 c.in_ok-next_row-in-Code.ensures.step c.in_ok-next_row-in-Code.ensures.leaves))
+    (code_lent c.next_row.new.course c.next_row.new.self c.next_row.new.lent) c.next_row.new.piece.rest.now (held c.next_row.new.lent.window.now).current
+    (row_on c.in_ok-next_row-in-Code.field-0 c.in_ok-next_row-in-Code.ensures.step c.in_ok-next_row-in-Code.ensures.leaves))
 
 pub returns-then-code-min-clause-code : goal.returns-then-code-min-clause-code
 returns-then-code-min-clause-code c = λ some _.

@@ -3,8 +3,8 @@ use Rattle.t85_core.specs.Lent.{KeepsLent, stage_lent}
 use Rattle.t85_core.specs.Options.{fields_of}
 use Rattle.t85_core.specs.declared.pieces.course.Stage.{Stage}
 use Rattle.t85_core.specs.declared.pieces.course.Stage.TheVariants as stage
-use Rattle.t85_core.specs.Steps.Pieces.{CountsOn, StepsOn}
-use Rattle.t85_core.specs.Steps.SizedImage.{sized}
+use Rattle.t85_core.specs.Private.Pieces.{CountsOn, StepsOn}
+use Rattle.t85_core.specs.States.SizedImage.{sized}
 use Rattle.t85_core.proofs.pieces.course.Course.next.Given as goal
 
 abbrev pub invariant-steps : goal.invariant-steps

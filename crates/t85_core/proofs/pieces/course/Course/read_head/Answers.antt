@@ -4,15 +4,15 @@ use Rattle.t85_core.specs.Options.{fields_of}
 use Rattle.t85_core.specs.Lent.{stage_view}
 use Rattle.t85_core.specs.declared.pieces.course.Stage.TheVariants as stage
 use Rattle.t85_core.specs.Stages.{stage_read}
-use Rattle.t85_core.specs.Steps.Pieces.{Step}
-use Rattle.t85_core.specs.Steps.SizedImage.{sized}
+use Rattle.t85_core.specs.Private.Pieces.{Step}
+use Rattle.t85_core.specs.States.SizedImage.{sized}
 use Rattle.t85_core.specs.declared.fault.Fault.{Fault}
 use Rattle.t85_core.specs.declared.fault.Fault.TheVariants.{Changed}
 use Rattle.t85_core.specs.declared.pieces.course.Stage.{Stage}
 use Rattle.t85_core.specs.declared.pieces.head.Head.{Head}
-use Rattle.t85_core.proofs.Decodings.HeadParts.{head_view, head_on, head_off, head_height, head_changes, head_begins}
-use Rattle.t85_core.proofs.Decodings.ImagePut.{in_use}
-use Rattle.t85_core.proofs.Decodings.PieceSteps.{on_then, off_then, step_exit, step_ok}
+use Rattle.t85_core.proofs.BodiesDecode.SegmentsPrecedeCode.{head_view, head_on, head_off, head_height, head_changes, head_begins}
+use Rattle.t85_core.proofs.BodiesDecode.ImageIsPut.{in_use}
+use Rattle.t85_core.proofs.BodiesDecode.WalkGoesOn.{on_then, off_then, step_exit, step_ok}
 use Rattle.t85_core.proofs.pieces.course.Course.read_head.Goals as goal
 
 -- the stage stays the same

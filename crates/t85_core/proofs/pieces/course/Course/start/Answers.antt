@@ -1,7 +1,7 @@
 use Rattle.std.proofs.Common.{◌*◌, ◌≡◌, ◌∙◌, refl, arith}
 use Rattle.t85_core.specs.Options.{fields_of}
 use Rattle.t85_core.specs.Lent.{carried_by}
-use Rattle.t85_core.proofs.Decodings.PieceSteps.{head_first}
+use Rattle.t85_core.proofs.BodiesDecode.WalkGoesOn.{head_first}
 use Rattle.t85_core.proofs.pieces.course.Course.start.Goals as goal
 
 pub returns-clause-stands : goal.returns-clause-stands

@@ -1,10 +1,11 @@
 use Rattle.std.proofs.Common.{◌≡◌, ◌∷◌, ◌++◌, List, ℕ, drop, sym, ap, ◌∙◌, subst, arith}
 use Rattle.byteorder.specs.Endian.{big_bytes}
 use Rattle.t85_core.specs.Options.{fields_of}
-use Rattle.t85_core.specs.Steps.Behind.{BreaksBehind, move_came, behind_at, head_at}
-use Rattle.t85_core.proofs.Decodings.PieceBehind.{behind_stays, behind_enters}
-use Rattle.t85_core.proofs.Decodings.PieceHead.{length_breaks, counted_of}
-use Rattle.t85_core.proofs.Decodings.PieceFew.{comment_few}
+use Rattle.t85_core.specs.Private.Behind.{BreaksBehind}
+use Rattle.t85_core.specs.States.Behind.{move_came, behind_at, head_at}
+use Rattle.t85_core.proofs.BodiesDecode.SegmentsComeBehind.{behind_stays, behind_enters}
+use Rattle.t85_core.proofs.BodiesDecode.HeadComesInPieces.{length_breaks, counted_of}
+use Rattle.t85_core.proofs.BodiesDecode.FewBytesRemain.{comment_few}
 use Rattle.t85_core.proofs.pieces.head.Head.enter_comment.Goals as goal
 
 pub returns-in-Ok-clause-on : goal.returns-in-Ok-clause-on

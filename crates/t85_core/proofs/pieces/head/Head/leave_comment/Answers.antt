@@ -1,7 +1,7 @@
 use Rattle.std.proofs.Common.{◌≡◌, ◌≤◌, ◌-◌, ◌++◌, List, ℕ, length, take, append-nil, refl, sym, ap, ◌∙◌, arith}
 use Rattle.std.proofs.lemmas.List.{length-take-le, take-append-drop}
-use Rattle.t85_core.proofs.Decodings.PieceBehind.{behind_more, behind_ends}
-use Rattle.t85_core.proofs.Decodings.PieceSteps.{nil_of}
+use Rattle.t85_core.proofs.BodiesDecode.SegmentsComeBehind.{behind_more, behind_ends}
+use Rattle.t85_core.proofs.BodiesDecode.WalkGoesOn.{nil_of}
 use Rattle.t85_core.proofs.pieces.head.Head.leave_comment.Goals as goal
 
 pub returns-then-len-left-clause-on : goal.returns-then-len-left-clause-on

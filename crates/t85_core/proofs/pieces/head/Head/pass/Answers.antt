@@ -2,14 +2,15 @@ use Rattle.std.proofs.Common.{Some, sym, ◌∙◌, subst, rules, arith}
 use Rattle.t85_core.specs.declared.fault.Fault.TheVariants.{Truncated}
 use Rattle.t85_core.specs.Options.{fields_of}
 use Rattle.t85_core.specs.Grammar.{Move, Comment, segment_bytes}
-use Rattle.t85_core.proofs.Decodings.PieceBehind.{behind_then, behind_move, behind_comment}
+use Rattle.t85_core.proofs.BodiesDecode.SegmentsComeBehind.{behind_then, behind_move, behind_comment}
 use Rattle.t85_core.specs.Failures.{Ends}
-use Rattle.t85_core.specs.Steps.Segments.{PieceFault}
-use Rattle.t85_core.specs.Steps.Behind.{StopsBehind, BreaksBehind, behind_at}
-use Rattle.t85_core.proofs.Bytes.Ends.{exit}
-use Rattle.t85_core.proofs.Decodings.PieceFew.{piece_few}
-use Rattle.t85_core.proofs.Decodings.PieceHead.{counted_of}
-use Rattle.t85_core.proofs.Decodings.PieceStood.{taken_less}
+use Rattle.t85_core.specs.Private.Segments.{PieceFault}
+use Rattle.t85_core.specs.Private.Behind.{StopsBehind, BreaksBehind}
+use Rattle.t85_core.specs.States.Behind.{behind_at}
+use Rattle.t85_core.proofs.BytesJoin.WalkEnds.{exit}
+use Rattle.t85_core.proofs.BodiesDecode.FewBytesRemain.{piece_few}
+use Rattle.t85_core.proofs.BodiesDecode.HeadComesInPieces.{counted_of}
+use Rattle.t85_core.proofs.BodiesDecode.PieceStands.{taken_less}
 use Rattle.t85_core.proofs.pieces.head.Head.pass.Goals as goal
 
 pub returns-in_err-leave_comment-clause-on : goal.returns-in_err-leave_comment-clause-on

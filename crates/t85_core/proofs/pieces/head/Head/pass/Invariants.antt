@@ -1,6 +1,7 @@
 use Rattle.std.proofs.Common.{Bool, length, ◌≤◌}
 use Rattle.t85_core.specs.Options.{fields_of}
-use Rattle.t85_core.specs.Steps.Behind.{BehindOn, head_at}
+use Rattle.t85_core.specs.Private.Behind.{BehindOn}
+use Rattle.t85_core.specs.States.Behind.{head_at}
 use Rattle.t85_core.proofs.pieces.head.Head.pass.Given as goal
 
 abbrev pub invariant-segments : goal.invariant-segments

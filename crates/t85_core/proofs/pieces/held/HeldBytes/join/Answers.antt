@@ -1,5 +1,5 @@
 use Rattle.std.proofs.Common.{rules}
-use Rattle.t85_core.proofs.Decodings.PieceFeeds.{joined_is}
+use Rattle.t85_core.proofs.BodiesDecode.DecoderHoldsRest.{joined_is}
 use Rattle.t85_core.proofs.pieces.held.HeldBytes.join.Goals as goal
 
 pub returns-clause-joined : goal.returns-clause-joined

@@ -1,6 +1,6 @@
 use Rattle.std.proofs.Common.{◌≡◌, ◌++◌, ◌-◌, min, take, drop, refl, sym, ap, ◌∙◌, arith}
 use Rattle.t85_core.specs.Feeds.{held_bytes}
-use Rattle.t85_core.proofs.Decodings.PieceFeeds.{settled_all, settled_earlier, settled_first}
+use Rattle.t85_core.proofs.BodiesDecode.DecoderHoldsRest.{settled_all, settled_earlier, settled_first}
 use Rattle.t85_core.proofs.pieces.held.HeldBytes.settle.Goals as goal
 
 pub returns-in-More : goal.returns-in-More

@@ -1,5 +1,5 @@
 use Rattle.std.proofs.Common.{Some, ap, refl}
-use Rattle.t85_core.proofs.Decodings.PieceNumbers.{some_move}
+use Rattle.t85_core.proofs.BodiesDecode.NumbersFixDecoder.{some_move}
 use Rattle.t85_core.proofs.pieces.numbers.MoveNumbers.at.Goals as goal
 
 pub returns-clause-all : goal.returns-clause-all

@@ -1,5 +1,5 @@
 use Rattle.std.proofs.Common.{◌≡◌, Some, None, refl, sym, ◌∙◌}
-use Rattle.t85_core.proofs.Decodings.PieceNumbers.{resumed_decoder, some_is, course_numbers}
+use Rattle.t85_core.proofs.BodiesDecode.NumbersFixDecoder.{resumed_decoder, some_is, course_numbers}
 use Rattle.t85_core.proofs.pieces.numbers.PieceNumbers.course.Goals as goal
 
 pub returns-in_err-from_registers-clause-all : goal.returns-in_err-from_registers-clause-all

@@ -1,6 +1,6 @@
 use Rattle.std.proofs.Common.{Some, ap, sym, ◌∙◌}
 use Rattle.t85_core.specs.Phases.{phase_stage}
-use Rattle.t85_core.proofs.Decodings.PieceNumbers.{code_phase_of, first_phase_of, some_is}
+use Rattle.t85_core.proofs.BodiesDecode.NumbersFixDecoder.{code_phase_of, first_phase_of, some_is}
 use Rattle.t85_core.proofs.pieces.numbers.PieceNumbers.phase.Goals as goal
 
 pub returns-in-Head-clause-all : goal.returns-in-Head-clause-all

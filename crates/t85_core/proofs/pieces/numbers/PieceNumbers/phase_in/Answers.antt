@@ -1,6 +1,6 @@
 use Rattle.std.proofs.Common.{◌≡◌, Some, None, ap, sym, ◌∙◌}
 use Rattle.t85_core.specs.declared.pieces.phase.Phase.TheVariants as phase
-use Rattle.t85_core.proofs.Decodings.PieceNumbers.{some_is}
+use Rattle.t85_core.proofs.BodiesDecode.NumbersFixDecoder.{some_is}
 use Rattle.t85_core.proofs.pieces.numbers.PieceNumbers.phase_in.Goals as goal
 
 pub returns-in_err-head-in-1-clause-behind : goal.returns-in_err-head-in-1-clause-behind

@@ -1,5 +1,5 @@
 use Rattle.std.proofs.Common.{Some, ap, sym}
-use Rattle.t85_core.proofs.Decodings.PieceNumbers.{one_code, some_is}
+use Rattle.t85_core.proofs.BodiesDecode.NumbersFixDecoder.{one_code, some_is}
 use Rattle.t85_core.proofs.pieces.numbers.StageNumbers.code.Goals as goal
 
 pub returns-clause-all : goal.returns-clause-all

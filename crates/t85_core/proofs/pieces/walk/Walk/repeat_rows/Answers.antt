@@ -3,8 +3,8 @@ use Rattle.raster_core.specs.Window.{held}
 use Rattle.t85_core.specs.Options.{fields_of}
 use Rattle.t85_core.specs.Lent.{stage_view}
 use Rattle.t85_core.specs.Stages.{code_kind}
-use Rattle.t85_core.specs.Steps.Pieces.{WalkStands}
-use Rattle.t85_core.specs.Steps.SizedImage.{sized}
+use Rattle.t85_core.specs.States.Pieces.{WalkStands}
+use Rattle.t85_core.specs.States.SizedImage.{sized}
 use Rattle.t85_core.proofs.pieces.walk.Walk.repeat_rows.Goals as goal
 
 pub returns-in-Code-clause-on : goal.returns-in-Code-clause-on

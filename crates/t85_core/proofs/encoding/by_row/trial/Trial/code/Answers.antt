@@ -1,9 +1,9 @@
 use Rattle.std.proofs.Common.{refl, sym, subst, ◌++◌, ◌∷◌, [], Some}
-use Rattle.t85_core.specs.Steps.EncodeRows.{IsCountedTo}
-use Rattle.t85_core.specs.Steps.Trial.{trial_of, tried_to}
-use Rattle.t85_core.specs.Steps.State.{lines_with}
+use Rattle.t85_core.specs.States.Written.{IsCountedTo}
+use Rattle.t85_core.specs.Private.Trial.{trial_of, tried_to}
+use Rattle.t85_core.specs.States.State.{lines_with}
 use Rattle.raster_core.specs.Window.{held, shape_mode}
-use Rattle.t85_core.proofs.Encodings.Trials.{sure, row_tried, lines_are}
+use Rattle.t85_core.proofs.ImagesEncode.TrialCountsBytes.{sure, row_tried, lines_are}
 use Rattle.t85_core.proofs.encoding.by_row.trial.Trial.code.Goals as goal
 
 pub returns-clause-row : goal.returns-clause-row

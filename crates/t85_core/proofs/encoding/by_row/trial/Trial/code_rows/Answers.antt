@@ -4,8 +4,8 @@ use Rattle.std.proofs.Math.Nat.{add-mul, mul-le-mul_right}
 use Rattle.pbm_core.specs.Image.{pixels_of}
 use Rattle.pbm_core.specs.Pbm.{bytes_of_row}
 use Rattle.raster_core.specs.Window.{held}
-use Rattle.t85_core.specs.Steps.Trial.{packed_rows}
-use Rattle.t85_core.proofs.Encodings.Trials.{length-packed_rows, packed_rows_more}
+use Rattle.t85_core.specs.States.Trial.{packed_rows}
+use Rattle.t85_core.proofs.ImagesEncode.TrialCountsBytes.{length-packed_rows, packed_rows_more}
 use Rattle.t85_core.proofs.encoding.by_row.trial.Trial.code_rows.Goals as goal
 
 pub code-requires-clause-ready : goal.code-requires-clause-ready

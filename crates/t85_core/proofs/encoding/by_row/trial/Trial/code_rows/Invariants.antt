@@ -1,7 +1,8 @@
 use Rattle.std.proofs.Common.{◌≡◌, ◌≤◌, ◌+◌, ◌*◌}
 use Rattle.raster_core.specs.Window.{held}
-use Rattle.t85_core.specs.Steps.RowCalls.{HasRows}
-use Rattle.t85_core.specs.Steps.Trial.{CountsAsBefore, MayTry, TriesRows, packed_rows}
+use Rattle.t85_core.specs.Private.RowCalls.{HasRows}
+use Rattle.t85_core.specs.Private.Trial.{CountsAsBefore, MayTry, TriesRows}
+use Rattle.t85_core.specs.States.Trial.{packed_rows}
 use Rattle.t85_core.proofs.encoding.by_row.trial.Trial.code_rows.Given as goal
 
 abbrev pub invariant-loop-k : goal.invariant-loop-k

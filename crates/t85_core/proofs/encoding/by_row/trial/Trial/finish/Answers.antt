@@ -1,4 +1,4 @@
-use Rattle.t85_core.proofs.Encodings.Trials.{code_counted}
+use Rattle.t85_core.proofs.ImagesEncode.TrialCountsBytes.{code_counted}
 use Rattle.t85_core.proofs.encoding.by_row.trial.Trial.finish.Goals as goal
 
 pub returns-clause-bytes : goal.returns-clause-bytes

@@ -1,0 +1,9 @@
+pub mod StreamHasParts
+pub mod PrefixGivesRows
+pub mod StreamSplits
+pub mod PiecesGiveRows
+pub mod PixelsAreCoded
+pub mod StreamIsAccepted
+pub mod WritesJoin
+pub mod RoomSuffices
+pub mod NumbersAreKept

@@ -1,5 +1,0 @@
-use Rattle.t85.proofs.Entities.{has_entity}
-use Rattle.t85.proofs.decoder.rest.entity_len.Goals as goal
-
-pub returns-in-Some-clause-some : goal.returns-in-Some-clause-some
-returns-in-Some-clause-some c = has_entity c.args.bytes.now _ c.in-Some.ensures.some

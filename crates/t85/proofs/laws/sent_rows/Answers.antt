@@ -1,5 +1,0 @@
-use Rattle.t85.proofs.EncoderCalls.{sent_is_front}
-use Rattle.t85.proofs.laws.sent_rows.Goals as goal
-
-pub returns : goal.returns
-returns c = sent_is_front c.fronts.ensures

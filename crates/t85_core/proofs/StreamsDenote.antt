@@ -1,0 +1,20 @@
+-- The raster that a body denotes or the rows that it fixes, and the raster that the stream of a raster denotes.
+pub mod StateIsCarried
+pub mod StateIsLookedUp
+pub mod CodingsAgree
+pub mod CodeDecidesRow
+pub mod CodesDecideStripes
+pub mod CodeHasRow
+pub mod RowsAreBuilt
+pub mod RasterIsUnique
+pub mod BodyDenotesRaster
+pub mod ExamplesHold
+pub mod StreamLengthIsBounded
+pub mod LongestListIsDecided
+pub mod BodyFixesRows
+pub mod DecidedRowsStay
+pub mod OutcomeIsUnique
+pub mod StripesMakeBody
+pub mod HeaderIsWritten
+pub mod CodeDenotes
+pub mod CallsTakePieces

@@ -1,0 +1,26 @@
+-- Definitions that only serve the proofs: no contract of a public call cites one.
+pub mod CoderLaws
+pub mod Buffers
+pub mod Segments
+pub mod HeightWalk
+pub mod PartSteps
+pub mod Entity
+pub mod Views
+pub mod Cut
+pub mod DecodeRows
+pub mod DecodeStripes
+pub mod PieceCode
+pub mod Pieces
+pub mod StripeEnds
+pub mod InTime
+pub mod Reading
+pub mod Behind
+pub mod PieceSteps
+pub mod Feeds
+pub mod Written
+pub mod RowTurns
+pub mod RowSteps
+pub mod RowCalls
+pub mod Trial
+pub mod EncodeRows
+pub mod EncodeStripes

@@ -1,0 +1,22 @@
+-- The meaning of the state of an encoder or a decoder: contracts of public calls cite it.
+pub mod Passage
+pub mod Segments
+pub mod Views
+pub mod State
+pub mod Cut
+pub mod DecodeRows
+pub mod DecodeStripes
+pub mod PieceCode
+pub mod SizedImage
+pub mod Pieces
+pub mod Behind
+pub mod PieceStands
+pub mod Written
+pub mod Looked
+pub mod Sent
+pub mod RowStream
+pub mod ByRow
+pub mod RowLaws
+pub mod RowSteps
+pub mod RowCalls
+pub mod Trial

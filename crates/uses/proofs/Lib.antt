@@ -1,9 +1,0 @@
-pub mod EncodedParts
-pub mod FirstRows
-pub mod Headers
-pub mod PieceRows
-pub mod Pixels
-pub mod Whole
-pub mod Writes
-pub mod Rooms
-pub mod KeptCalls
