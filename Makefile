@@ -201,6 +201,7 @@ documents:
 	tools/clauses
 	tools/weights --check
 	tools/names
+	tools/private
 	tools/prose
 	tools/generate --check
 	tools/interface
