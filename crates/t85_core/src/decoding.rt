@@ -20,16 +20,16 @@ ghost use Rattle.t85_core.specs.Failures.{SameOutput};
 ghost use Rattle.t85_core.specs.declared.fault.Fault.{Fault};
 ghost use Rattle.t85_core.specs.declared.fault.Fault.TheVariants.{Truncated, Write};
 
+use crate::byte_source::HeldSource;
 use crate::fault::Fault;
 use crate::header::{Header, SizedImage};
-use crate::input_buffer::{HeldSource, InputBuffer, READ_AHEAD};
 use crate::laws::coder_laws;
 use crate::lent::Lent;
 use crate::output_buffer::{IMAGE_HELD, OutputBuffer};
 use crate::pieces::piece::Piece;
 use crate::pieces::walk::Walk;
 use crate::row_sink::RowSink;
-use devices::{Input, Output, WriteFault};
+use devices::{Buffered, Input, Output, WriteFault};
 use pbm_core::{Size, write_header};
 use qm_core::Learned;
 use raster_core::Window;
@@ -64,7 +64,7 @@ pub fn decode<R: Input, W: Output>(
         Ok(()) => {}
         Err(WriteFault) => return Err(Fault::Write),
     }
-    let mut stream: InputBuffer<'_, R, READ_AHEAD> = InputBuffer::new(input);
+    let mut stream = Buffered::new(input);
     let mut buffer: OutputBuffer<'_, W, IMAGE_HELD> = OutputBuffer::new(output);
     let outcome = decode_image(&image, window, &mut stream, &mut buffer);
     buffer.finish(outcome)

@@ -14,11 +14,11 @@ ghost use Rattle.t85_core.specs.Info.{IsWalkFault};
 ghost use Rattle.t85_core.specs.Private.HeightWalk.{SkipsParts, SkipFault, Sought, SkipsFault, LooksTo, LookEnds, LookOpen, Finds, FindsOpen, PassesRest, RestBreaks, search_place, search_end_of, segment_counts};
 ghost use Rattle.t85_core.specs.States.Segments.{IsByteOrMarker};
 
+use crate::byte_source::ByteSource;
 use crate::fault::Fault;
 use crate::header::Header;
-use crate::input_buffer::{ByteSource, InputBuffer, READ_AHEAD};
 use crate::segments::{Code, Element, Next, Place, next_element, read_segments, skip_code};
-use devices::Input;
+use devices::{Buffered, Input};
 
 /// The number of moves and comments skipped. Comments are counted up to 2^64 - 1.
 #[derive(Clone, Copy)]
@@ -54,7 +54,7 @@ pub fn find_height<R: Input>(header: &Header, input: &mut R) -> Result<u32, Faul
     if !header.is_variable() {
         return Ok(header.yd);
     }
-    let mut stream: InputBuffer<'_, R, READ_AHEAD> = InputBuffer::new(input);
+    let mut stream = Buffered::new(input);
     match find(header, &mut stream) {
         Ok(reached) => match reached.height {
             Some(height) => Ok(height),

@@ -1,13 +1,13 @@
 //! The stream layer of JBIG1 (ITU-T T.82) in the fax profile (ITU-T T.85): one plane, no differential layers.
 #![tactic(auto)]
 
+mod byte_source;
 mod conversion;
 mod decoding;
 mod encoding;
 mod fault;
 mod header;
 mod height;
-mod input_buffer;
 pub mod laws;
 mod lent;
 mod line;

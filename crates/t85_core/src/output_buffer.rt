@@ -141,11 +141,10 @@ impl<W: Output, const SIZE: usize> OutputBuffer<'_, W, SIZE> {
     fn hold(&mut self, bytes: &[u8]) -> Result<(), Fault>
         ensures { PutsBytes bytes.now (target_view self.old) (target_view self.new) result }
     {
-        let mut taken = 0;
+        // Most rows fit: then there is one test.
+        let mut taken = self.fill(bytes);
         while taken < bytes.len() {
-            if self.end == SIZE {
-                self.write_held()?;
-            }
+            self.write_held()?;
             taken += self.fill(&bytes[taken..]);
         }
         Ok(())

@@ -18,9 +18,9 @@ mod markers;
 
 pub use self::atmove::Move;
 pub use self::markers::{ATMOVE, COMMENT, ESCAPE, NEWLEN, SDNORM, SDRST, STUFF};
+use crate::byte_source::ByteSource;
 use crate::fault::Fault;
 use crate::header::Header;
-use crate::input_buffer::ByteSource;
 use crate::segments::length::read_length;
 use crate::segments::markers::ABORT;
 use byteorder::{BigEndian, ByteOrder};

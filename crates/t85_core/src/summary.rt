@@ -10,12 +10,12 @@ ghost use Rattle.t85_core.specs.Private.HeightWalk.{WhereFound, BodyNumbers, Bod
 ghost use Rattle.t85_core.specs.Private.Buffers.{ReadsOn};
 ghost use Rattle.t85_core.specs.Failures.{FlushesOutput};
 
+use crate::byte_source::ByteSource;
 use crate::fault::Fault;
 use crate::header::Header;
 use crate::height::{Passed, Reached, find, skip_stripes};
-use crate::input_buffer::{ByteSource, InputBuffer, READ_AHEAD};
 use crate::line::Line;
-use devices::{Input, Output};
+use devices::{Buffered, Input, Output};
 
 /// The facts about a stream: its header, the actual height, and what precedes its last stripe data entity.
 #[derive(Clone, Copy, Debug, PartialEq, Eq)]
@@ -44,7 +44,7 @@ pub fn summarize<R: Input>(input: &mut R) -> Result<Summary, Fault>
     ensures { Summarize (input_change R.view input.old input.new) result }
 {
     let header = Header::read(input)?;
-    let mut stream: InputBuffer<'_, R, READ_AHEAD> = InputBuffer::new(input);
+    let mut stream = Buffered::new(input);
     summarize_body(&header, &mut stream)
 }
 

@@ -32,6 +32,33 @@ fn what_came_is_held(rt: HostRuntime) {
     assert!(rt; held_after(1, 0, Some(1)) == (Err(DeviceFailed), 0, true, 7, 1));
 }
 
+/// The results of a call of `fill`, of the next byte and of two more calls, for five bytes, of which three arrive at
+/// once, and the number of bytes that are then buffered.
+fn filled(
+    failing: Option<u64>,
+) -> (
+    Result<usize, DeviceFailed>,
+    Option<u8>,
+    Result<usize, DeviceFailed>,
+    Result<usize, DeviceFailed>,
+    usize,
+) {
+    let mut reader = Pieces::new(b"abcde", 3, failing);
+    let mut input = Buffered::new(&mut reader);
+    let first = input.fill();
+    let byte = input.next_held();
+    let second = input.fill();
+    let third = input.fill();
+    (first, byte, second, third, input.held().len())
+}
+
+#[test]
+fn more_is_read_behind_what_is_held(rt: HostRuntime) {
+    assert!(rt; filled(None) == (Ok(3), Some(b'a'), Ok(2), Ok(0), 4));
+    // A read that failed leaves what is buffered.
+    assert!(rt; filled(Some(2)) == (Ok(3), Some(b'a'), Err(DeviceFailed), Ok(2), 4));
+}
+
 #[test]
 fn other_inputs_hold_nothing(rt: HostRuntime) {
     let mut input = Pieces::new(b"ab", 1, None);

@@ -22,11 +22,12 @@ use Rattle.t85_core.specs.States.SizedImage.{SizedImage}
 abbrev pub still_left : SourceView → List ℕ → ℕ
 still_left s held = s.left - length held
 
--- This many of the buffered bytes stay, the last ones, and the others were consumed.
+-- This many of the buffered bytes stay, the last ones, and the others were consumed. Nothing was read.
 pub record KeepsLast (old : SourceView) (held : List ℕ) (new : SourceView) (held' : List ℕ) (left : ℕ) : Type 0 where
   pub taken : (front back : List ℕ) → held ≡ front ++ back → length back ≡ left → (held' ≡ back) × Consumes old.known new.known front
   pub within : length held' ≤ left
   pub still : still_left new held' ≡ still_left old held
+  pub beyond : new.beyond ≡ old.beyond
   pub unfailed : new.failures ≡ old.failures
   pub same_source : new.source ≡ old.source
 

@@ -1,16 +1,16 @@
 -- The views of structs that contain a device.
-use Rattle.std.specs.Prelude.{ℕ, [], Some, Result, length, ◌≡◌, ◌≤◌, ◌+◌, ◌-◌, ◌++◌}
-use Rattle.std.specs.Io.KnownBytes.{prepend_known}
+use Rattle.std.specs.Prelude.{ℕ, [], Some, Result, length, ◌≡◌, ◌≤◌, ◌++◌}
 use Rattle.devices.specs.declared.device.Input as input_device
 use Rattle.devices.specs.declared.device.Output as device
-use Rattle.t85_core.specs.declared.input_buffer.InputBuffer.{InputBuffer}
+use Rattle.devices.specs.declared.buffered.Buffered.{Buffered}
+use Rattle.devices.specs.Buffered.{buffered_view, view_behind}
 use Rattle.t85_core.specs.declared.pieces.piece.Piece.{Piece}
 use Rattle.t85_core.specs.declared.pieces.piece.PieceCode.{PieceCode}
 use Rattle.t85_core.specs.declared.encoding.sink.EntitySink.{EntitySink}
 use Rattle.t85_core.specs.declared.output_buffer.OutputBuffer.{OutputBuffer}
 use Rattle.t85_core.specs.declared.fault.Fault.{Fault}
 use Rattle.t85_core.specs.Failures.{CountsWrite}
-use Rattle.t85_core.specs.RowSink.{TargetView, held_of, known_length}
+use Rattle.t85_core.specs.RowSink.{TargetView, known_length}
 use Rattle.t85_core.specs.Private.Buffers.{SourceView, SinkView}
 use Rattle.t85_core.specs.States.Passage.{Passage, passage}
 use Rattle.t85_core.specs.Private.Entity.{EntityView}
@@ -28,13 +28,13 @@ piece_source s = record {
 }
 
 -- a buffer as a source
-abbrev pub buffer_source : {R : Type 0} {N : ℕ} {G : input_device.Ghosts R} → InputBuffer R N G → SourceView
-buffer_source {R} {N} {G} s = record {
-  known = prepend_known (held_of s.bytes s.at s.end) (G.view s.input.now).remaining;
-  beyond = (G.view s.input.now).remaining;
-  left = (s.end - s.at) + (G.view s.input.now).left;
-  failures = (G.view s.input.now).failures;
-  source = s.input.ghost_name;
+abbrev pub buffer_source : {R : Type 0} {G : input_device.Ghosts R} → Buffered R G → SourceView
+buffer_source s = record {
+  known = (buffered_view s).remaining;
+  beyond = (view_behind s).remaining;
+  left = (buffered_view s).left;
+  failures = (buffered_view s).failures;
+  source = (buffered_view s).source;
 }
 
 -- a code of which a piece arrived

@@ -7,8 +7,8 @@ ghost use Rattle.t85_core.specs.declared.segments.Code.TheVariants as code;
 ghost use Rattle.t85_core.specs.Private.Entity.{CodeEnds};
 ghost use Rattle.t85_core.specs.States.Segments.{IsByteOrMarker, code_bytes};
 
+use crate::byte_source::{ByteSource, HeldSource, plain_len};
 use crate::fault::Fault;
-use crate::input_buffer::{ByteSource, HeldSource, plain_len};
 use crate::segments::{Code, ESCAPE, next_code};
 use qm_core::{CodeBytes, Pulled};
 

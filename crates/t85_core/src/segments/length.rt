@@ -10,9 +10,9 @@ ghost use Rattle.t85_core.specs.Failures.{Ends};
 ghost use Rattle.t85_core.specs.Grammar.{NewLength, is_valid_length, IsLegal};
 ghost use Rattle.t85_core.specs.Private.Segments.{LengthFault};
 
+use crate::byte_source::ByteSource;
 use crate::fault::Fault;
 use crate::header::Header;
-use crate::input_buffer::ByteSource;
 use crate::segments::{Place, number};
 
 /// Reads what follows the two bytes of a NEWLEN, and checks that it is valid at this position and that there was no

@@ -61,7 +61,7 @@ returns-in-Ok g c =
       turn = rows_one (fields_of c.args.image.now.header) c.args.image.now.height (first g went) (here g went) (there g went)
           (g.S.HeldSource.view c.args.stream.now) (g.S.HeldSource.view c.turns.stream) (g.S.HeldSource.view c.keep.new.self) (on g went) (g.S.HeldSource.bytes c.keep.new.self) c.in-Ok.is_row c.from.result (c.from.ensures ∙ byte_of c.in-Ok.is_row)
           (subst (HeldTurn _ _ _ _ _) c.in-Ok.is (turned g went (g.S.HeldSource.view c.keep.new.self) (g.S.HeldSource.bytes c.keep.new.self) _
-          (record { taken = k.taken; within = k.within; still = k.still; unfailed = k.unfailed; same_source = k.same_source }) (λ _. refl)
+          (record { taken = k.taken; within = k.within; still = k.still; beyond = k.beyond; unfailed = k.unfailed; same_source = k.same_source }) (λ _. refl)
           (λ f e other. absurd (let same : ◌≡◌ {A = Result Bool Fault} (Ok c.in-Ok.is_row) (Err f) = sym c.in-Ok.is ∙ e in let bot : ⊥ = cc in bot))))
           c.in-Ok.ensures.code (k.unfailed ∙ c.turns.invariant.unfailed) (k.same_source ∙ c.turns.invariant.same_source);
     }
@@ -72,7 +72,7 @@ turns-preserved g c =
     let k = c.keep-in-Truncated.ensures in
     let cut : c.next-answer.result ≡ Err Truncated = c.in-Err.is ∙ ap Err c.in-Truncated.is in
     let waits = (turned g went (g.S.HeldSource.view c.keep-in-Truncated.new.self) (g.S.HeldSource.bytes c.keep-in-Truncated.new.self) _
-    (record { taken = k.taken; within = k.within; still = k.still; unfailed = k.unfailed; same_source = k.same_source }) (λ _. refl)
+    (record { taken = k.taken; within = k.within; still = k.still; beyond = k.beyond; unfailed = k.unfailed; same_source = k.same_source }) (λ _. refl)
     (λ f e other. absurd (other (let same : ◌≡◌ {A = Result Bool Fault} (Err Truncated) (Err f) = sym cut ∙ e in cc)))).waits (subst (λ r. IsErrOf r Truncated) (sym cut) refl) in
     record {
       on = reads_then (fields_of c.args.image.now.header) c.args.image.now.height (first g went) (here g went) (g.S.HeldSource.view c.args.stream.now).known
@@ -90,7 +90,7 @@ returns-in_err-refill-in-Truncated g c =
     let k = c.keep-in-Truncated.ensures in
     let cut : c.next-answer.result ≡ Err Truncated = c.in-Err.is ∙ ap Err c.in-Truncated.is in
     let waits = (turned g went (g.S.HeldSource.view c.keep-in-Truncated.new.self) (g.S.HeldSource.bytes c.keep-in-Truncated.new.self) _
-    (record { taken = k.taken; within = k.within; still = k.still; unfailed = k.unfailed; same_source = k.same_source }) (λ _. refl)
+    (record { taken = k.taken; within = k.within; still = k.still; beyond = k.beyond; unfailed = k.unfailed; same_source = k.same_source }) (λ _. refl)
     (λ f e other. absurd (other (let same : ◌≡◌ {A = Result Bool Fault} (Err Truncated) (Err f) = sym cut ∙ e in cc)))).waits (subst (λ r. IsErrOf r Truncated) (sym cut) refl) in
     record {
       turn = rows_unread (fields_of c.args.image.now.header) c.args.image.now.height (first g went) (here g went) (there g went)
@@ -107,7 +107,7 @@ returns-in_default g c =
       turn = rows_off (fields_of c.args.image.now.header) c.args.image.now.height (first g went) (here g went) (there g went)
           (g.S.HeldSource.view c.args.stream.now) (g.S.HeldSource.view c.turns.stream) (g.S.HeldSource.view c.keep-in_default.new.self) (on g went) (g.S.HeldSource.bytes c.keep-in_default.new.self) c.in-Err.fault
           (subst (HeldTurn _ _ _ _ _) c.in-Err.is (turned g went (g.S.HeldSource.view c.keep-in_default.new.self) (g.S.HeldSource.bytes c.keep-in_default.new.self) 0
-          (record { taken = k.taken; within = k.within; still = k.still; unfailed = k.unfailed; same_source = k.same_source })
+          (record { taken = k.taken; within = k.within; still = k.still; beyond = k.beyond; unfailed = k.unfailed; same_source = k.same_source })
           (λ is. absurd (c.in_default.not-Truncated (subst (λ r. IfErr r (λ f. f ≡ Truncated)) c.in-Err.is is))) (λ _ _ _. refl)))
           c.in_default.not-Truncated (k.unfailed ∙ c.turns.invariant.unfailed) (k.same_source ∙ c.turns.invariant.same_source);
     }

@@ -5,8 +5,8 @@ ghost use Rattle.t85_core.specs.declared.segments.Code.TheVariants as code;
 ghost use Rattle.t85_core.specs.declared.fault.Fault.TheVariants.{Truncated};
 ghost use Rattle.t85_core.specs.Private.PieceCode.{FindsMarker, MissesMarker, KeepsCode, SkipsSome, SkipBreaks};
 
+use crate::byte_source::ByteSource;
 use crate::fault::Fault;
-use crate::input_buffer::ByteSource;
 use crate::pieces::piece::{Piece, whole_code};
 use crate::segments::Code;
 

@@ -1,7 +1,7 @@
-use Rattle.std.proofs.Common.{◌≡◌, ◌≤◌, ◌+◌, ◌-◌, ℕ, List, drop, refl, sym, length-take, arith}
+use Rattle.std.proofs.Common.{◌≡◌, ◌≤◌, ◌+◌, ◌-◌, ℕ, List, length, drop, refl, ap, length-take, arith}
 use Rattle.std.specs.Io.KnownBytes.{Keeps, IsAtEnd, prepend_known}
 use Rattle.devices.specs.Buffered.{bytes_between, view_behind}
-use Rattle.devices.proofs.DeviceHoldsBytes.{Keeps-same, Keeps-consumes, keeps_refilled, none_held, some_taken, copied, at_end_unheld}
+use Rattle.devices.proofs.DeviceHoldsBytes.{Keeps-same, Keeps-consumes, none_held, none_came, some_taken, copied, end_behind, at_end_unheld}
 use Rattle.devices.proofs.buffered.BufferedInput.read.Goals as goal
 use Rattle.devices.proofs.buffered.BufferedInput.read.Goals.{then-self+in-Ok, else-self}
 
@@ -14,19 +14,17 @@ returns g c =
     let count : ℕ = c.min-count.result in
     let behind = g.R.Input.view c.if-self.self.input.now in
     let kept : Keeps (prepend_known (bytes_between old.bytes old.at old.end) (view_behind old).remaining) (prepend_known (bytes_between bytes at end) behind.remaining) =
-    elim c.if-self.branch [
-      | then-self+in-Ok w ↦ rw w.self-is (keeps_refilled _ _ _ _ _ (none_held _ _ _ w.if-self.true) w.in-Ok.ensures.bytes.0)
-      | else-self w ↦ rw w.self-is (Keeps-same _)
-    ] in
+    elim c.if-self.branch [ then-self+in-Ok w ↦ rw w.self-is w.fill.ensures.bytes | else-self w ↦ rw w.self-is (Keeps-same _) ] in
     let left : (end - at) + behind.left ≡ (old.end - old.at) + (view_behind old).left =
-    elim c.if-self.branch [ then-self+in-Ok w ↦ rw w.self-is (omega (arith, w.if-self.true, w.in-Ok.ensures.left)) | else-self w ↦ rw w.self-is refl ] in
+    elim c.if-self.branch [ then-self+in-Ok w ↦ rw w.self-is w.fill.ensures.left | else-self w ↦ rw w.self-is refl ] in
     let failures : behind.failures ≡ (view_behind old).failures =
     elim c.if-self.branch [ then-self+in-Ok w ↦ rw w.self-is w.in-Ok.ensures.failures | else-self w ↦ rw w.self-is refl ] in
     let same_source : c.if-self.self.input.ghost_name ≡ old.input.ghost_name =
-    elim c.if-self.branch [ then-self+in-Ok w ↦ rw w.self-is refl | else-self w ↦ rw w.self-is refl ] in
+    elim c.if-self.branch [ then-self+in-Ok w ↦ rw w.self-is w.fill.ensures.same_source | else-self w ↦ rw w.self-is refl ] in
     let last : at ≡ end → IsAtEnd behind.remaining =
     elim c.if-self.branch [
-      | then-self+in-Ok w ↦ rw w.self-is (λ e. w.in-Ok.ensures.bytes.1 (sym e) (omega (arith, w.read.auto.buf)))
+      | then-self+in-Ok w ↦ rw w.self-is (λ e. end_behind _ _ (w.in-Ok.ensures.at_end (none_came _ _ (none_held _ _ _ e) w.in-Ok.ensures.held)
+          (omega (arith, ap length (none_held old.bytes _ _ w.if-self.true)))))
       | else-self w ↦ rw w.self-is (λ e. absurd (w.if-self.false e))
     ] in
     let fits : at + count ≤ end = omega (arith, c.min-count.ensures) in

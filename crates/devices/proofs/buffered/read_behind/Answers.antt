@@ -1,5 +1,5 @@
-use Rattle.t85_core.proofs.BytesJoin.InputHoldsBytes.{behind_read}
-use Rattle.t85_core.proofs.input_buffer.read_behind.Goals as goal
+use Rattle.devices.proofs.DeviceHoldsBytes.{behind_read}
+use Rattle.devices.proofs.buffered.read_behind.Goals as goal
 
 pub returns-clause-ok : goal.returns-clause-ok
 returns-clause-ok g c =
