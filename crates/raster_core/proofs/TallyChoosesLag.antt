@@ -1,11 +1,13 @@
 -- The counts of a tally, modulo 2^64 and for rows whose counts stay below it, and the lag that it chooses.
-use Rattle.std.proofs.Common.{◌≡◌, ℕ, ◌+◌, ◌-◌, ◌*◌, ◌%◌, ◌^◌, ◌<◌, ◌≤◌, Bool, true, false, List, [], ◌∷◌, ◌++◌, length, refl, sym, ◌∙◌, ap, subst, arith, get_or, replicate, inl, inr, Some, None}
+use Rattle.std.proofs.Common.{◌≡◌, ℕ, zero, suc, ◌+◌, ◌-◌, ◌*◌, ◌%◌, ◌^◌, ◌<◌, ◌≤◌, Bool, true, false, List, [], ◌∷◌, ◌++◌, length, length-append, refl, sym, ◌∙◌, ap, subst, arith, get_or, replicate, inl, inr, Some, None}
 use Rattle.std.proofs.Math.Nat.{add-mul, mul-le-mul_right}
 use Rattle.std.specs.Prelude.{◌/◌, nat_lt, if◌then◌else◌}
 use Rattle.std.specs.List.{AllByRecursion}
 use Rattle.std.proofs.lemmas.Bool.{cases_lt}
 use Rattle.std.proofs.lemmas.Nat.{mul-mod_first}
-use Rattle.std.proofs.lemmas.List.Sums.{count_by-le-length, sum_by-cons}
+use Rattle.std.proofs.lemmas.List.{length-replicate}
+use Rattle.std.proofs.lemmas.List.Folds.{sum_by-replicate}
+use Rattle.std.proofs.lemmas.List.Sums.{count_by-le-length, sum_by-append, sum_by-cons}
 use Rattle.qm_core.specs.Place.{same}
 use Rattle.raster_core.specs.Raster.{pixel_at}
 use Rattle.raster_core.specs.Lines.{Lines, adaptive, numbers_from}
@@ -15,7 +17,7 @@ use Rattle.raster_core.specs.declared.tally.Tally.{Tally}
 use Rattle.raster_core.proofs.BestIsFound.{zeros, best_is}
 use Rattle.raster_core.proofs.RegistersTakeBytes.{length-numbers}
 use Rattle.raster_core.proofs.CountsAdd.{count_same}
-use Rattle.raster_core.proofs.WordsAgree.{is_lt, adaptive_left, agreement_push, all_push, length_push}
+use Rattle.raster_core.proofs.WordsAgree.{is_lt, adaptive_left}
 
 -- ---- no rows
 
@@ -27,16 +29,19 @@ none_counted t width current no_rows none_agreeing no_times no_counts kept =
     let none : (lag : ℕ) → counted_at t lag ≡ 0 = λ lag. none_at (get_or t.counts lag 0) t.times (get_or t.last.agreed lag 0) (rw no_counts (zeros 128 lag)) no_times in
     record { number = no_rows; width_is = λ h. absurd (omega arith); wide = tt; none = λ _. none; each = λ lag _ _. none lag; agreeing = none_agreeing; kept = kept }
 
--- ---- a row more
+-- ---- a row more, several times
 
--- the last row once more
-pub once_more : (c t g : ℕ) → (c + (t + 1) % 2 ^ 64 * g) % 2 ^ 64 ≡ ((c + t * g) % 2 ^ 64 + g) % 2 ^ 64
-once_more c t g =
-    let sum = add-mul t 1 g in
-    folded ((t + 1) % 2 ^ 64 * g) (t * g) (rw (mul-mod_first (t + 1) g (2 ^ 64), sum) refl)
+-- the last row n times more
+pub more_times : (c t n g : ℕ) → (c + (t + n) % 2 ^ 64 * g) % 2 ^ 64 ≡ ((c + t * g) % 2 ^ 64 + n * g) % 2 ^ 64
+more_times c t n g =
+    let sum = add-mul t n g in
+    folded ((t + n) % 2 ^ 64 * g) (t * g) (n * g) (rw (mul-mod_first (t + n) g (2 ^ 64), sum) refl)
   where
-    folded : (x y : ℕ) → x % 2 ^ 64 ≡ (y + 1 * g) % 2 ^ 64 → (c + x) % 2 ^ 64 ≡ ((c + y) % 2 ^ 64 + g) % 2 ^ 64
-    folded x y e = omega arith
+    folded : (x y z : ℕ) → x % 2 ^ 64 ≡ (y + z) % 2 ^ 64 → (c + x) % 2 ^ 64 ≡ ((c + y) % 2 ^ 64 + z) % 2 ^ 64
+    folded x y z e = omega arith
+
+pub added_times : (a x : ℕ) → (a + x % 2 ^ 64) % 2 ^ 64 ≡ (a + x) % 2 ^ 64
+added_times a x = omega arith
 
 -- a row agrees at no more pixels than it has
 rows_small : (rows : List Lines) (width lag : ℕ) → AllByRecursion (λ lines. length lines.row ≡ width) rows → agreement rows lag ≤ length rows * width
@@ -47,12 +52,21 @@ rows_small (r ∷ rows) width lag wide =
     let product : length (r ∷ rows) * width ≡ length rows * width + 1 * width = rw one (add-mul (length rows) 1 width) in
     omega (arith, sum_by-cons (agreements lag) r rows, product, most, length-numbers 0 (length r.row), wide.0, rows_small rows width lag wide.1)
 
-pub row_more : (rows : List Lines) (lines : Lines) (width lag : ℕ) → AllByRecursion (λ l. length l.row ≡ width) rows → length lines.row ≡ width → length rows + 1 < 2 ^ 32 → width < 2 ^ 32 →
-    (agreement rows lag + agreements lag lines) % 2 ^ 64 ≡ agreement (rows ++ lines ∷ []) lag
-row_more rows lines width lag wide long few narrow =
-    let most = rows_small (rows ++ lines ∷ []) width lag (all_push (λ l. length l.row ≡ width) rows lines wide long) in
-    let up : length (rows ++ lines ∷ []) * width ≤ (2 ^ 32 - 1) * width = mul-le-mul_right width (omega (arith, few, length_push rows lines)) in
-    omega (arith, agreement_push rows lines lag, most, up, narrow)
+pub length_again : (rows : List Lines) (n : ℕ) (lines : Lines) → length (rows ++ replicate n lines) ≡ length rows + n
+length_again rows n lines = rw (length-append, length-replicate) refl
+
+pub all_again : (P : Lines → Type 0) (rows : List Lines) (n : ℕ) (lines : Lines) → AllByRecursion P rows → P lines → AllByRecursion P (rows ++ replicate n lines)
+all_again P [] zero lines h p = tt
+all_again P [] (suc n) lines h p = (p, all_again P [] n lines h p)
+all_again P (r ∷ rows) n lines h p = (h.0, all_again P rows n lines h.1 p)
+
+pub rows_more : (rows : List Lines) (n : ℕ) (lines : Lines) (width lag : ℕ) → AllByRecursion (λ l. length l.row ≡ width) rows → length lines.row ≡ width → length rows + n < 2 ^ 32 → width < 2 ^ 32 →
+    (agreement rows lag + n * agreements lag lines) % 2 ^ 64 ≡ agreement (rows ++ replicate n lines) lag
+rows_more rows n lines width lag wide long few narrow =
+    let most = rows_small (rows ++ replicate n lines) width lag (all_again (λ l. length l.row ≡ width) rows n lines wide long) in
+    let up : length (rows ++ replicate n lines) * width ≤ (2 ^ 32 - 1) * width = mul-le-mul_right width (omega (arith, few, length_again rows n lines)) in
+    let sum : agreement (rows ++ replicate n lines) lag ≡ agreement rows lag + n * agreements lag lines = rw (sum_by-append, sum_by-replicate) refl in
+    omega (arith, sum, most, up, narrow)
 
 -- ---- lags beyond the width, at which no pixel has one to its left
 

@@ -124,6 +124,11 @@ pub record RowDecoded {S : Type 0} (old : SourceAt S) (task : RowTask) (left : R
 abbrev pub again_event : Shape → Event
 again_event shape = pseudo_event (shape_mode shape) true true
 
+-- After a typical row, `count` typical rows were encoded. If the sink refused a byte, it did so at the event of one of them.
+pub record RowsEncodedAgain {S : Type 0} (old : SinkAt S) (shape : Shape) (s : State) (count : ℕ) (new : EncoderState S) (result : Result (Unit {0}) CoderFault) : Type 0 where
+  pub ok : OnOk result (Encodes old s (replicate count (again_event shape)) new)
+  pub err : OnErr result (FailsIn old s (replicate count (again_event shape)) new.out)
+
 -- After a typical row, `count` typical rows were decoded in one step, with no context adapted and no byte pulled.
 pub record RowsSkipped (shape : Shape) (kept : Kept) (s : State) (answers : List Pulled) (count : ℕ) (d : Decoder) : Type 0 where
   pub typical : shape.typical ≡ true

@@ -1,14 +1,14 @@
 //! Encodes a row.
 
-ghost use Rattle.std.specs.Prelude.{◌≡◌, ℕ, ◌+◌, ◌≤◌, List, IsTrue, OnOk, false};
+ghost use Rattle.std.specs.Prelude.{◌≡◌, ℕ, ◌+◌, ◌≤◌, List, IsTrue, OnOk, false, true, replicate};
 ghost use Rattle.qm_core.specs.Encoder.{EncoderIsAt, FailsOnce, event_count, has_failed, encoder_state};
 ghost use Rattle.qm_core.specs.Place.{Place, state_of};
 ghost use Rattle.raster_core.specs.Machine.Places.{MayCodeRow};
 ghost use Rattle.raster_core.specs.Lines.{Lines, may_be_typical};
 ghost use Rattle.raster_core.specs.Packed.{HasLines};
-ghost use Rattle.qm_core.specs.Puts.{HasRoom, Puts};
+ghost use Rattle.qm_core.specs.Puts.{HasRoom, IsUnchanged, Puts, failed_answer};
 ghost use Rattle.qm_core.specs.Sink.{sink_at};
-ghost use Rattle.raster_core.specs.Row.{RowEncoded, row_task};
+ghost use Rattle.raster_core.specs.Row.{RowEncoded, RowsEncodedAgain, again_event, row_task};
 ghost use Rattle.raster_core.specs.Window.{shape_mode, held};
 ghost use Rattle.raster_core.specs.Machine.Rows.{coded_events, flag_events, held_in};
 
@@ -126,4 +126,56 @@ pub fn encode_row<W: CodeSink>(
     )?;
     kept.previous_typical = flag;
     Ok(())
+}
+
+/// Encodes the SLNTP pseudo-pixels of the given number of typical rows, which follow a typical row.
+#[inline(always)]
+fn encode_flags<W: CodeSink>(
+    shape: Shape,
+    count: u32,
+    coder: &mut Coder<'_, W>,
+) -> Result<(), CoderFault>
+    requires { HasRoom count coder.old }
+    ensures puts { Puts W.CodeSink (replicate count (again_event shape)) coder.old coder.new result }
+    ensures none { count ≡ 0 → IsUnchanged coder.old coder.new }
+{
+    let cx = flag_context(shape.two_line);
+    for _row in 0..count {
+        coder.put(cx, true)?;
+    }
+    Ok(())
+}
+
+/// Encodes the given number of rows, each of which equals the row above it, under typical prediction and after another
+/// such row: `kept` is the state kept from that row, and remains so.
+///
+/// After an error, the context states are unspecified, and the encoder has failed.
+pub fn encode_again<W: CodeSink>(
+    shape: Shape,
+    kept: Kept,
+    count: u32,
+    learned: &mut Learned,
+    encoder: &mut Encoder,
+    out: &mut W,
+) -> Result<(), CoderFault>
+    requires events { event_count encoder.old + count ≤ MAX_EVENTS }
+    ensures fails { has_failed encoder.old ≡ false →
+        FailsOnce W.failed encoder.old encoder.new out.old out.new result }
+    ensures stuck { IsTrue (has_failed encoder.old) →
+        (result ≡ failed_answer (replicate count (again_event shape))) ×
+        (encoder.new ≡ encoder.old) × (learned.new ≡ learned.old) × (out.new ≡ out.old) }
+    ensures none { count ≡ 0 →
+        (encoder.new ≡ encoder.old) × (learned.new ≡ learned.old) × (out.new ≡ out.old) }
+    ensures events { OnOk result (event_count encoder.new ≤ event_count encoder.old + count) }
+    ensures rows { (p : Place) (pushed : List ℕ) → shape.typical ≡ true →
+        kept.previous_typical ≡ true → has_failed encoder.old ≡ false →
+        EncoderIsAt encoder.old p pushed → RowsEncodedAgain (sink_at W.CodeSink out.old pushed)
+        shape (state_of p learned.old) count (encoder_state out.new encoder.new learned.new) result }
+{
+    let mut coder = Coder {
+        learned,
+        encoder,
+        out,
+    };
+    encode_flags(shape, count, &mut coder)
 }

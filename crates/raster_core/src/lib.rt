@@ -25,7 +25,7 @@ mod words;
 
 pub use choice::Choice;
 pub use decode::{decode_row, go_on_row, skip_rows};
-pub use encode::encode_row;
+pub use encode::{encode_again, encode_row};
 pub use place::{RowPlace, RowPlaceNumbers};
 pub use shape::{Kept, Shape};
 pub use tally::Tally;

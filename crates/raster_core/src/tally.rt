@@ -25,7 +25,7 @@ pub struct Tally {
 }
 
 impl Tally {
-    ghost use Rattle.std.specs.Prelude.{ℕ, ◌+◌, ◌^◌, ◌≡◌, ◌≤◌, ◌<◌, ◌-◌, [], ◌∷◌, ◌++◌, List, IfSome, length, take};
+    ghost use Rattle.std.specs.Prelude.{ℕ, ◌+◌, ◌^◌, ◌≡◌, ◌≤◌, ◌<◌, ◌-◌, [], ◌∷◌, ◌++◌, List, IfSome, length, replicate, take};
     ghost use Rattle.raster_core.specs.Tally.{CountsLines, CountsAlike, CountsRow, KeepsCounts, counted_at, is_two_line, last_lag, least_lag, most_of, row_count};
     ghost use Rattle.raster_core.specs.Lines.{Lines};
     ghost use Rattle.raster_core.specs.Offset.{best_offset, candidates, chosen_offset};
@@ -69,7 +69,6 @@ impl Tally {
 
     /// Counts the current row of a window, typical or not, which was coded with the adaptive pixel at this offset.
     /// Between two restarts, width and offset must stay the same, and there must be fewer than 2^32 rows.
-    #[inline(never)]
     pub fn add_row(&mut self, window: &Window, offset: u8)
         requires offset { offset ≤ 127 }
         ensures counts { (rows : List Lines) (lines : Lines) → length rows < 2 ^ 32 - 1 →
@@ -81,6 +80,27 @@ impl Tally {
         ensures two_line { is_two_line self.new ≡ is_two_line self.old }
         ensures most { most_of self.new ≡ most_of self.old }
     {
+        self.add_rows(window, offset, 1);
+    }
+
+    /// Counts the current row of a window the given number of times, as that many rows of which each has these pixels and
+    /// the window's row above. The conditions are those of `add_row`.
+    #[inline(never)]
+    pub fn add_rows(&mut self, window: &Window, offset: u8, count: u32)
+        requires offset { offset ≤ 127 }
+        ensures counts { (rows : List Lines) (lines : Lines) → length rows + count < 2 ^ 32 →
+            CountsLines self.old (width_of window.now) offset rows →
+            HasLines (rows_held window.now) lines →
+            CountsLines self.new (width_of window.now) offset (rows ++ replicate count lines) }
+        ensures rows { row_count self.old + count < 2 ^ 32 → row_count self.new ≡
+            row_count self.old + count }
+        ensures two_line { is_two_line self.new ≡ is_two_line self.old }
+        ensures most { most_of self.new ≡ most_of self.old }
+    {
+        if count == 0 {
+            return;
+        }
+        let times = u64::from(count);
         let width = window.width();
         let least = self.least_lag();
         let most = self.last_lag(width);
@@ -88,10 +108,10 @@ impl Tally {
         let above = window.row(1);
         self.count_row(row, width, least, most);
         let agreeing = self.last.agreeing(row, above, offset);
-        self.agreeing = self.agreeing.wrapping_add(agreeing);
-        self.times = self.times.wrapping_add(1);
+        self.agreeing = self.agreeing.wrapping_add(times.wrapping_mul(agreeing));
+        self.times = self.times.wrapping_add(times);
         self.width = width;
-        self.rows = self.rows.wrapping_add(1);
+        self.rows = self.rows.wrapping_add(count);
     }
 
     /// Counts a row at the lags from `least` to `most`; if it equals the last row, only records that its counts must be
