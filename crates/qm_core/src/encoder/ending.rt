@@ -1,15 +1,16 @@
 //! Ends a code.
 
-ghost use Rattle.std.specs.Prelude.{◌≡◌, ◌+◌, ◌-◌, ◌*◌, ◌^◌, ◌≤◌, ◌<◌, List, ℕ, false, Err, Ok, IsErr, OnOk, OnErr};
+ghost use Rattle.std.specs.Prelude.{◌≡◌, ◌+◌, ◌-◌, ◌*◌, ◌^◌, ◌≤◌, ◌<◌, List, ℕ, [], false, Err, Ok, IsErr, OnOk, OnErr};
 ghost use Rattle.qm_core.specs.Counts.{one_more};
-ghost use Rattle.qm_core.specs.Place.{Place, same};
+ghost use Rattle.qm_core.specs.Place.{Place, same, start};
 
+use crate::batch::Tail;
 use crate::encoder::{CoderFault, Encoder, FAILED, byte_out, write_both};
 use crate::sink::CodeSink;
 
 impl Encoder {
     ghost use Rattle.qm_core.specs.Counts.{one_more};
-    ghost use Rattle.qm_core.specs.Encoder.{has_failed, EncoderIsAt, EndsOnce, FailsOnce, Goes, Finish};
+    ghost use Rattle.qm_core.specs.Encoder.{has_failed, event_count, EncoderIsAt, EndsOnce, FailsOnce, Goes, Finish};
     ghost use Rattle.qm_core.specs.Sink.{sink_at};
 
     /// Pushes final bytes until fewer than 24 bits remain.
@@ -36,27 +37,60 @@ impl Encoder {
         if self.floor == FAILED {
             return Err(CoderFault::Failed);
         }
+        self.end(out)
+    }
+
+    /// Ends the code as `finish` does, and begins another: the encoder is then as `Encoder::start` returns it.
+    ///
+    /// After an error it has failed.
+    pub fn restart<W: CodeSink>(&mut self, out: &mut W) -> Result<(), CoderFault>
+        ensures fails { FailsOnce W.failed self.old self.new out.old out.new result }
+        ensures code { (p : Place) (pushed : List ℕ) → has_failed self.old ≡ false → EncoderIsAt
+            self.old p pushed → Finish (sink_at W.CodeSink out.old pushed) p out.new result }
+        ensures codes { OnOk result (EncoderIsAt self.new start []) }
+        ensures events { OnOk result (event_count self.new ≡ 0) }
+    {
+        if self.floor == FAILED {
+            return Err(CoderFault::Failed);
+        }
+        let ended = self.end(out);
+        if ended.is_err() {
+            self.floor = FAILED;
+            return ended;
+        }
+        *self = Encoder::start();
+        ended
+    }
+
+    /// Ends the code. The encoder is then of no use.
+    #[inline(always)]
+    fn end<W: CodeSink>(&mut self, out: &mut W) -> Result<(), CoderFault>
+        requires going { has_failed self.old ≡ false }
+        ensures fault { IsErr result → result ≡ Err CoderFault.Write }
+        ensures same { OnOk result (W.failed out.new ≡ W.failed out.old) }
+        ensures counted { OnErr result (W.failed out.new ≡ one_more (W.failed out.old)) }
+        ensures code { (p : Place) (pushed : List ℕ) → EncoderIsAt self.old p pushed →
+            Finish (sink_at W.CodeSink out.old pushed) p out.new result }
+    {
         self.shorten(out)?;
         self.finish_short(out)
     }
 
     /// Ends the code when fewer than 24 bits remain.
-    fn finish_short<W: CodeSink>(self, out: &mut W) -> Result<(), CoderFault>
-        requires short { self.bits ≤ 23 }
+    fn finish_short<W: CodeSink>(&self, out: &mut W) -> Result<(), CoderFault>
+        requires short { self.now.bits ≤ 23 }
         ensures fault { IsErr result → result ≡ Err CoderFault.Write }
         ensures same { OnOk result (W.failed out.new ≡ W.failed out.old) }
         ensures counted { OnErr result (W.failed out.new ≡ one_more (W.failed out.old)) }
-        ensures code { (p : Place) (pushed : List ℕ) → EncoderIsAt self p pushed →
+        ensures code { (p : Place) (pushed : List ℕ) → EncoderIsAt self.now p pushed →
             Finish (sink_at W.CodeSink out.old pushed) p out.new result }
     {
-        let Encoder {
-            low,
-            span,
-            bits,
-            mut tail,
-            ..
-        } = self;
-        let value = chosen(low, span) << (24 - bits);
+        let mut tail = Tail {
+            zeros: self.tail.zeros,
+            held: self.tail.held,
+            ones: self.tail.ones,
+        };
+        let value = chosen(self.low, self.span) << (24 - self.bits);
         let first = byte_out(&mut tail, value, 128, 24);
         let second = byte_out(&mut tail, first.low << 8, 128, 24);
         let third = byte_out(&mut tail, second.low << 8, 128, 24);

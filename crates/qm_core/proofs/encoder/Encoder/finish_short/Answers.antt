@@ -12,35 +12,35 @@ use Rattle.qm_core.proofs.encoder.Encoder.finish_short.Goals.{After-settle-rest}
 
 pub byte_out-first-requires-clause-room : goal.byte_out-first-requires-clause-room
 byte_out-first-requires-clause-room g c =
-    let chosen : IsChosen (record { low = c.args.self.low; size = c.args.self.span; doublings = 0 }) c.chosen.result =
+    let chosen : IsChosen (record { low = c.args.self.now.low; size = c.args.self.now.span; doublings = 0 }) c.chosen.result =
     record { from = c.chosen.ensures.from; below = c.chosen.ensures.below; most_even = c.chosen.ensures.most_even } in
-    let even = whole_128 c.args.self.large chosen in
-    let r = value_room c.chosen.result c.args.self.bits 8 c.requires.short (omega arith) (omega arith) even in (
-      rw (value_whole c.chosen.result c.args.self.bits 8 (omega arith) r) r,
+    let even = whole_128 c.args.self.now.large chosen in
+    let r = value_room c.chosen.result c.args.self.now.bits 8 c.requires.short (omega arith) (omega arith) even in (
+      rw (value_whole c.chosen.result c.args.self.now.bits 8 (omega arith) r) r,
       λ none.
-          let half = value_room c.chosen.result c.args.self.bits 7 c.requires.short (omega arith) (omega (arith, c.args.self.fixed none)) even in
-          rw (value_whole c.chosen.result c.args.self.bits 7 (omega arith) half) half,
+          let half = value_room c.chosen.result c.args.self.now.bits 7 c.requires.short (omega arith) (omega (arith, c.args.self.now.fixed none)) even in
+          rw (value_whole c.chosen.result c.args.self.now.bits 7 (omega arith) half) half,
     )
 
 -- the bytes that are written end the code
-ended : (g : given.Over) (c : After-settle-rest g) (p : Place) (pushed : List ℕ) → EncoderIsAt c.args.self p pushed →
+ended : (g : given.Over) (c : After-settle-rest g) (p : Place) (pushed : List ℕ) → EncoderIsAt c.args.self.now p pushed →
     Ended p pushed (stuffed (batch_bytes c.byte_out-first.result.batch ++ batch_bytes c.byte_out-second.result.batch) ++ stuffed
     (batch_bytes c.byte_out-third.result.batch ++ batch_bytes c.settle-rest.result))
 ended g c p pushed s =
-    let chosen : IsChosen (record { low = c.args.self.low; size = c.args.self.span; doublings = 0 }) c.chosen.result =
+    let chosen : IsChosen (record { low = c.args.self.now.low; size = c.args.self.now.span; doublings = 0 }) c.chosen.result =
     record { from = c.chosen.ensures.from; below = c.chosen.ensures.below; most_even = c.chosen.ensures.most_even } in
-    let e = whole_128 c.args.self.large chosen in
-    let r = value_room c.chosen.result c.args.self.bits 8 c.requires.short (omega arith) (omega arith) e in
+    let e = whole_128 c.args.self.now.large chosen in
+    let r = value_room c.chosen.result c.args.self.now.bits 8 c.requires.short (omega arith) (omega arith) e in
     let d0 = chosen_digits e.0 c.requires.short e.1 s.digits in
-    let d1 = c.byte_out-first.ensures.digits _ s.front (digits_low (value_whole c.chosen.result c.args.self.bits 8 (omega arith) r) d0) in
+    let d1 = c.byte_out-first.ensures.digits _ s.front (digits_low (value_whole c.chosen.result c.args.self.now.bits 8 (omega arith) r) d0) in
     let d2 = c.byte_out-second.ensures.digits _ _ (digits_low (shifted_whole c.byte_out-first.result.low c.byte_out-first.ensures.left) (next_digits d1)) in
     let d3 = c.byte_out-third.ensures.digits _ _ (digits_low (shifted_whole c.byte_out-second.result.low c.byte_out-second.ensures.left) (next_digits d2)) in
     let l = last_digits _ _ c.byte_out-third.ensures.left d3 in
-    let is = is_chosen e.0 s.digits e.1 chosen c.args.self.least (let z = s.digits.size in let small = c.args.self.small in omega arith) in
+    let is = is_chosen e.0 s.digits e.1 chosen c.args.self.now.least (let z = s.digits.size in let small = c.args.self.now.small in omega arith) in
     let front = whole_batch c.byte_out-third.result.batch (whole_batch c.byte_out-second.result.batch (whole_batch c.byte_out-first.result.batch (record { bytes = s.bytes; trimmed = s.trimmed }))) in
     record {
       code = _;
-      is = code_is (24 - c.args.self.bits) c.settle-rest.new.self.zeros (whole_batch c.settle-rest.result front) is (rest_zeros _ (batch_bytes c.settle-rest.result) _ _ c.settle-rest.ensures.bytes) l;
+      is = code_is (24 - c.args.self.now.bits) c.settle-rest.new.self.zeros (whole_batch c.settle-rest.result front) is (rest_zeros _ (batch_bytes c.settle-rest.result) _ _ c.settle-rest.ensures.bytes) l;
       all = stuffed_all s.front _ _ _ _ s.is;
     }
 
