@@ -1,5 +1,5 @@
 -- The last bytes of a code.
-use Rattle.std.proofs.Common.{◌≡◌, ℕ, ◌+◌, ◌-◌, ◌*◌, ◌/◌, ◌%◌, ◌^◌, ◌<◌, ◌≤◌, inl, inr, None, List, ◌++◌, length, replicate, arith, refl, ap, ◌∙◌, sym, append_assoc, append-nil, length-append}
+use Rattle.std.proofs.Common.{◌≡◌, ℕ, ◌+◌, ◌-◌, ◌*◌, ◌/◌, ◌%◌, ◌^◌, ◌<◌, ◌≤◌, inl, inr, None, List, [], ◌++◌, length, replicate, arith, refl, ap, ◌∙◌, sym, append_assoc, append-nil, length-append}
 use Rattle.std.proofs.lemmas.Bool.{cases_lt}
 use Rattle.std.proofs.lemmas.Nat.{pow_pos, pow-add}
 use Rattle.std.proofs.Math.Nat.{eq_of_mul-eq-mul_right, mod-eq_of_lt, mul-le-mul_right, le_of_mul-le-mul_right, lt_of_mul-lt-mul_right, mul_assoc, one-le-pow, pow-le-pow_right}
@@ -11,7 +11,7 @@ use Rattle.qm_core.proofs.CodesLieInside.{number-append, pow-256}
 use Rattle.qm_core.proofs.OutputIsFront.{IsWhole}
 use Rattle.qm_core.proofs.TailTakesByte.{number-null}
 use Rattle.qm_core.proofs.WritesJoin.{stuffed-append}
-use Rattle.std.proofs.lemmas.List.{length-replicate}
+use Rattle.std.proofs.lemmas.List.{length-replicate, replicate-append-replicate}
 
 -- the chosen number of a large span has seven zeros at its end
 pub whole_128 : {p : Place} {v : ℕ} → 0x40_0000 ≤ p.size → IsChosen p v → (u : ℕ) × (v ≡ u * 128)
@@ -134,6 +134,9 @@ stuffed_all front a b c d is =
     let e : (((front ++ a) ++ b) ++ c) ++ d ≡ front ++ ((a ++ b) ++ (c ++ d)) = simp append_assoc in
     rw (is, e) (sym (stuffed-append front ((a ++ b) ++ (c ++ d)) ∙ ap (λ l. stuffed front ++ l) (stuffed-append (a ++ b) (c ++ d))))
 
+pub stuffed_rest : {pushed : List ℕ} (front a : List ℕ) → pushed ≡ stuffed front → pushed ++ stuffed (a ++ []) ≡ stuffed (front ++ a)
+stuffed_rest front a is = rw (is, append-nil) (sym (stuffed-append front a))
+
 pub rest_zeros : (x rest tail : List ℕ) (z : ℕ) → rest ++ run_bytes z None 0 ≡ tail → x ++ tail ≡ (x ++ rest) ++ replicate z 0
 rest_zeros x rest tail z e = rw (sym e) (simp (append_assoc, append-nil))
 
@@ -142,3 +145,27 @@ shifted_whole low h = mod-eq_of_lt (omega arith)
 
 pub digits_low : {a b span bits : ℕ} {p : Place} {D : List ℕ} → a ≡ b → Digits b span bits p D → Digits a span bits p D
 digits_low e d = rw e d
+
+-- ---- the low end 0 is the chosen number
+
+-- it is a multiple of every power
+pub zero_chosen : (span : ℕ) → 1 ≤ span → IsChosen (record { low = 0; size = span; doublings = 0 }) 0
+zero_chosen span some = record { from = omega arith; below = omega arith; most_even = λ t w from below. (0, omega arith) }
+
+-- three bytes 0 after the digits
+three_zeros : (D : List ℕ) (bits n : ℕ) → bits ≤ 24 → 8 * length D + bits ≡ 16 + n →
+    (number (D ++ replicate 3 0) ≡ (number D * 2 ^ bits + 0) * 2 ^ (24 - bits)) × (8 * length (D ++ replicate 3 0) ≡ (n + (24 - bits)) + 16)
+three_zeros D bits n most count =
+    let a : 2 ^ bits * 2 ^ (24 - bits) ≡ 2 ^ 24 = sym (power_at bits (24 - bits) 24 (omega arith)) in
+    let b = ap (λ k. number D * k) a in
+    let e = number-append D (replicate 3 0) in
+    let l = length-append D (replicate 3 0) in
+    (omega (arith, e), omega (arith, l, count))
+
+-- so the bytes before them, without zeros at their end, are the code
+pub zero_code : {span bits : ℕ} {p : Place} {code D : List ℕ} (z : ℕ) → IsWhole code → D ≡ code ++ replicate z 0 →
+    1 ≤ span → 16 ≤ bits → bits ≤ 24 → p.size ≤ 0x10000 → Digits 0 span bits p D → IsCode p code
+zero_code {span} {bits} {p} {code} {D} z whole e some least most small d =
+    let longer : D ++ replicate 3 0 ≡ code ++ replicate (z + 3) 0 =
+    rw (e, append_assoc, replicate-append-replicate) refl in
+    code_is (24 - bits) (z + 3) whole (is_chosen 0 d refl (zero_chosen span some) least small) longer (three_zeros D bits p.doublings most d.count)

@@ -3,7 +3,7 @@ use Rattle.std.proofs.Common.{◌≡◌, ℕ, ◌+◌, ◌-◌, ◌*◌, ◌/◌
 use Rattle.std.proofs.lemmas.Bool.{cases_lt}
 use Rattle.std.proofs.lemmas.Nat.{pow_pos, le-div}
 use Rattle.qm_core.proofs.MultiplesShift.{split}
-use Rattle.std.proofs.Math.Nat.{mul-le-mul_right, pow-le-pow_right, lt_of_mul-lt-mul_right, div-eq_of_lt}
+use Rattle.std.proofs.Math.Nat.{mul-le-mul_right, pow-le-pow_right, lt_of_mul-lt-mul_right, div-eq_of_lt, div-mul-le_self}
 
 -- the greatest multiple of a power is at or above each
 at_least : (top w t : ℕ) → w * 2 ^ t ≤ top → w * 2 ^ t ≤ top / 2 ^ t * 2 ^ t
@@ -43,3 +43,21 @@ chosen_even {low} {top} {k} t w is from to =
       ]
       | inr less ↦ (top / 2 ^ k * 2 ^ (k - t), split (top / 2 ^ k) k t less)
     ]
+
+-- a multiple of a power that a higher power has is one of its own
+lower : (top t s : ℕ) → t ≤ s → top / 2 ^ s * 2 ^ s ≤ top / 2 ^ t * 2 ^ t
+lower top t s h =
+    let e : top / 2 ^ s * 2 ^ s ≡ top / 2 ^ s * 2 ^ (s - t) * 2 ^ t = split (top / 2 ^ s) s t h in
+    let d = div-mul-le_self top (2 ^ s) in
+    rw e (at_least top (top / 2 ^ s * 2 ^ (s - t)) t (rw (← e) d))
+
+-- a power of which the next one has no multiple there
+pub evenest : {low top : ℕ} (next : ℕ) → 1 ≤ next → next ≤ 41 → top < 2 ^ 40 → low ≤ top / 2 ^ (next - 1) * 2 ^ (next - 1) →
+    (next ≤ 40 → top / 2 ^ next * 2 ^ next < low) → IsEvenest low top (next - 1)
+evenest {low} {top} next some most small found above =
+    record {
+      small = small;
+      most = omega arith;
+      none = λ s from to. let a = above (omega arith) in let l = lower top next s (omega arith) in omega arith;
+      found = found;
+    }

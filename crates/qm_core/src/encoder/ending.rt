@@ -4,7 +4,7 @@ ghost use Rattle.std.specs.Prelude.{◌≡◌, ◌+◌, ◌-◌, ◌*◌, ◌^�
 ghost use Rattle.qm_core.specs.Counts.{one_more};
 ghost use Rattle.qm_core.specs.Place.{Place, same, start};
 
-use crate::batch::Tail;
+use crate::batch::{Batch, Tail};
 use crate::encoder::{CoderFault, Encoder, FAILED, byte_out, write_both};
 use crate::sink::CodeSink;
 
@@ -90,6 +90,10 @@ impl Encoder {
             held: self.tail.held,
             ones: self.tail.ones,
         };
+        // The chosen number is 0, and a code ends without its last zeros.
+        if self.low == 0 {
+            return write_both(tail.settle(), Batch::EMPTY, out);
+        }
         let value = chosen(self.low, self.span) << (24 - self.bits);
         let first = byte_out(&mut tail, value, 128, 24);
         let second = byte_out(&mut tail, first.low << 8, 128, 24);
@@ -102,7 +106,7 @@ impl Encoder {
 
 /// The number from `low` up to, but not including, `low + span` that is divisible by the greatest power of two.
 fn chosen(low: u64, span: u32) -> u64
-    requires some { 1 ≤ span }
+    requires large { 0x40_0000 ≤ span }
     requires room { low + span ≤ 2 ^ 40 }
     ensures from { low ≤ result }
     ensures below { result < low + span }
@@ -110,11 +114,14 @@ fn chosen(low: u64, span: u32) -> u64
         (result ≡ u * 2 ^ t) }
 {
     let top = low + (span as u64 - 1);
-    for cleared in (0..41u32).rev() {
-        let value = (top >> cleared) << cleared;
-        if value >= low {
+    // The interval contains a multiple of 2^22, since it has at least so many numbers.
+    let mut value = (top >> 22) << 22;
+    for cleared in 23..41u32 {
+        let next = (top >> cleared) << cleared;
+        if next < low {
             return value;
         }
+        value = next;
     }
-    top
+    value
 }

@@ -1,11 +1,11 @@
-use Rattle.std.proofs.Common.{◌-◌, ◌++◌, List, ℕ, arith}
+use Rattle.std.proofs.Common.{◌-◌, ◌≤◌, ◌++◌, List, ℕ, sym, arith}
 use Rattle.qm_core.specs.Code.{IsChosen, stuffed}
 use Rattle.qm_core.specs.Encoder.{EncoderIsAt}
 use Rattle.qm_core.specs.Place.{Place}
 use Rattle.qm_core.proofs.WritesJoin.{writes_more, writes_err}
 use Rattle.qm_core.proofs.TailTakesByte.{batch_bytes}
 use Rattle.qm_core.proofs.OutputIsFront.{whole_batch}
-use Rattle.qm_core.proofs.LastBytesFinish.{Ended, whole_128, value_room, value_whole, chosen_digits, next_digits, digits_low, last_digits, is_chosen, code_is, stuffed_all, rest_zeros, shifted_whole}
+use Rattle.qm_core.proofs.LastBytesFinish.{Ended, zero_code, whole_128, value_room, value_whole, chosen_digits, next_digits, digits_low, last_digits, is_chosen, code_is, stuffed_all, stuffed_rest, rest_zeros, shifted_whole}
 use Rattle.qm_core.proofs.encoder.Encoder.finish_short.Given as given
 use Rattle.qm_core.proofs.encoder.Encoder.finish_short.Goals as goal
 use Rattle.qm_core.proofs.encoder.Encoder.finish_short.Goals.{After-settle-rest}
@@ -38,9 +38,10 @@ ended g c p pushed s =
     let l = last_digits _ _ c.byte_out-third.ensures.left d3 in
     let is = is_chosen e.0 s.digits e.1 chosen c.args.self.now.least (let z = s.digits.size in let small = c.args.self.now.small in omega arith) in
     let front = whole_batch c.byte_out-third.result.batch (whole_batch c.byte_out-second.result.batch (whole_batch c.byte_out-first.result.batch (record { bytes = s.bytes; trimmed = s.trimmed }))) in
+    let rest = rest_zeros _ (batch_bytes c.settle-rest.result) _ _ c.settle-rest.ensures.bytes in
     record {
       code = _;
-      is = code_is (24 - c.args.self.now.bits) c.settle-rest.new.self.zeros (whole_batch c.settle-rest.result front) is (rest_zeros _ (batch_bytes c.settle-rest.result) _ _ c.settle-rest.ensures.bytes) l;
+      is = code_is (24 - c.args.self.now.bits) c.settle-rest.new.self.zeros (whole_batch c.settle-rest.result front) is rest l;
       all = stuffed_all s.front _ _ _ _ s.is;
     }
 
@@ -52,4 +53,21 @@ returns-in_err-write_both-clause-code g c = λ p pushed s.
 pub returns-clause-code : goal.returns-clause-code
 returns-clause-code g c = λ p pushed s.
     let e = ended g (goal.at.returns-clause-code g c).After-settle-rest p pushed s in
-    record { code = e.code; is = e.is; more = _; all = e.all; writes = writes_more c.in_ok-write_both.ensures.writes c.write_both-2.ensures.writes }
+    record { code = e.code; is = e.is; more = _; all = e.all; writes = writes_more c.in_ok-write_both.ensures.writes c.write_both-3.ensures.writes }
+
+pub returns-then-self-eq0-clause-code : goal.returns-then-self-eq0-clause-code
+returns-then-self-eq0-clause-code g c = λ p pushed s.
+    let rest = rest_zeros s.front (batch_bytes c.settle.result) _ _ c.settle.ensures.bytes in
+    let whole = whole_batch c.settle.result (record { bytes = s.bytes; trimmed = s.trimmed }) in
+    let size = s.digits.size in
+    let large = c.args.self.now.large in
+    let most = c.args.self.now.small in
+    let some : 1 ≤ c.args.self.now.span = omega arith in
+    let small : p.size ≤ 0x10000 = omega arith in
+    record {
+      code = s.front ++ batch_bytes c.settle.result;
+      is = zero_code c.settle.new.self.zeros whole rest some c.args.self.now.least (omega arith) small (digits_low (sym c.if-self-eq0.true) s.digits);
+      more = _;
+      all = stuffed_rest s.front (batch_bytes c.settle.result) s.is;
+      writes = c.write_both.ensures.writes;
+    }
