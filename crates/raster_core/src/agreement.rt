@@ -10,6 +10,7 @@ use crate::words::{agreed_word, joined, mask_at, word_at};
 use std::ops::Range;
 
 /// The 64 pixels that are `lag` to the left of the last of three words.
+#[inline(always)]
 fn left_by(lag: usize, second: u64, before: u64, word: u64) -> u64
     requires { lag ≤ 127 }
     ensures { (p : ℕ → Bool) (place : ℕ) → second ≡ pixels_word p place 64 →

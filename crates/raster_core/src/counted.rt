@@ -165,5 +165,7 @@ fn count_agreed(counts: &mut [u64; 128], row: &[u8], width: u32, least: usize, m
         second = before;
         before = word;
     }
-    add_all(counts, least, most + 1, alike);
+    if alike > 0 {
+        add_all(counts, least, most + 1, alike);
+    }
 }

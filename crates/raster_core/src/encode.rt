@@ -10,7 +10,7 @@ ghost use Rattle.qm_core.specs.Puts.{HasRoom, IsUnchanged, Puts, failed_answer};
 ghost use Rattle.qm_core.specs.Sink.{sink_at};
 ghost use Rattle.raster_core.specs.Row.{RowEncoded, RowsEncodedAgain, again_event, row_task};
 ghost use Rattle.raster_core.specs.Window.{shape_mode, held};
-ghost use Rattle.raster_core.specs.Machine.Rows.{coded_events, flag_events, held_in};
+ghost use Rattle.raster_core.specs.Machine.Rows.{coded_events, flag_events};
 
 mod byte;
 mod row;
@@ -24,14 +24,14 @@ use crate::shape::{Kept, Shape};
 use crate::window::Window;
 use qm_core::{CodeSink, Coder, CoderFault, Encoder, Learned, MAX_EVENTS};
 
-/// Whether a row may be typical: typical prediction is on, and the row equals the row above.
+/// Whether the current row may be typical: typical prediction is on, and the row equals the row above.
 #[inline(always)]
-fn is_typical(shape: Shape, rows: Rows<'_>) -> bool
+fn is_typical(shape: Shape, window: &Window) -> bool
     ensures typical { IsTrue result → IsTrue shape.typical }
-    ensures lines { (lines : Lines) → HasLines (held_in rows.entry) lines →
+    ensures lines { (lines : Lines) → HasLines (held window.now) lines →
         result ≡ may_be_typical (shape_mode shape) lines }
 {
-    shape.typical && rows.current == rows.above
+    shape.typical && window.row(0) == window.row(1)
 }
 
 /// Encodes the SLNTP pseudo-pixel before a row, which signals whether the row is typical.
@@ -96,8 +96,7 @@ pub fn encode_row<W: CodeSink>(
         (row_task shape kept.old (state_of p learned.old) lines) kept.new
         (encoder_state out.new encoder.new learned.new) result }
 {
-    let rows = window.rows();
-    let flag = is_typical(shape, rows);
+    let flag = is_typical(shape, window);
     // A typical row below a typical row is always the same decision. Nothing else is prepared for it.
     if flag && kept.previous_typical {
         let mut coder = Coder {
@@ -107,6 +106,7 @@ pub fn encode_row<W: CodeSink>(
         };
         return coder.put(flag_context(shape.two_line), true);
     }
+    let rows = window.rows();
     let template = Template {
         two_line: shape.two_line,
         offset: kept.offset,

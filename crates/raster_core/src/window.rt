@@ -56,6 +56,7 @@ fn next_place(place: u8) -> u8
 }
 
 /// The row at a place.
+#[inline(always)]
 fn row_placed(rows: &[u8], width: u32, place: u8) -> &[u8]
     requires long { length rows.now ≡ 3 * div_ceil width 8 }
     requires place { place < 3 }
@@ -115,6 +116,7 @@ impl<'a> Window<'a> {
     }
 
     /// Row 0 is the current row, row 1 the one above it, and row 2 the one above that.
+    #[inline(always)]
     pub fn row(&self, k: u8) -> &[u8]
         requires { k ≤ 2 }
         ensures { result.now ≡ row_of (held self.now) k }

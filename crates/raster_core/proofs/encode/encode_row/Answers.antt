@@ -9,7 +9,7 @@ use Rattle.raster_core.proofs.encode.encode_row.Goals as goal
 pub returns-in_err-encode_as-clause-row : goal.returns-in_err-encode_as-clause-row
 returns-in_err-encode_as-clause-row g c = λ p pushed lines going at w.
     let held : HasLines _ lines = rw (c.rows-rows.ensures) w in
-    row_coded _ c.rows-rows.result (search rules) (refl, refl) held (c.is_typical-flag.ensures.lines lines held) (search rules)
+    row_coded _ c.rows-rows.result (search rules) (refl, refl) held (c.is_typical-flag.ensures.lines lines w) (search rules)
     (puts_handed c.from_residual.ensures c.in_err-encode_as.ensures) going at
 
 pub returns-clause-fails : goal.returns-clause-fails
@@ -28,4 +28,4 @@ returns-clause-events g c =
 pub returns-clause-row : goal.returns-clause-row
 returns-clause-row g c = λ p pushed lines going at w.
     let held : HasLines _ lines = rw (c.rows-rows.ensures) w in
-    row_coded _ c.rows-rows.result (search rules) (refl, refl) held (c.is_typical-flag.ensures.lines lines held) (refl, refl) c.in_ok-encode_as.ensures going at
+    row_coded _ c.rows-rows.result (search rules) (refl, refl) held (c.is_typical-flag.ensures.lines lines w) (refl, refl) c.in_ok-encode_as.ensures going at
