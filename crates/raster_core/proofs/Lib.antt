@@ -21,6 +21,7 @@ pub mod WordsHoldPixels
 pub mod WordsHaveOneColour
 pub mod BytesMakeWords
 pub mod WordsAgree
+pub mod NarrowRowsShift
 pub mod ColumnsAgree
 pub mod ChoiceCountsRows
 pub mod CountsChooseOffset

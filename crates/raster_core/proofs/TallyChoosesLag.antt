@@ -40,6 +40,10 @@ more_times c t n g =
     folded : (x y z : ℕ) → x % 2 ^ 64 ≡ (y + z) % 2 ^ 64 → (c + x) % 2 ^ 64 ≡ ((c + y) % 2 ^ 64 + z) % 2 ^ 64
     folded x y z e = omega arith
 
+-- a row of one word n times
+pub word_times : (c t g n a : ℕ) → ((c + n * a) % 2 ^ 64 + t * g) % 2 ^ 64 ≡ ((c + t * g) % 2 ^ 64 + n * a) % 2 ^ 64
+word_times c t g n a = omega arith
+
 pub added_times : (a x : ℕ) → (a + x % 2 ^ 64) % 2 ^ 64 ≡ (a + x) % 2 ^ 64
 added_times a x = omega arith
 
@@ -60,8 +64,8 @@ all_again P [] zero lines h p = tt
 all_again P [] (suc n) lines h p = (p, all_again P [] n lines h p)
 all_again P (r ∷ rows) n lines h p = (h.0, all_again P rows n lines h.1 p)
 
-pub rows_more : (rows : List Lines) (n : ℕ) (lines : Lines) (width lag : ℕ) → AllByRecursion (λ l. length l.row ≡ width) rows → length lines.row ≡ width → length rows + n < 2 ^ 32 → width < 2 ^ 32 →
-    (agreement rows lag + n * agreements lag lines) % 2 ^ 64 ≡ agreement (rows ++ replicate n lines) lag
+pub rows_more : (rows : List Lines) (n : ℕ) (lines : Lines) (width lag : ℕ) → AllByRecursion (λ l. length l.row ≡ width) rows →
+    length lines.row ≡ width → length rows + n < 2 ^ 32 → width < 2 ^ 32 → (agreement rows lag + n * agreements lag lines) % 2 ^ 64 ≡ agreement (rows ++ replicate n lines) lag
 rows_more rows n lines width lag wide long few narrow =
     let most = rows_small (rows ++ replicate n lines) width lag (all_again (λ l. length l.row ≡ width) rows n lines wide long) in
     let up : length (rows ++ replicate n lines) * width ≤ (2 ^ 32 - 1) * width = mul-le-mul_right width (omega (arith, few, length_again rows n lines)) in

@@ -30,6 +30,13 @@ last_lag two_line most width = min most (max width (least_lag two_line))
 abbrev pub counted_at : Tally → ℕ → ℕ
 counted_at t lag = (slice_index t.counts lag + t.times * slice_index t.last.agreed lag) % 2 ^ 64
 
+-- the tallies differ only in their counts
+pub record SameButCounts (old new : Tally) : Type 0 where
+  pub agreeing : new.agreeing ≡ old.agreeing
+  pub rows : new.rows ≡ old.rows
+  pub two_line : new.two_line ≡ old.two_line
+  pub most : new.most ≡ old.most
+
 -- both tallies have the same counts at these lags, and differ only in how they store them
 pub record CountsAlike (low high : ℕ) (old new : Tally) : Type 0 where
   pub counted : (lag : ℕ) → low ≤ lag → lag ≤ high → counted_at new lag ≡ counted_at old lag

@@ -14,6 +14,7 @@ mod counted;
 mod decode;
 mod encode;
 mod lanes;
+mod narrow;
 mod place;
 mod row_byte;
 mod rows;

@@ -1,8 +1,10 @@
 //! Finds the offset of the adaptive pixel that would have served a stripe best.
 
-use crate::agreement::add_each;
+use crate::agreement::{add_each, agreeing_in_word};
 use crate::counted::Counted;
+use crate::narrow::add_narrow;
 use crate::window::Window;
+use crate::words::{mask_at, word_at};
 
 /// For each lag that may be chosen, the number of pixels in the rows so far that equal the pixel `lag` to their left.
 /// It consists of counts and one row. It may be in caller-supplied memory with arbitrary contents: the counts are then
@@ -25,11 +27,11 @@ pub struct Tally {
 }
 
 impl Tally {
-    ghost use Rattle.std.specs.Prelude.{ℕ, ◌+◌, ◌^◌, ◌≡◌, ◌≤◌, ◌<◌, ◌-◌, [], ◌∷◌, ◌++◌, List, IfSome, length, replicate, take};
-    ghost use Rattle.raster_core.specs.Tally.{CountsLines, CountsAlike, CountsRow, KeepsCounts, counted_at, is_two_line, last_lag, least_lag, most_of, row_count};
+    ghost use Rattle.std.specs.Prelude.{ℕ, ◌+◌, ◌*◌, ◌%◌, ◌^◌, ◌≡◌, ◌≤◌, ◌<◌, ◌-◌, [], ◌∷◌, ◌++◌, List, IfSome, length, replicate, take};
+    ghost use Rattle.raster_core.specs.Tally.{CountsLines, CountsAlike, CountsRow, KeepsCounts, SameButCounts, counted_at, is_two_line, last_lag, least_lag, most_of, row_count};
     ghost use Rattle.raster_core.specs.Lines.{Lines};
-    ghost use Rattle.raster_core.specs.Offset.{best_offset, candidates, chosen_offset};
-    ghost use Rattle.raster_core.specs.Packed.{HasLines};
+    ghost use Rattle.raster_core.specs.Offset.{agreements, best_offset, candidates, chosen_offset};
+    ghost use Rattle.raster_core.specs.Packed.{HasLines, packed_row};
     ghost use Rattle.raster_core.specs.Window.{held as rows_held, width_of};
 
     /// A tally of no rows. The lags that may be chosen are those from 5 (two-line template) or 3 (three-line template)
@@ -102,16 +104,43 @@ impl Tally {
         }
         let times = u64::from(count);
         let width = window.width();
-        let least = self.least_lag();
-        let most = self.last_lag(width);
         let row = window.row(0);
         let above = window.row(1);
-        self.count_row(row, width, least, most);
-        let agreeing = self.last.agreeing(row, above, offset);
+        let agreeing = self.count_times(row, above, width, offset, times);
         self.agreeing = self.agreeing.wrapping_add(times.wrapping_mul(agreeing));
-        self.times = self.times.wrapping_add(times);
         self.width = width;
         self.rows = self.rows.wrapping_add(count);
+    }
+
+    /// Counts a row of this width the given number of times, modulo 2^64, and returns how many of its pixels equal the
+    /// adaptive pixel.
+    #[inline(always)]
+    fn count_times(&mut self, row: &[u8], above: &[u8], width: u32, offset: u8, times: u64) -> u64
+        requires offset { offset ≤ 127 }
+        ensures counts { (lines : Lines) → row.now ≡ packed_row lines.row →
+            length lines.row ≡ width → KeepsCounts self.old.last → (lag : ℕ) →
+            least_lag (is_two_line self.old) ≤ lag →
+            lag ≤ last_lag (is_two_line self.old) (most_of self.old) width →
+            counted_at self.new lag ≡ (counted_at self.old lag + times * agreements lag lines) %
+            2 ^ 64 }
+        ensures agreeing { (lines : Lines) → row.now ≡ packed_row lines.row →
+            above.now ≡ packed_row lines.above → length lines.row ≡ width →
+            KeepsCounts self.old.last → result ≡ agreements offset lines }
+        ensures kept { KeepsCounts self.old.last → KeepsCounts self.new.last }
+        ensures same { SameButCounts self.old self.new }
+    {
+        let least = self.least_lag();
+        let most = self.last_lag(width);
+        if width <= 64 {
+            let word = word_at(row, 2);
+            let mask = mask_at(width, 0);
+            let (from, to) = (usize::from(least), usize::from(most));
+            add_narrow(&mut self.counts, from, to, word, mask, times);
+            return agreeing_in_word(above, 0, offset, 0, 0, word, mask);
+        }
+        self.count_row(row, width, least, most);
+        self.times = self.times.wrapping_add(times);
+        self.last.agreeing(row, above, offset)
     }
 
     /// Counts a row at the lags from `least` to `most`; if it equals the last row, only records that its counts must be
