@@ -1,8 +1,8 @@
 //! Finds the offset of the adaptive pixel that would have served a stripe best.
 
-use crate::agreement::{add_each, agreeing_in_word};
+use crate::agreement::{add_each, agreeing_in_row, agreeing_in_word};
 use crate::counted::Counted;
-use crate::narrow::add_narrow;
+use crate::narrow::{add_narrow, add_wide, both_words};
 use crate::window::Window;
 use crate::words::{mask_at, word_at};
 
@@ -131,12 +131,20 @@ impl Tally {
     {
         let least = self.least_lag();
         let most = self.last_lag(width);
+        let (from, to) = (usize::from(least), usize::from(most));
         if width <= 64 {
             let word = word_at(row, 2);
             let mask = mask_at(width, 0);
-            let (from, to) = (usize::from(least), usize::from(most));
             add_narrow(&mut self.counts, from, to, word, mask, times);
             return agreeing_in_word(above, 0, offset, 0, 0, word, mask);
+        }
+        if width <= 128 {
+            let first = word_at(row, 2);
+            let second = word_at(row, 3);
+            let pixels = both_words(first, second);
+            let inside = both_words(mask_at(width, 0), mask_at(width, 1));
+            add_wide(&mut self.counts, from, to, pixels, inside, times);
+            return agreeing_in_row(row, above, width, offset);
         }
         self.count_row(row, width, least, most);
         self.times = self.times.wrapping_add(times);

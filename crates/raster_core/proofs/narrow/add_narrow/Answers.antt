@@ -1,8 +1,8 @@
-use Rattle.std.proofs.Common.{◌≡◌, ℕ, ◌+◌, ◌-◌, ◌*◌, ◌/◌, ◌%◌, ◌^◌, ◌<◌, ◌≢◌, ◌∙◌, ap, arith, get_or, set, List, length, inl, inr, get_or-set_other, get_or-set_same, length-set, refl}
+use Rattle.std.proofs.Common.{ℕ, ◌+◌, ◌-◌, ◌*◌, ◌/◌, ◌%◌, ◌^◌, ◌<◌, ◌∙◌, ap, arith, get_or, List, length, inl, inr, length-set, refl}
 use Rattle.raster_core.specs.Machine.Words.{led, is_within}
 use Rattle.raster_core.proofs.BestIsFound.{le_cases}
 use Rattle.raster_core.proofs.BytesMakeWords.{led_white}
-use Rattle.raster_core.proofs.NarrowRowsShift.{moves_on}
+use Rattle.raster_core.proofs.NarrowRowsShift.{moves_on, same_else, same_here}
 use Rattle.raster_core.proofs.TallyChoosesLag.{added_times}
 use Rattle.raster_core.proofs.WordsAgree.{row_part}
 use Rattle.raster_core.proofs.narrow.add_narrow.Goals as goal
@@ -14,12 +14,6 @@ loop-lag-init c = record {
   done = λ lines width e f j from below. absurd (omega arith);
   rest = λ j le. refl;
 }
-
-same_else : (xs : List ℕ) (k v j : ℕ) → j ≢ k → get_or (set xs k v) j 0 ≡ get_or xs j 0
-same_else xs k v j ne = rw get_or-set_other refl
-
-same_here : (xs : List ℕ) (k v : ℕ) → k < length xs → get_or (set xs k v) k 0 ≡ v
-same_here xs k v lt = rw get_or-set_same refl
 
 pub loop-lag-preserved : goal.loop-lag-preserved
 loop-lag-preserved c =
