@@ -2,6 +2,7 @@
 
 ghost use Rattle.std.specs.Prelude.{◌≡◌};
 
+mod again;
 mod by_hand;
 mod faults;
 pub mod model;

@@ -1,7 +1,7 @@
 //! A tally chooses the offset of the adaptive pixel on rows whose counts were worked out by hand.
 
 use crate::rows::{Course, over_8, shape, stripe, write_row};
-use raster_core::{Tally, Window};
+use raster_core::{Tally, Window, window_bytes};
 use std::alloc::Global;
 use std::process::Abort;
 
@@ -80,6 +80,32 @@ static CHOICES: [(bool, u8, u8, u8, u8, Option<u8>); 9] = [
     (false, 3, 0x0c, 0x80, 0, None),
     (false, 3, 0x1c, 0x80, 0, Some(3)),
 ];
+
+/// The choices of tallies that counted a row three times below itself: at once, and one by one.
+fn choices(rt: &impl Abort, row: &[u8], width: u32) -> (Option<u8>, Option<u8>) {
+    let mut bytes = [0; 27];
+    let long = window_bytes(width);
+    assert!(rt; long <= 27);
+    let mut window = Window::over(&mut bytes[..long], width);
+    write_row(rt, &mut window, row);
+    window.repeat();
+    let mut at_once = Tally::new(false, 127);
+    let mut one_by_one = Tally::new(false, 127);
+    assert!(rt; window.width() == width);
+    at_once.add_rows(&window, 0, 3);
+    at_once.add_rows(&window, 0, 0);
+    for _row in 0..3u8 {
+        one_by_one.add_row(&window, 0);
+    }
+    (at_once.choose(0), one_by_one.choose(0))
+}
+
+/// Six of the pixels 10011001 agree at lag 4, and one at the nominal position; of nine times these pixels, 70 and one.
+#[test]
+fn equal_rows_at_once(rt: HostRuntime) {
+    assert!(rt; choices(&rt, &[0x99], 8) == (Some(4), Some(4)));
+    assert!(rt; choices(&rt, &[0x99; 9], 72) == (Some(4), Some(4)));
+}
 
 #[test]
 fn offsets_by_hand(rt: HostRuntime) {
