@@ -1,5 +1,5 @@
 -- Rows in bytes, rows in words.
-use Rattle.std.proofs.Common.{◌≡◌, ℕ, zero, suc, ◌+◌, ◌-◌, ◌*◌, ◌/◌, ◌%◌, ◌^◌, ◌<◌, ◌≤◌, Bool, true, false, List, length, refl, sym, ◌∙◌, ap, arith, map, get_or, add-zero, inl, inr, lit<, zero-add}
+use Rattle.std.proofs.Common.{◌≡◌, ℕ, zero, suc, ◌+◌, ◌-◌, ◌*◌, ◌/◌, ◌%◌, ◌^◌, ◌<◌, ◌≤◌, Bool, true, false, List, length, refl, sym, ◌∙◌, ap, arith, map, get_or, add-zero, inl, inr, lit<, zero-add, if◌then◌else◌}
 use Rattle.std.specs.Prelude.{bit_or, ◌==◌}
 use Rattle.std.proofs.lemmas.Nat.{or_shifted, pow-add, div-mul-add}
 use Rattle.std.proofs.lemmas.Nat.Bits.{ones_shl}
@@ -76,6 +76,28 @@ led_white line place h = sym (white (led line) (64 * place) 64 (λ i lt. before 
   where
     before : (x : ℕ) → x < 128 → led line x ≡ false
     before x lt = rw is_lt refl
+
+-- behind its bytes, a row is white
+behind : (line : List Bool) (x : ℕ) → 128 + 8 * length (packed_row line) ≤ x → led line x ≡ false
+behind line x h =
+    ap (λ b. if b then false else pixel_at line (x - 128)) (is_not_lt x 128 (omega arith))
+    ∙ get_or-eq_default line false (omega (arith, packed-length line, h))
+
+pub word_behind : (line : List Bool) (place : ℕ) → 2 ≤ place → length (packed_row line) ≤ 8 * (place - 2) → 0 ≡ word (led line) (64 * place) 64
+word_behind line place some h = sym (white (led line) (64 * place) 64 (λ i lt. behind line (64 * place + i) (omega arith)))
+
+-- the last bytes of a row, and white ones behind them
+pub word_filled : {w : ℕ} (line : List Bool) (place count : ℕ) → 2 ≤ place → count ≤ 8 → length (packed_row line) ≤ 8 * (place - 2) + count →
+    w ≡ word (led line) (64 * place) (8 * count) → w * 2 ^ (8 * (8 - count)) % 2 ^ 64 ≡ word (led line) (64 * place) 64
+word_filled {w} line place count some few h e =
+    let n : 8 * (8 - count) ≡ 64 - 8 * count = omega arith in
+    let all : 8 * count + (64 - 8 * count) ≡ 64 = omega arith in
+    let rest = white (led line) (64 * place + 8 * count) (64 - 8 * count) (λ i lt. behind line (64 * place + 8 * count + i) (omega arith)) in
+    let cat : word (led line) (64 * place) 64 ≡ word (led line) (64 * place) (8 * count) * 2 ^ (64 - 8 * count) + word (led line) (64 * place + 8 * count) (64 - 8 * count) =
+    ap (word (led line) (64 * place)) (sym all) ∙ word_cat (led line) (64 * place) (8 * count) (64 - 8 * count) in
+    let fits = word_lt (led line) (64 * place) 64 in
+    let whole : word (led line) (64 * place) (8 * count) * 2 ^ (64 - 8 * count) ≡ word (led line) (64 * place) 64 = omega (arith, cat, rest) in
+    rw (e, n, whole) (mod-eq_of_lt fits)
 
 pub nothing : (p : ℕ → Bool) (a : ℕ) → 0 ≡ word p a 0
 unfolding word

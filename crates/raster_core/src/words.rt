@@ -4,8 +4,6 @@ ghost use Rattle.std.specs.Prelude.{ℕ, ◌+◌, ◌-◌, ◌*◌, ◌^◌, ◌
 ghost use Rattle.raster_core.specs.Packed.{packed_row};
 ghost use Rattle.raster_core.specs.Machine.Words.{word, led, is_within, agreed_from, pixels_from};
 
-use crate::bytes::byte_at;
-
 /// The word at `place` of a row that is preceded by two white words. After its bytes, the row is white.
 pub(crate) fn word_at(row: &[u8], place: usize) -> u64
     requires { place < 2 ^ 32 }
@@ -21,10 +19,12 @@ pub(crate) fn word_at(row: &[u8], place: usize) -> u64
         'inside: for i in 0..8usize {
             word = word << 8 | u64::from(row[first + i]);
         }
-    } else {
-        'across: for i in 0..8usize {
-            word = word << 8 | u64::from(byte_at(row, first + i));
+    } else if first < row.len() {
+        let count = row.len() - first;
+        'across: for i in 0..count {
+            word = word << 8 | u64::from(row[first + i]);
         }
+        word <<= 8 * (8 - count);
     }
     word
 }
