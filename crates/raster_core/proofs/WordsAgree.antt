@@ -1,13 +1,12 @@
 -- The bits in which the words of a row agree, and the pixels that agree.
 use Rattle.std.proofs.Common.{◌≡◌, ℕ, zero, suc, ◌+◌, ◌-◌, ◌*◌, ◌<◌, ◌≤◌, Bool, true, false, ◌&&◌, List, [], ◌∷◌, ◌++◌, length, refl, sym, ◌∙◌, ap, arith, cond, inl, inr, add-zero, zero-add}
 use Rattle.std.specs.Prelude.{nat_lt, ◌==◌, if◌then◌else◌, count_by}
-use Rattle.std.specs.List.{AllByRecursion}
 use Rattle.std.proofs.lemmas.Bool.Decides.{nat_tests}
-use Rattle.std.proofs.lemmas.List.Sums.{sum_by-cons, sum_by_push}
+use Rattle.std.proofs.lemmas.List.Sums.{sum_by-cons}
 use Rattle.qm_core.specs.Place.{same}
 use Rattle.raster_core.specs.Raster.{pixel_at, pixel_left}
 use Rattle.raster_core.specs.Lines.{Lines, adaptive, numbers_from}
-use Rattle.raster_core.specs.Offset.{agreements, agreement}
+use Rattle.raster_core.specs.Offset.{agreements}
 use Rattle.raster_core.specs.Machine.Words.{led, is_within, agreed_from, part_agreement, pixels_from}
 use Rattle.raster_core.proofs.CountsAdd.{count_same, count_cat, shifted}
 use Rattle.std.proofs.lemmas.Bool.{cases_lt}
@@ -125,13 +124,6 @@ part_all lines width offset n e h =
     whole n h = omega arith
 
 -- a row more of a stripe
-pub agreement_push : (rows : List Lines) (lines : Lines) (offset : ℕ) → agreement (rows ++ lines ∷ []) offset ≡ agreement rows offset + agreements offset lines
-agreement_push rows lines offset = sum_by_push (agreements offset) rows lines
-
-pub all_push : (P : Lines → Type 0) (rows : List Lines) (lines : Lines) → AllByRecursion P rows → P lines → AllByRecursion P (rows ++ lines ∷ [])
-all_push P [] lines h p = (p, tt)
-all_push P (r ∷ rows) lines h p = (h.0, all_push P rows lines h.1 p)
-
 pub length_push : (rows : List Lines) (lines : Lines) → length (rows ++ lines ∷ []) ≡ length rows + 1
 length_push [] lines = refl
 length_push (r ∷ rows) lines = let e = length_push rows lines in omega arith
