@@ -78,7 +78,7 @@ offset_named t image rows v window origin text none so =
             let on = w.on_course within in
             record {
               is_held = on.is_held;
-              is_tallied = record { two_line = on.is_tallied.two_line; most = on.is_tallied.most; lines = on.is_tallied.lines; counts = on.is_tallied.counts; lines_are = on.is_tallied.lines_are };
+              is_tallied = record { two_line = on.is_tallied.two_line; most = on.is_tallied.most; counts = on.is_tallied.counts };
               named_is = sym (ap (λ j. slice_index_or names j None) w.stripes.stripe_is ∙ name_at w.i image.settings.named);
             };
         sent = w.sent;

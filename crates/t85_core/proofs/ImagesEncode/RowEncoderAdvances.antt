@@ -15,7 +15,6 @@ use Rattle.qm_core.specs.Encoder.{EncoderIsAt, IsStuffedFront, encoder_state}
 use Rattle.qm_core.specs.declared.encoder.Encoder.{Encoder}
 use Rattle.raster_core.specs.Raster.{height, white_row}
 use Rattle.raster_core.specs.Lines.{Lines, Mode, row_events, may_be_typical}
-use Rattle.raster_core.specs.Offset.{candidates}
 use Rattle.raster_core.specs.Packed.{Held, HasLines, white_lines}
 use Rattle.raster_core.specs.Row.{canonical_events, row_task}
 use Rattle.raster_core.specs.Tally.{CountsLines, is_two_line, most_of}
@@ -26,7 +25,7 @@ use Rattle.t85_core.specs.Coding.{mode_of}
 use Rattle.t85_core.specs.Encode.{IsBeginning, raster_of}
 use Rattle.t85_core.specs.Jbg.{Settings, named_for, head_of, jbg, jbg_up_to, ending}
 use Rattle.t85_core.specs.States.State.{RowStart, StripeStart, first_row_start, next_stripe_start, offset_at, lines_with, after_row}
-use Rattle.t85_core.specs.States.Written.{EncoderStart, next_flag, next_move, row_start_in, after_rows, lines_down, IsCountedTo, IsTallied}
+use Rattle.t85_core.specs.States.Written.{EncoderStart, next_flag, next_move, row_start_in, after_rows, lines_down, IsCountedTo, IsTallied, has_choice}
 use Rattle.t85_core.specs.Private.Written.{first_encoder_start, next_stripe, next_encoder_start, ending_of}
 use Rattle.t85_core.specs.Private.CoderLaws.{WritingLaws}
 use Rattle.t85_core.specs.States.Sent.{Origin, Sends, SendsBeginning, here}
@@ -61,9 +60,10 @@ events_more counter width old new h more =
     let sum : (counter + 1) * (width + 1) ≡ counter * (width + 1) + 1 * (width + 1) = Rattle.std.proofs.Math.Nat.add-mul counter 1 (width + 1) in
     omega (arith, sum)
 
-none_counted : (width : ℕ) (counted : Option ℕ) (tally : Tally) → ((width' current : ℕ) → CountsLines tally width' current []) → IsCountedTo width counted tally []
-none_counted width None tally h = h width
-none_counted width (Some current) tally h = h width current
+none_counted : (width : ℕ) (is_counted : Bool) (offset : ℕ) (tally : Tally) → (is_counted ≡ true → (width' current : ℕ) → CountsLines tally width' current []) →
+    IsCountedTo width (if is_counted then Some offset else None) tally []
+none_counted width true offset tally h = h refl width offset
+none_counted width false offset tally h = tt
 
 -- ---- a stripe begins
 
@@ -74,9 +74,9 @@ module _ {image : Image} {rows : List (List Bool)} {v : RowView} {before : Held}
   waits_within left = omega arith
 
   pub stripe_begun : v.rows < v.plan.limit → (kept : Kept) (tally : Tally) (is_counted : Bool)
-      → ((s' : Settings) (width' : ℕ) (at : EncoderStart) → v.kept.offset ≡ at.carry.offset → v.named ≡ named_for s' at.stripe → IsTallied s' width' at v.tally →
+      → ((s' : Settings) (width' : ℕ) (at : EncoderStart) → v.kept.offset ≡ at.carry.offset → v.named ≡ named_for s' at.stripe → v.plan.has_candidates ≡ has_choice s' → IsTallied s' width' at v.tally →
       MoveMade (next_move s' width' at) at.carry.offset mid text' v.kept kept)
-      → ((width' current : ℕ) → CountsLines tally width' current []) → is_two_line tally ≡ is_two_line v.tally → most_of tally ≡ most_of v.tally
+      → (is_counted ≡ true → (width' current : ℕ) → CountsLines tally width' current []) → is_two_line tally ≡ is_two_line v.tally → most_of tally ≡ most_of v.tally
       → (v.plan.stripe_rows < v.plan.limit - v.rows → v.plan.has_candidates ≡ true → is_counted ≡ true)
       → Runs image rows (record v { kept = kept; tally = tally; is_counted = is_counted; named = None }) before origin text'
   stripe_begun left kept tally is_counted moves counts two_line most counted = record {
@@ -104,25 +104,25 @@ module _ {image : Image} {rows : List (List Bool)} {v : RowView} {before : Held}
       };
       two_line = two_line ∙ on.is_tallied.two_line;
       most = most ∙ on.is_tallied.most;
-      tallied = none_counted image.width _ tally counts;
+      tallied = none_counted image.width is_counted _ tally counts;
     };
     names_to = w.names_to;
     none_named = refl;
     counts = λ more some. counted
         (let sum : (w.i + 1) * image.settings.stripe_rows
         ≡ w.i * image.settings.stripe_rows + 1 * image.settings.stripe_rows = Rattle.std.proofs.Math.Nat.add-mul w.i 1 image.settings.stripe_rows in omega (arith, sum))
-        (w.plan_is.candidates_are ∙ (grind (arith, nat_tests, some)));
+        (w.plan_is.candidates_are ∙ some);
     sent = Sends-more (move_bytes image.settings image.width w.at ++ []) w.sent (rw append-nil made.appended);
   } where
     on : IsStart image.settings image.width w.at v before
     on = w.on_course (waits_within left)
 
     made : MoveMade (next_move image.settings image.width w.at) w.at.carry.offset mid text' v.kept kept
-    made = moves image.settings image.width w.at on.is_held.offset_is on.named_is on.is_tallied
+    made = moves image.settings image.width w.at on.is_held.offset_is on.named_is w.plan_is.candidates_are on.is_tallied
 
   -- a beginning of the move was written
   pub move_cut : v.rows < v.plan.limit → (row : List Bool)
-      → ((s' : Settings) (width' : ℕ) (at : EncoderStart) → v.kept.offset ≡ at.carry.offset → v.named ≡ named_for s' at.stripe → IsTallied s' width' at v.tally →
+      → ((s' : Settings) (width' : ℕ) (at : EncoderStart) → v.kept.offset ≡ at.carry.offset → v.named ≡ named_for s' at.stripe → v.plan.has_candidates ≡ has_choice s' → IsTallied s' width' at v.tally →
       MoveCut s' width' at mid text')
       → StreamCut image (rows ++ row ∷ []) origin text'
   move_cut left row cuts = record {
@@ -140,7 +140,7 @@ module _ {image : Image} {rows : List (List Bool)} {v : RowView} {before : Held}
     on = w.on_course (waits_within left)
 
     p : AppendsBeginning mid text' (move_bytes image.settings image.width w.at)
-    p = cuts image.settings image.width w.at on.is_held.offset_is on.named_is on.is_tallied
+    p = cuts image.settings image.width w.at on.is_held.offset_is on.named_is w.plan_is.candidates_are on.is_tallied
 
 -- ---- a row is coded
 
@@ -331,9 +331,6 @@ module _ {image : Image} {rows : List (List Bool)} {v : RowView} {window : Held}
     moved zero e = absurd (omega (arith, some_part))
     moved (suc n) e = ap (λ k. offset_at (next_move image.settings image.width r.at) k last.offset) e ∙ sym (moved_before (next_move image.settings image.width r.at) n r.running.is_held.at_top)
 
-  counted_none : (lines : List Lines) → counted_of v ≡ None → IsCountedTo image.width (counted_of v) v.tally lines → (current : ℕ) → CountsLines v.tally image.width current []
-  counted_none lines none counts = subst (λ o. IsCountedTo image.width o v.tally lines) none counts
-
   counted_some : {offset : ℕ} {lines : List Lines} → counted_of v ≡ Some offset → IsCountedTo image.width (counted_of v) v.tally lines → CountsLines v.tally image.width offset lines
   counted_some {lines} is counts = subst (λ o. IsCountedTo image.width o v.tally lines) is counts
 
@@ -353,21 +350,17 @@ module _ {image : Image} {rows : List (List Bool)} {v : RowView} {window : Held}
     same : (if v.plan.reset then 0 else v.kept.offset) ≡ next.carry.offset
     same = current image.settings.reset r.plan_is.reset_is
 
-    by_count : (b : Bool) → v.is_counted ≡ b → (0 < length (candidates (mode_of image.settings.options).two_line image.settings.most_offset) → b ≡ true) →
+    by_count : (b : Bool) → v.is_counted ≡ b → (has_choice image.settings ≡ true → b ≡ true) →
         IsTallied image.settings image.width next v.tally
     by_count true is counts = record {
       two_line = r.running.two_line;
       most = r.running.most;
-      lines = lines;
-      counts = subst (λ o. CountsLines v.tally image.width o lines) same (counted_some (ap (λ z. if z then Some (if v.plan.reset then 0 else v.kept.offset) else None) is) r.running.tallied);
-      lines_are = λ _. refl;
+      counts = λ _. subst (λ o. CountsLines v.tally image.width o lines) same (counted_some (ap (λ z. if z then Some (if v.plan.reset then 0 else v.kept.offset) else None) is) r.running.tallied);
     }
     by_count false is counts = record {
       two_line = r.running.two_line;
       most = r.running.most;
-      lines = [];
-      counts = counted_none lines (ap (λ z. if z then Some (if v.plan.reset then 0 else v.kept.offset) else None) is) r.running.tallied next.carry.offset;
-      lines_are = λ some'. absurd (let e : false ≡ true = counts some' in let bot : ⊥ = cc in bot);
+      counts = λ some'. absurd (let e : false ≡ true = counts some' in let bot : ⊥ = cc in bot);
     }
 
   pub stripe_ended : {kept : Kept} {learned : List Estimate} {window' : Held} {text'' : Option (List ℕ)} {E : Type 0} {answer : Result (Unit {0}) E} (laws : WritingLaws) (e : Encoder) →
@@ -592,7 +585,7 @@ none_stand {image} plan unnamed u white put = inl (record {
   names_to = (let none_are : length image.settings.named ≡ 0 = ap length unnamed in omega arith);
   on_course = λ _. record {
     is_held = record { at_top = tt; offset_is = u.offset_is; previous_is = u.previous_is; learned_is = u.learned_is; third = white_row image.width; lines_are = white };
-    is_tallied = record { two_line = u.two_line; most = u.most; lines = []; counts = u.counts image.width 0; lines_are = λ _. refl };
+    is_tallied = record { two_line = u.two_line; most = u.most; counts = λ _. u.counts image.width 0 };
     named_is = u.nameless ∙ sym (ap (λ names. slice_index_or names 0 None) unnamed);
   };
   sent = sent_here put;

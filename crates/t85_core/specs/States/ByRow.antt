@@ -1,10 +1,9 @@
 -- The state of a row encoder after some rows, and how it relates to the stream.
-use Rattle.std.specs.Prelude.{ℕ, ◌+◌, ◌*◌, ◌%◌, ◌^◌, ◌≡◌, ◌≤◌, ◌<◌, ◌⊎◌, Bool, true, false, List, [], ◌∷◌, ◌++◌, length, nat_lt, flat_map, if◌then◌else◌, Option, None, Some, IfSome, is_some, unwrap_or}
+use Rattle.std.specs.Prelude.{ℕ, ◌+◌, ◌*◌, ◌%◌, ◌^◌, ◌≡◌, ◌≤◌, ◌<◌, ◌⊎◌, Bool, true, false, List, [], ◌∷◌, ◌++◌, length, flat_map, if◌then◌else◌, Option, None, Some, IfSome, is_some, unwrap_or}
 use Rattle.qm_core.specs.Place.{Estimate, Place, start}
 use Rattle.qm_core.specs.Encoder.{EncoderIsAt, event_count, has_failed}
 use Rattle.qm_core.specs.declared.encoder.Encoder.{Encoder}
 use Rattle.raster_core.specs.Lines.{Lines}
-use Rattle.raster_core.specs.Offset.{candidates}
 use Rattle.raster_core.specs.Packed.{Held, HasLines}
 use Rattle.raster_core.specs.Tally.{is_two_line, most_of}
 use Rattle.raster_core.specs.declared.shape.Shape.{Shape}
@@ -19,7 +18,7 @@ use Rattle.t85_core.specs.Jbg.{Settings, named_for, jbg, move_segments}
 use Rattle.t85_core.specs.RowImage.{Image, named_after}
 use Rattle.t85_core.specs.States.State.{RowStart, first_row_start, offset_at}
 use Rattle.t85_core.specs.States.RowStream.{HaveCome, StripesWhole, StreamCut}
-use Rattle.t85_core.specs.States.Written.{EncoderStart, next_move, row_start_in, lines_down, IsShape, IsCountedTo, IsTallied}
+use Rattle.t85_core.specs.States.Written.{EncoderStart, next_move, row_start_in, lines_down, IsShape, IsCountedTo, IsTallied, has_choice}
 use Rattle.t85_core.specs.States.Sent.{Origin, Sends, SendsBeginning}
 
 -- The parameters of a stream.
@@ -107,7 +106,7 @@ pub record IsPlan (image : Image) (p : RowPlan) : Type 0 where
   pub some : 1 ≤ image.settings.stripe_rows
   pub announced_is : p.announced ≡ unwrap_or image.settings.announced image.limit
   pub may_end_is : p.may_end ≡ is_some image.settings.announced
-  pub candidates_are : p.has_candidates ≡ nat_lt 0 (length (candidates (mode_of image.settings.options).two_line image.settings.most_offset))
+  pub candidates_are : p.has_candidates ≡ has_choice image.settings
   pub reset_is : p.reset ≡ image.settings.reset
   pub most_is : p.most_offset ≡ image.settings.most_offset
   pub width_from : 1 ≤ image.width
@@ -133,7 +132,7 @@ move_bytes s width at = flat_map segment_bytes (move_segments (next_move s width
 
 -- The rows of the current stripe are counted if another stripe follows and there are offsets to choose from.
 abbrev pub CountsForNext : Settings → ℕ → ℕ → RowView → Type 0
-CountsForNext s limit i v = (i + 1) * s.stripe_rows < limit → 0 < length (candidates (mode_of s.options).two_line s.most_offset) → v.is_counted ≡ true
+CountsForNext s limit i v = (i + 1) * s.stripe_rows < limit → has_choice s ≡ true → v.is_counted ≡ true
 
 -- These rows of the stripe were encoded. Its move and the final bytes of its code were written.
 pub record IsRunning (image : Image) (at : EncoderStart) (part : List (List Bool)) (v : RowView) (window : Held) (pushed : List ℕ) : Type 0 where

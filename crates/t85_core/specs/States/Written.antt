@@ -1,5 +1,5 @@
 -- The stream of a raster, in the order in which an encoder writes it.
-use Rattle.std.specs.Prelude.{ℕ, ◌≡◌, Bool, List, [], ◌∷◌, Option, Some, None, ◌+◌, length, option_map, ◌<◌}
+use Rattle.std.specs.Prelude.{ℕ, ◌≡◌, Bool, true, nat_lt, List, [], ◌∷◌, Option, IfSome, ◌+◌, length, option_map}
 use Rattle.raster_core.specs.Tally.{CountsLines, is_two_line, most_of}
 use Rattle.raster_core.specs.Lines.{Lines, Mode, may_be_typical}
 use Rattle.raster_core.specs.Window.{shape_mode}
@@ -15,10 +15,9 @@ pub record IsShape (s : Settings) (width : ℕ) (shape : Shape) : Type 0 where
   pub width_is : shape.width ≡ width
   pub mode_is : shape_mode shape ≡ mode_of s.options
 
--- The tally counts these lines; if lines are not counted, it counts none.
+-- The tally counts these lines, if lines are counted.
 abbrev pub IsCountedTo : ℕ → Option ℕ → Tally → List Lines → Type 0
-IsCountedTo width None tally lines = (current : ℕ) → CountsLines tally width current []
-IsCountedTo width (Some current) tally lines = CountsLines tally width current lines
+IsCountedTo width counted tally lines = IfSome counted (λ current. CountsLines tally width current lines)
 
 -- The next row is typical if it may be.
 abbrev pub next_flag : Mode → RowStart → List Bool → Bool
@@ -50,10 +49,12 @@ next_move s width at =
 abbrev pub row_start_in : Settings → ℕ → EncoderStart → List (List Bool) → RowStart
 row_start_in s width at rows = after_rows (mode_of s.options) (next_move s width at) 0 (first_row_start at.carry) rows
 
+-- Whether there are offsets to choose from.
+abbrev pub has_choice : Settings → Bool
+has_choice s = nat_lt 0 (length (candidates (mode_of s.options).two_line s.most_offset))
+
 -- The counts at the beginning of a stripe: those of the stripe before, if there are offsets to choose from.
 pub record IsTallied (s : Settings) (width : ℕ) (at : EncoderStart) (tally : Tally) : Type 0 where
   pub two_line : is_two_line tally ≡ (mode_of s.options).two_line
   pub most : most_of tally ≡ s.most_offset
-  pub lines : List Lines
-  pub counts : CountsLines tally width at.carry.offset lines
-  pub lines_are : 0 < length (candidates (mode_of s.options).two_line s.most_offset) → lines ≡ at.counted
+  pub counts : has_choice s ≡ true → CountsLines tally width at.carry.offset at.counted

@@ -12,7 +12,7 @@ ghost use Rattle.t85_core.specs.Jbg.{Settings, named_for, head_of, is_low};
 ghost use Rattle.t85_core.specs.Options.{settings_of};
 ghost use Rattle.t85_core.specs.States.Written.{EncoderStart, next_move};
 ghost use Rattle.t85_core.specs.States.Written.{IsCountedTo};
-ghost use Rattle.t85_core.specs.States.Written.{IsTallied};
+ghost use Rattle.t85_core.specs.States.Written.{IsTallied, has_choice};
 ghost use Rattle.t85_core.specs.States.ByRow.{IsSomewhere, IsLined};
 ghost use Rattle.t85_core.specs.RowSink.{PutsBytes};
 ghost use Rattle.t85_core.specs.Private.Buffers.{WritesOrFails};
@@ -50,11 +50,11 @@ pub fn write_head<P: ByteTarget>(
 
 /// The offset to which the adaptive pixel moves: the caller's, unless it is there already; or, if the caller chose
 /// none, the one that would have served the previous stripe, if there is one.
-fn next_offset(named: Option<u8>, current: u8, tally: &Tally) -> Option<u8>
+fn next_offset(named: Option<u8>, current: u8, has_candidates: bool, tally: &Tally) -> Option<u8>
     requires named { IfSome named (λ t. t ≤ 127) }
     ensures is { (s : Settings) (width : ℕ) (at : EncoderStart) → current ≡ at.carry.offset →
-        named ≡ named_for s at.stripe → IsTallied s width at tally.now →
-        option_map (λ t. (0, t)) result ≡ next_move s width at }
+        named ≡ named_for s at.stripe → has_candidates ≡ has_choice s →
+        IsTallied s width at tally.now → option_map (λ t. (0, t)) result ≡ next_move s width at }
     ensures small { IfSome result (λ t. t ≤ 127) }
 {
     match named {
@@ -65,7 +65,13 @@ fn next_offset(named: Option<u8>, current: u8, tally: &Tally) -> Option<u8>
                 Some(offset)
             }
         }
-        None => tally.choose(current),
+        None => {
+            if has_candidates {
+                tally.choose(current)
+            } else {
+                None
+            }
+        }
     }
 }
 
@@ -74,23 +80,24 @@ fn next_offset(named: Option<u8>, current: u8, tally: &Tally) -> Option<u8>
 pub fn move_pixel<P: ByteTarget>(
     kept: &mut Kept,
     named: Option<u8>,
+    has_candidates: bool,
     tally: &Tally,
     target: &mut P,
 ) -> Result<(), Fault>
     requires named { IfSome named (λ t. t ≤ 127) }
     ensures ok { OnOk result ((s : Settings) (width : ℕ) (at : EncoderStart) →
         kept.old.offset ≡ at.carry.offset → named ≡ named_for s at.stripe →
-        IsTallied s width at tally.now →
+        has_candidates ≡ has_choice s → IsTallied s width at tally.now →
         MoveMade (next_move s width at) at.carry.offset (P.view target.old).text
         (P.view target.new).text kept.old kept.new) }
     ensures cut { OnErr result ((s : Settings) (width : ℕ) (at : EncoderStart) →
         kept.old.offset ≡ at.carry.offset → named ≡ named_for s at.stripe →
-        IsTallied s width at tally.now →
+        has_candidates ≡ has_choice s → IsTallied s width at tally.now →
         MoveCut s width at (P.view target.old).text (P.view target.new).text) }
     ensures few { AppendsAtMost 8 (P.view target.old).text (P.view target.new).text }
     ensures fails { WritesOrFails (P.view target.old) (P.view target.new) result }
 {
-    match next_offset(named, kept.offset, tally) {
+    match next_offset(named, kept.offset, has_candidates, tally) {
         Some(offset) => {
             write_move(offset, target)?;
             kept.offset = offset;

@@ -105,9 +105,18 @@ impl RowEncoder {
     {
         let named = self.named;
         self.named = None;
-        move_pixel(&mut self.kept, named, &learning.tally, target)?;
-        learning.tally.restart();
+        let has_candidates = self.has_candidates;
+        move_pixel(
+            &mut self.kept,
+            named,
+            has_candidates,
+            &learning.tally,
+            target,
+        )?;
         self.is_counted = self.is_followed();
+        if self.is_counted {
+            learning.tally.restart();
+        }
         Ok(())
     }
 
