@@ -92,7 +92,7 @@ pixels_of-packed width row wide =
     ap (λ w. pixels_of w (packed_row row)) (sym wide) ∙ ap (pixels_of (length row)) (sym (append-nil (packed_row row))) ∙ pixels_of-packed_row row []
 
 -- rows that are packed one after the other
-packed_rows : (width : ℕ) (rows : List (List Bool)) → AllByRecursion (λ row. length row ≡ width) rows → AreRows Raw width (flat_map packed_row rows) rows
+pub packed_rows : (width : ℕ) (rows : List (List Bool)) → AllByRecursion (λ row. length row ≡ width) rows → AreRows Raw width (flat_map packed_row rows) rows
 packed_rows width [] each = refl
 packed_rows width (row ∷ rows) each =
     (packed_row row, flat_map packed_row rows, refl, (length-packed_row row ∙ ap bytes_of_row each.0, sym (pixels_of-packed width row each.0)), packed_rows width rows each.1)

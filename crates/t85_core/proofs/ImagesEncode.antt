@@ -12,6 +12,7 @@ pub mod HeadIsPut
 pub mod EntityEnds
 pub mod RastersMayCome
 pub mod RowEncoderAdvances
+pub mod TypicalRowsAreEncoded
 pub mod RowIsGiven
 pub mod PaddingIsCleared
 pub mod BufferReadsAhead

@@ -24,3 +24,4 @@ pub mod RowCalls
 pub mod Trial
 pub mod EncodeRows
 pub mod EncodeStripes
+pub mod AgainRows

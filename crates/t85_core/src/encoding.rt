@@ -140,9 +140,10 @@ fn encode_image<S: RowSource, P: ByteTarget>(
     let mut encoder = RowEncoder::new(size, options);
     window.clear();
     write_head(size, options, target)?;
-    'rows: for _ in 0..size.height {
+    'rows: while encoder.left() > 0 {
         read_next_row(size, window, source)?;
         encoder.put_taken(window, &mut learning, target)?;
+        encoder.put_equal(window, &mut learning, source, target)?;
     }
     encoder.end(window, &mut learning, target)
 }

@@ -19,7 +19,7 @@ same_row_self (false ∷ row) = same_row_self row
 
 module _ (w : ℕ) (mode : Mode) (move : Option (ℕ × ℕ)) (typical : mode.typical ≡ true) where
   -- what is coded for each
-  abbrev again : Event
+  abbrev pub again : Event
   again = pseudo_event mode true true
 
   -- after so many of them
@@ -27,7 +27,7 @@ module _ (w : ℕ) (mode : Mode) (move : Option (ℕ × ℕ)) (typical : mode.ty
   behind r b zero = b
   behind r b (suc n) = behind (r + 1) (after_row mode move r b b.above true) n
 
-  again_events : (r : ℕ) (b : RowStart) → b.previous ≡ true → events_with mode move r b b.above true ≡ again ∷ []
+  pub again_events : (r : ℕ) (b : RowStart) → b.previous ≡ true → events_with mode move r b b.above true ≡ again ∷ []
   again_events r b previous = rw typical (rw previous refl)
 
   pub state_behind : (r : ℕ) (b : RowStart) (n : ℕ) → b.previous ≡ true → (behind r b n).state ≡ after b.state (replicate n again)

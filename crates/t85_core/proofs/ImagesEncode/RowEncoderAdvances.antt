@@ -9,7 +9,7 @@ use Rattle.std.proofs.lemmas.Grind.{div_ceil_times}
 use Rattle.std.proofs.Math.Seq.{take-length}
 use Rattle.devices.specs.Device.{AppendsBeginning}
 use Rattle.std.proofs.lemmas.List.{get_or_past}
-use Rattle.qm_core.specs.Place.{Estimate, start, fresh, after}
+use Rattle.qm_core.specs.Place.{Estimate, Event, start, fresh, after}
 use Rattle.qm_core.specs.Code.{code_of, stuffed}
 use Rattle.qm_core.specs.Encoder.{EncoderIsAt, IsStuffedFront, encoder_state}
 use Rattle.qm_core.specs.declared.encoder.Encoder.{Encoder}
@@ -35,7 +35,7 @@ use Rattle.t85_core.specs.RowImage.{MayCome, Image}
 use Rattle.t85_core.specs.Private.RowSteps.{MoveMade, MoveCut, RowPut, RowCut, CodeEnded, StripeEnded, StripeBegun, StripesEnded}
 use Rattle.t85_core.proofs.BytesJoin.BytesAreSent.{Sends-more, Sends-keeps, sends_after, sends_longer, sent_here}
 use Rattle.t85_core.proofs.ImagesEncode.StripeGrows.{after_more, lines_more}
-use Rattle.t85_core.proofs.ImagesEncode.RowsStopShort.{rows_place, fails_begins}
+use Rattle.t85_core.proofs.ImagesEncode.RowsStopShort.{events_down, rows_place, fails_begins}
 use Rattle.t85_core.proofs.ImagesEncode.RastersMayCome.{none_whole, stands_here, same_announced, come_first, come_long, stripe_more, part_begins, whole_more, inside_of, front_begins, less_or_not}
 
 -- before the first row of a stripe without a move, what is held is what is carried
@@ -148,10 +148,51 @@ pub length-lines_down : (above second : List Bool) (rows : List (List Bool)) →
 length-lines_down above second [] = refl
 length-lines_down above second (row ∷ rows) = rw (length-lines_down row above rows)
 
-all_more : {width : ℕ} (rows : List (List Bool)) (row : List Bool) → AllByRecursion (λ r. length r ≡ width) rows → length row ≡ width →
+pub all_more : {width : ℕ} (rows : List (List Bool)) (row : List Bool) → AllByRecursion (λ r. length r ≡ width) rows → length row ≡ width →
     AllByRecursion (λ r. length r ≡ width) (rows ++ row ∷ [])
 all_more [] row all is = (is, tt)
 all_more (first ∷ rows) row all is = (all.0, all_more rows row all.1 is)
+
+-- the target refused a byte of some rows of the stripe in progress, which have these events
+module _ {image : Image} {rows : List (List Bool)} {v : RowView} {before : Held} {origin : Origin} {mid : Option (List ℕ)} (r : Runs image rows v before origin mid) (more : List (List Bool))
+    (text' : Option (List ℕ)) where
+  abbrev from_row : RowStart
+  from_row = row_start_in image.settings image.width r.at r.part
+
+  pub rows_cut : {events : List Event} → WritingLaws → 1 ≤ length more → length r.part + length more ≤ image.settings.stripe_rows →
+      events_down (mode_of image.settings.options) (next_move image.settings image.width r.at) (0 + length r.part) from_row more ≡ events →
+      RowCut (record { place = from_row.state.place; learned = v.learned }) r.pushed events mid text' → StreamCut image (rows ++ more) origin text'
+  rows_cut laws some fewer events_are cut = record {
+    bytes = (r.front ++ (move_bytes image.settings image.width r.at ++ r.pushed)) ++ cut.done;
+    sent = Sends-more cut.done r.sent cut.appended;
+    begins = λ raster m. rw bytes_are (part_begins r.plan_is.some r.stripes (r.part ++ more) (move_bytes image.settings image.width r.at ++ (r.pushed ++ cut.done)) few begins
+        (subst (λ z. MayCome image z raster) all m)
+        (let long = come_long (subst (λ z. MayCome image z raster) all m) in omega (arith, length-append r.whole (r.part ++ more), length-append r.part more)));
+  } where
+    all : rows ++ more ≡ r.whole ++ (r.part ++ more)
+    all = rw r.all (append_assoc r.whole r.part more)
+
+    few : length (r.part ++ more) ≤ image.settings.stripe_rows
+    few = let sum = length-append r.part more in omega (arith, sum)
+
+    bytes_are : (r.front ++ (move_bytes image.settings image.width r.at ++ r.pushed)) ++ cut.done ≡ r.front ++ (move_bytes image.settings image.width r.at ++ (r.pushed ++ cut.done))
+    bytes_are = rw (append_assoc, append_assoc)
+
+    front_is : IsStuffedFront ((r.pushed ++ cut.done) ++ cut.left) (after from_row.state cut.events).place
+    front_is = subst (λ l. IsStuffedFront ((r.pushed ++ cut.done) ++ cut.left) (after (record { place = from_row.state.place; learned = l }) cut.events).place) r.running.is_held.learned_is cut.begins
+
+    begins : (later : List (List Bool)) → IsBeginning (move_bytes image.settings image.width r.at ++ (r.pushed ++ cut.done))
+        (stripe_bytes (next_stripe image.settings image.width r.at ((r.part ++ more) ++ later)))
+    begins later =
+        let p = fails_begins laws (mode_of image.settings.options) (next_move image.settings image.width r.at) r.at.carry r.part more (length (r.part ++ more) + length later) cut.events cut.rest
+        (r.pushed ++ cut.done) cut.left (events_are ∙ cut.all_are) front_is later refl in
+        record {
+          rest = p.rest ++ marker_bytes image.settings.reset;
+          bytes_are =
+              ap (λ z. move_bytes image.settings image.width r.at ++ (z ++ marker_bytes image.settings.reset)) p.bytes_are
+              ∙ ap (λ z. move_bytes image.settings image.width r.at ++ z) (append_assoc (r.pushed ++ cut.done) p.rest (marker_bytes image.settings.reset))
+              ∙ sym (append_assoc (move_bytes image.settings image.width r.at) (r.pushed ++ cut.done) (p.rest ++ marker_bytes image.settings.reset));
+        }
 
 module _ {image : Image} {rows : List (List Bool)} {v : RowView} {before : Held} {origin : Origin} {mid : Option (List ℕ)} (row : List Bool) (window : Held) (text' : Option (List ℕ))
     (below : IsBelow row before window) (wide : window.width ≡ v.plan.width) (r : Runs image rows v before origin mid) where
@@ -247,45 +288,20 @@ module _ {image : Image} {rows : List (List Bool)} {v : RowView} {before : Held}
   -- the target refused a byte of it
   pub row_cut : WritingLaws → v.in_stripe < v.plan.stripe_rows →
       RowCut (record { place = b.state.place; learned = v.learned }) r.pushed (canonical_events v.plan.shape v.kept (lines_with b row)) mid text' → StreamCut image (rows ++ row ∷ []) origin text'
-  row_cut laws fewer cut = record {
-    bytes = (r.front ++ (move_bytes image.settings image.width r.at ++ r.pushed)) ++ cut.done;
-    sent = Sends-more cut.done r.sent cut.appended;
-    begins = λ raster m. rw bytes_are (part_begins r.plan_is.some r.stripes (r.part ++ row ∷ []) (move_bytes image.settings image.width r.at ++ (r.pushed ++ cut.done)) few begins
-        (subst (λ z. MayCome image z raster) all m)
-        (let long = come_long (subst (λ z. MayCome image z raster) all m) in omega (arith, length-append r.whole (r.part ++ row ∷ []), length-append r.part (row ∷ []))));
-  } where
-    all : rows ++ row ∷ [] ≡ r.whole ++ (r.part ++ row ∷ [])
-    all = rw r.all (append_assoc r.whole r.part (row ∷ []))
-
-    few : length (r.part ++ row ∷ []) ≤ image.settings.stripe_rows
-    few = let sum = length-append r.part (row ∷ []) in omega (arith, sum)
-
-    bytes_are : (r.front ++ (move_bytes image.settings image.width r.at ++ r.pushed)) ++ cut.done ≡ r.front ++ (move_bytes image.settings image.width r.at ++ (r.pushed ++ cut.done))
-    bytes_are = rw (append_assoc, append_assoc)
-
-    front_is : IsStuffedFront ((r.pushed ++ cut.done) ++ cut.left) (after b.state cut.events).place
-    front_is = subst (λ l. IsStuffedFront ((r.pushed ++ cut.done) ++ cut.left) (after (record { place = b.state.place; learned = l }) cut.events).place) r.running.is_held.learned_is cut.begins
-
-    at : length r.part ≡ 0 + length r.part
-    at = omega arith
-
-    begins : (later : List (List Bool)) → IsBeginning (move_bytes image.settings image.width r.at ++ (r.pushed ++ cut.done))
-        (stripe_bytes (next_stripe image.settings image.width r.at ((r.part ++ row ∷ []) ++ later)))
-    begins later =
-        let p = fails_begins laws mode move c r.part row (length (r.part ++ row ∷ []) + length later) cut.events cut.rest (r.pushed ++ cut.done) cut.left
-        (ap (λ n. row_events mode (lines_with b row) (offset_at move n b.offset) b.previous (next_flag mode b row)) (sym at) ∙ sym events_are ∙ cut.all_are)
-        front_is later refl in
-        record {
-          rest = p.rest ++ marker_bytes image.settings.reset;
-          bytes_are =
-              ap (λ z. move_bytes image.settings image.width r.at ++ (z ++ marker_bytes image.settings.reset)) p.bytes_are
-              ∙ ap (λ z. move_bytes image.settings image.width r.at ++ z) (append_assoc (r.pushed ++ cut.done) p.rest (marker_bytes image.settings.reset))
-              ∙ sym (append_assoc (move_bytes image.settings image.width r.at) (r.pushed ++ cut.done) (p.rest ++ marker_bytes image.settings.reset));
-        }
+  row_cut laws fewer cut = rows_cut r (row ∷ []) text' laws (omega arith) (omega arith)
+      (append-nil (row_events mode (lines_with b row) (offset_at move (0 + length r.part) b.offset) b.previous (next_flag mode b row))
+      ∙ ap (λ n. row_events mode (lines_with b row) (offset_at move n b.offset) b.previous (next_flag mode b row)) (sym at) ∙ sym events_are) cut where
+        at : length r.part ≡ 0 + length r.part
+        at = omega arith
 
 -- ---- where a row encoder stands
 
 module _ (image : Image) (rows : List (List Bool)) (v : RowView) (window : Held) (origin : Origin) (text' : Option (List ℕ)) where
+  -- its numbers
+  pub stands_many : Stands image rows v window origin text' → (v.rows ≡ length rows) × (v.plan.limit ≡ image.limit)
+  stands_many (inl w) = (w.come.many, w.plan_is.limit_is)
+  stands_many (inr r) = (r.0.come.many, r.0.plan_is.limit_is)
+
   -- no stripe runs
   pub stands_waiting : v.in_stripe ≡ 0 → Stands image rows v window origin text' → Waits image rows v window origin text'
   stands_waiting none (inl w) = w

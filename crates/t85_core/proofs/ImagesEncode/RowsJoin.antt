@@ -1,5 +1,5 @@
 -- Rows that were read after rows.
-use Rattle.std.proofs.Common.{ℕ, Bool, List, [], ◌∷◌, ◌++◌, Option, None, Some, refl, ap, ◌∙◌, append_assoc}
+use Rattle.std.proofs.Common.{◌≡◌, ℕ, Bool, List, [], ◌∷◌, ◌++◌, Option, None, Some, refl, ap, ◌∙◌, append_assoc}
 use Rattle.std.specs.Io.KnownBytes.{Consumes}
 use Rattle.pbm_core.specs.declared.form.Form.{Form}
 use Rattle.pbm_core.specs.Image.{AreRows}
@@ -17,6 +17,9 @@ reads_none {known} = record { given = []; taken = nothing known; are_rows = refl
   nothing : (known : Option (List ℕ)) → Consumes known known []
   nothing None = tt
   nothing (Some a) = refl
+
+pub none_read : {form : Form} {width : ℕ} {known known' : Option (List ℕ)} → known' ≡ known → ReadsRows form width known known' []
+none_read is = rw is reads_none
 
 pub reads_join : {form : Form} {width : ℕ} {a b c : Option (List ℕ)} {rows more : List (List Bool)} → ReadsRows form width a b rows → ReadsRows form width b c more →
     ReadsRows form width a c (rows ++ more)

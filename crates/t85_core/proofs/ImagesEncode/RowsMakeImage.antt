@@ -21,6 +21,7 @@ use Rattle.t85_core.specs.States.ByRow.{RowView, Waits, Runs, Stands, IsLined, m
 use Rattle.t85_core.specs.RowImage.{MayCome, Image, image_of}
 use Rattle.t85_core.proofs.BytesJoin.BytesAreSent.{here_sent}
 use Rattle.t85_core.proofs.StreamsDenote.StateIsCarried.{stripe_at}
+use Rattle.t85_core.proofs.ImagesEncode.RowEncoderAdvances.{stands_many}
 use Rattle.t85_core.proofs.ImagesEncode.RowsStopShort.{pushed_begins}
 use Rattle.t85_core.proofs.ImagesEncode.RastersMayCome.{stands_here, come_first, come_long, part_begins, front_begins, less_or_not}
 use Rattle.t85_core.specs.States.Passage.{Passage, passage}
@@ -138,9 +139,13 @@ module _ {form : Form} {width : ℕ} {rows : List (List Bool)} {known mid : Opti
         ap (λ w. raster_of w raster.rows) b.width_is ∙ ap (raster_of width) rows_are
 
 -- the rows that were read, and the encoder's position
-abbrev pub ComeTo : Form → Image → ℕ → Passage → RowView → Held → Type 0
-ComeTo form image count p v window =
-    (rows : List (List Bool)) × (length rows ≡ count) × ReadsRows form image.width p.input p.input_after rows × Stands image rows v window (here p.output) p.output_after
+abbrev pub ComeTo : Form → Image → Passage → RowView → Held → Type 0
+ComeTo form image p v window =
+    (rows : List (List Bool)) × ReadsRows form image.width p.input p.input_after rows × Stands image rows v window (here p.output) p.output_after
+
+-- the encoder counts them
+pub many_come : {form : Form} {image : Image} {p : Passage} {v : RowView} {window : Held} → (so : ComeTo form image p v window) → v.rows ≡ length so.0
+many_come {image = image} {p = p} {v = v} {window = window} so = (stands_many image so.0 v window (here p.output) p.output_after so.2).0
 
 -- the window has lines after a row was read
 pub taken_lined : {form : Form} {width : ℕ} {known known' : Option (List ℕ)} {old new : Held} → RowTaken form width known known' old new → IsLined old → IsLined new

@@ -13,8 +13,14 @@ after_more mode move r b (row ∷ rows) more =
     let next = after_row mode move r b row (next_flag mode b row) in
     after_more mode move (r + 1) next rows more ∙ ap (λ n. after_rows mode move n (after_rows mode move (r + 1) next rows) more) at
 
+-- the lines of rows, and of more
+pub lines_append : (mode : Mode) (move : Option (ℕ × ℕ)) (r : ℕ) (b : RowStart) (rows more : List (List Bool)) →
+    lines_down b.above b.second (rows ++ more)
+    ≡ lines_down b.above b.second rows ++ lines_down (after_rows mode move r b rows).above (after_rows mode move r b rows).second more
+lines_append mode move r b [] more = refl
+lines_append mode move r b (first ∷ rows) more = rw (lines_append mode move (r + 1) (after_row mode move r b first (next_flag mode b first)) rows more)
+
 -- the lines of a row more
 pub lines_more : (mode : Mode) (move : Option (ℕ × ℕ)) (r : ℕ) (b : RowStart) (rows : List (List Bool)) (row : List Bool) →
     lines_down b.above b.second (rows ++ row ∷ []) ≡ lines_down b.above b.second rows ++ lines_with (after_rows mode move r b rows) row ∷ []
-lines_more mode move r b [] row = refl
-lines_more mode move r b (first ∷ rows) row = rw (lines_more mode move (r + 1) (after_row mode move r b first (next_flag mode b first)) rows row)
+lines_more mode move r b rows row = lines_append mode move r b rows (row ∷ [])

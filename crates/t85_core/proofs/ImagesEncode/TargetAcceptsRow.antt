@@ -18,7 +18,8 @@ use Rattle.t85_core.specs.Private.Buffers.{SinkView, SameSink, TakesByte, Refuse
 use Rattle.t85_core.specs.Private.RowSteps.{sent_as, RowOutcome, CodeFinished}
 use Rattle.t85_core.proofs.BytesJoin.CallsJoin.{Appends-keeps}
 use Rattle.t85_core.proofs.ImagesEncode.SinkTakes.{took_inked}
-use Rattle.raster_core.specs.Row.{RowEncoded, row_task}
+use Rattle.raster_core.specs.Row.{RowEncoded, RowsEncodedAgain, row_task}
+use Rattle.t85_core.specs.Private.AgainRows.{AgainOutcome}
 
 -- the result for it, and the count
 pub sent_err : (answer : Result (Unit {0}) CoderFault) → IfErr (sent_as answer) (λ f. f ≡ Write)
@@ -51,6 +52,11 @@ module _ {S : Type 0} (view : S → SinkView) (failed : S → ℕ) (from to : S)
   row_stays {answer = (Ok u)} shape kept s pushed lines e learned r = (took_inked view from to r.ok.encodes.more r.ok.encodes.taken).0
   row_stays {answer = (Err f)} shape kept s pushed lines e learned r = refused_stays r.err.fails.cut
 
+  pub again_stays : {answer : Result (Unit {0}) CoderFault} (shape : Shape) (s : State) (count : ℕ) (pushed : List ℕ) (e : Encoder) (learned : List Estimate) →
+      RowsEncodedAgain (sink_at pushes from pushed) shape s count (encoder_state to e learned) answer → SameSink (view from) (view to)
+  again_stays {answer = (Ok u)} shape s count pushed e learned r = (took_inked view from to r.ok.more r.ok.taken).0
+  again_stays {answer = (Err f)} shape s count pushed e learned r = refused_stays r.err.fails.cut
+
   pub end_stays : {p : Place} {answer : Result (Unit {0}) CoderFault} (pushed : List ℕ) → Finish (sink_at pushes from pushed) p to answer → SameSink (view from) (view to)
   end_stays {answer = (Ok u)} pushed r = (took_inked view from to r.more r.writes.ok).0
   end_stays {answer = (Err f)} pushed r = refused_stays r.writes.err
@@ -79,6 +85,25 @@ module _ {S : Type 0} (view : S → SinkView) (failed : S → ℕ) (from to : S)
       cut = tt;
     }
     row_inked shape kept kept' s pushed lines e learned (Err f) r = record {
+      ok = tt;
+      cut = (let c = r.err.fails.cut in record {
+        events = r.err.events;
+        rest = r.err.rest;
+        all_are = r.err.all_are;
+        done = c.done;
+        left = c.left;
+        appended = cut r.err.fails.more c;
+        begins = rw (append_assoc, ← c.all) r.err.fails.begins;
+      });
+    }
+
+    pub again_inked : (shape : Shape) (s : State) (count : ℕ) (pushed : List ℕ) (e : Encoder) (learned : List Estimate) (answer : Result (Unit {0}) CoderFault) →
+        RowsEncodedAgain (sink_at pushes from pushed) shape s count (encoder_state to e learned) answer → AgainOutcome shape s count pushed text (encoder_state text' e learned) (sent_as answer)
+    again_inked shape s count pushed e learned (Ok u) r = record {
+      ok = record { more = r.ok.more; appended = taken r.ok.more r.ok.taken; codes = r.ok.codes; taught = r.ok.taught };
+      cut = tt;
+    }
+    again_inked shape s count pushed e learned (Err f) r = record {
       ok = tt;
       cut = (let c = r.err.fails.cut in record {
         events = r.err.events;

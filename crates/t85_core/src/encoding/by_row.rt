@@ -1,5 +1,6 @@
 //! Encodes an image row by row.
 
+mod again;
 mod best_offset;
 mod ending;
 pub mod numbers;

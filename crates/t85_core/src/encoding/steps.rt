@@ -1,10 +1,10 @@
 //! The steps of an encoder: the head of the stream, the move of a stripe, a row, and the end of a code.
 
-ghost use Rattle.std.specs.Prelude.{[], ◌∷◌, ◌++◌, nat_lt, length, None, IfSome, ◌≡◌, ◌≤◌, ◌<◌, ◌+◌, ◌-◌, ◌^◌, List, ℕ, OnOk, OnErr, false, option_map};
+ghost use Rattle.std.specs.Prelude.{[], ◌∷◌, ◌++◌, nat_lt, length, None, IfSome, ◌≡◌, ◌≤◌, ◌<◌, ◌+◌, ◌-◌, ◌^◌, List, ℕ, OnOk, OnErr, false, true, option_map, replicate};
 ghost use Rattle.qm_core.specs.Place.{Place, state_of};
 ghost use Rattle.raster_core.specs.Tally.{is_two_line, most_of};
 ghost use Rattle.raster_core.specs.Offset.{candidates};
-ghost use Rattle.qm_core.specs.Encoder.{EncoderIsAt, has_failed, encoder_state};
+ghost use Rattle.qm_core.specs.Encoder.{EncoderIsAt, event_count, has_failed, encoder_state};
 ghost use Rattle.raster_core.specs.Lines.{Lines};
 ghost use Rattle.raster_core.specs.Packed.{HasLines};
 ghost use Rattle.raster_core.specs.Window.{held, width_of};
@@ -17,6 +17,7 @@ ghost use Rattle.t85_core.specs.States.ByRow.{IsSomewhere, IsLined};
 ghost use Rattle.t85_core.specs.RowSink.{PutsBytes};
 ghost use Rattle.t85_core.specs.Private.Buffers.{WritesOrFails};
 ghost use Rattle.t85_core.specs.MostBytes.{AppendsAtMost};
+ghost use Rattle.t85_core.specs.Private.AgainRows.{AgainOutcome};
 ghost use Rattle.t85_core.specs.Private.RowCalls.{HasCoded, MayCode};
 ghost use Rattle.t85_core.specs.Private.RowSteps.{MoveMade, MoveCut, sent_as, RowOutcome, CodeFinished, CodeEnded};
 ghost use Rattle.raster_core.specs.Row.{row_task};
@@ -28,7 +29,7 @@ use crate::options::Options;
 use crate::output_buffer::ByteTarget;
 use pbm_core::Size;
 use qm_core::{CoderFault, Encoder, Learned};
-use raster_core::{Kept, Shape, Tally, Window, encode_row};
+use raster_core::{Kept, Shape, Tally, Window, encode_again, encode_row};
 
 /// Writes the header of the stream, and the comment if there is one.
 pub fn write_head<P: ByteTarget>(
@@ -131,6 +132,30 @@ pub fn code_row<P: ByteTarget>(
     written(encode_row(shape, kept, window, learned, encoder, &mut ink))
 }
 
+/// Encodes this many typical rows after a typical row.
+pub fn code_again<P: ByteTarget>(
+    shape: Shape,
+    kept: Kept,
+    count: u32,
+    learned: &mut Learned,
+    encoder: &mut Encoder,
+    target: &mut P,
+) -> Result<(), Fault>
+    requires typical { (shape.typical ≡ true) × (kept.previous_typical ≡ true) }
+    requires few { event_count encoder.old + count ≤ 2 ^ 56 }
+    requires going { has_failed encoder.old ≡ false }
+    requires somewhere { IsSomewhere encoder.old }
+    ensures rows { (p : Place) (pushed : List ℕ) → EncoderIsAt encoder.old p pushed →
+        AgainOutcome shape (state_of p learned.old) count pushed (P.view target.old).text
+        (encoder_state (P.view target.new).text encoder.new learned.new) result }
+    ensures able { OnOk result ((has_failed encoder.new ≡ false) ×
+        (event_count encoder.new ≤ event_count encoder.old + count)) }
+    ensures fails { WritesOrFails (P.view target.old) (P.view target.new) result }
+{
+    let mut ink = EntitySink::new(target);
+    written(encode_again(shape, kept, count, learned, encoder, &mut ink))
+}
+
 /// The answer of a call whose coder answered so: its fault is a failed write.
 fn written(answer: Result<(), CoderFault>) -> Result<(), Fault>
     ensures { result ≡ sent_as answer }
@@ -177,6 +202,20 @@ pub fn count_row(counted: Option<u8>, window: &Window<'_>, tally: &mut Tally)
 {
     if let Some(offset) = counted {
         tally.add_row(window, offset);
+    }
+}
+
+/// Counts the window's current row so many times, each time below an equal row, with the given offset, if there is one.
+pub fn count_again(counted: Option<u8>, window: &Window<'_>, count: u32, tally: &mut Tally)
+    requires offset { IfSome counted (λ offset. offset ≤ 127) }
+    ensures counts { (lines : List Lines) (l : Lines) → length lines + count < 2 ^ 32 →
+        HasLines (held window.now) l → IsCountedTo (width_of window.now) counted tally.old lines →
+        IsCountedTo (width_of window.now) counted tally.new (lines ++ replicate count l) }
+    ensures two_line { is_two_line tally.new ≡ is_two_line tally.old }
+    ensures most { most_of tally.new ≡ most_of tally.old }
+{
+    if let Some(offset) = counted {
+        tally.add_rows(window, offset, count);
     }
 }
 

@@ -166,7 +166,7 @@ impl RowEncoder {
     }
 
     /// The offset with which the rows of this stripe are counted, if they are counted.
-    fn counted(&self) -> Option<u8>
+    pub(super) fn counted(&self) -> Option<u8>
         ensures is { (learning : Learning) → result ≡ counted_of (view_of self.now learning) }
         ensures small { IfSome result (λ offset. offset ≤ 127) }
     {
