@@ -140,6 +140,7 @@ fn decode_image<S: HeldSource, K: RowSink>(
 
 /// Decodes the next rows, which are equal, and returns how many: 0 if the image is complete. Reads more input when the
 /// buffer is exhausted.
+#[inline(always)]
 fn next_rows<S: HeldSource>(
     image: &SizedImage,
     walk: &mut Walk,

@@ -136,6 +136,7 @@ impl PieceDecoder {
     }
 
     /// Decodes these bytes; `is_all` says whether they are the last.
+    #[inline(always)]
     fn take(&mut self, lent: &mut Lent<'_, '_>, piece: &[u8], is_all: bool) -> Progress
         ensures call { IsCall (decoder_lent self.old lent.old)
             (call_of piece.now is_all result (decoder_lent self.new lent.new)) }
@@ -158,6 +159,7 @@ impl PieceDecoder {
 
     /// The number of first rows that belong to the image, whatever bytes follow: no height that arrives later is below
     /// this.
+    #[inline(always)]
     pub fn certain(&self) -> u32
         // It depends only on the header and the numbers.
         ensures certain { self.now.end ≡ None → (d : PieceDecoder) (numbers : PieceNumbers)

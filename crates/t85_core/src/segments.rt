@@ -1,28 +1,28 @@
 //! Parses the marker segments of a stripe, and the bytes of its code (T.82, 6.2).
 
-ghost use Rattle.std.specs.Prelude.{◌≡◌, ◌≤◌, ◌-◌, ◌^◌, ◌<◌, ◌++◌, ◌∷◌, [], Bool, List, ℕ, length, OnOk, IfOk, IfErr, IfSome, None, Some, false, true};
+ghost use Rattle.std.specs.Prelude.{◌≡◌, ◌≤◌, ◌<◌, ◌++◌, Bool, List, ℕ, length, OnOk, IfOk, IfErr, IfSome, None, Some, false, true};
 ghost use Rattle.std.specs.Io.KnownBytes.{Consumes};
 ghost use Rattle.byteorder.specs.Endian.{big_bytes};
 ghost use Rattle.t85_core.specs.declared.fault.Fault.TheVariants.{Truncated};
 ghost use Rattle.t85_core.specs.Options.{fields_of};
 ghost use Rattle.t85_core.specs.Private.Buffers.{ReadsOn};
 ghost use Rattle.t85_core.specs.Failures.{Ends};
-ghost use Rattle.t85_core.specs.Refusal.{move_fault, comment_fault};
-ghost use Rattle.t85_core.specs.Grammar.{NewLength, marker_bytes};
+ghost use Rattle.t85_core.specs.Grammar.{marker_bytes};
 ghost use Rattle.t85_core.specs.States.Segments.{code_bytes, IsByteOrMarker};
 ghost use Rattle.t85_core.specs.Private.Segments.{PieceFault, Passes, PassesSegments, SegmentsFault, PassesCode, RestFault, CodeFault};
 
 mod atmove;
 mod length;
 mod markers;
+mod segment;
 
 pub use self::atmove::Move;
 pub use self::markers::{ATMOVE, COMMENT, ESCAPE, NEWLEN, SDNORM, SDRST, STUFF};
 use crate::byte_source::ByteSource;
 use crate::fault::Fault;
 use crate::header::Header;
-use crate::segments::length::read_length;
 use crate::segments::markers::ABORT;
+use crate::segments::segment::read_segment;
 use byteorder::{BigEndian, ByteOrder};
 
 /// The start of a stripe, or the position of its next item: the current height, the number of stripe data entities
@@ -183,6 +183,7 @@ fn any_code<S: ByteSource>(stream: &mut S) -> Result<Code, Fault>
 }
 
 /// Reads a marker segment, or the first element of the code.
+#[inline(always)]
 pub fn next_element<S: ByteSource>(
     header: &Header,
     place: Place,
@@ -205,59 +206,8 @@ pub fn next_element<S: ByteSource>(
         STUFF => Ok(Element::Code(Code::Byte(ESCAPE))),
         SDNORM => Ok(Element::Code(Code::Marker(false))),
         SDRST => Ok(Element::Code(Code::Marker(true))),
-        ABORT => Err(Fault::Aborted),
-        NEWLEN => {
-            let height = read_length(header, place, stream)?;
-            Ok(Element::NewLength(height))
-        }
-        ATMOVE => {
-            if moved {
-                return Err(Fault::SecondMove);
-            }
-            let to = read_move(header, stream)?;
-            Ok(Element::Move(to))
-        }
-        COMMENT => {
-            skip_comment(stream)?;
-            Ok(Element::Comment)
-        }
-        _ => Err(Fault::BadEscape),
+        _ => read_segment(header, place, moved, escape, stream),
     }
-}
-
-/// Reads what follows the two bytes of an ATMOVE, and checks it.
-fn read_move<S: ByteSource>(header: &Header, stream: &mut S) -> Result<Move, Fault>
-    ensures ok { IfOk result (λ to. (to.row < header.now.l0) × (to.offset ≤ header.now.mx)
-        × Consumes (S.view stream.old).known (S.view stream.new).known
-        (big_bytes 4 to.row ++ to.offset ∷ 0 ∷ [])) }
-    ensures err { IfErr result (Ends Truncated (S.view stream.old).known (S.view stream.new).known
-        (λ given fault. move_fault (fields_of header.now) 0 given ≡ Some fault)) }
-    ensures reads { ReadsOn (S.view stream.old) (S.view stream.new) result }
-    ensures no_more { (S.view stream.new).left ≤ (S.view stream.old).left }
-{
-    let row = number(stream)?;
-    let offset = stream.next()?;
-    let last = stream.next()?;
-    if row >= header.l0 || offset > header.mx || last != 0 {
-        return Err(Fault::MoveRefused);
-    }
-    Ok(Move { row, offset })
-}
-
-/// Skips what follows the two bytes of a COMMENT.
-fn skip_comment<S: ByteSource>(stream: &mut S) -> Result<(), Fault>
-    ensures ok { OnOk result ((text : List ℕ) × (length text < 2 ^ 32) × Consumes (S.view
-        stream.old).known (S.view stream.new).known (big_bytes 4 (length text) ++ text)) }
-    ensures err { IfErr result (Ends Truncated (S.view stream.old).known (S.view stream.new).known
-        (λ given fault. comment_fault given ≡ Some fault)) }
-    ensures reads { ReadsOn (S.view stream.old) (S.view stream.new) result }
-    ensures no_more { (S.view stream.new).left ≤ (S.view stream.old).left }
-{
-    let len = number(stream)?;
-    'text: for _ in 0..len {
-        stream.next()?;
-    }
-    Ok(())
 }
 
 /// Reads a four-byte big-endian number.

@@ -91,6 +91,7 @@ impl Course {
     }
 
     /// Decodes the next row, from this stage on. Returns false if the image is complete.
+    #[inline(always)]
     pub fn next(
         &mut self,
         stage: &mut Stage,
@@ -128,6 +129,7 @@ impl Course {
 
     /// Reads the marker segments of a stripe, of which these have arrived, and the height or the first element of the
     /// code that follows them. Returns the stage after that.
+    #[inline(always)]
     fn read_head(
         &mut self,
         head: &mut Head,

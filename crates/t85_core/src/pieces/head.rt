@@ -56,6 +56,7 @@ impl Head {
     }
 
     /// Consumes comments and a move, up to a height or a code, which it inspects but does not consume.
+    #[inline(always)]
     pub fn pass<'a>(
         &mut self,
         at: SegmentPlace<'_>,
@@ -102,6 +103,7 @@ impl Head {
     }
 
     /// Skips the rest of a comment, if one has begun.
+    #[inline(always)]
     fn leave_comment(&mut self, at: SegmentPlace<'_>, piece: &mut Piece<'_>) -> Result<(), Fault>
         ensures on { (before : Bool) → BehindOn (fields_of at.entry.header.now)
             (head_at at.entry.place at.entry.is_last before) self.old self.new

@@ -47,10 +47,15 @@ impl HeldBytes {
     }
 
     /// Stores these bytes, and no others.
+    #[inline(always)]
     fn keep(&mut self, bytes: &[u8])
         requires few { length bytes.now ≤ 7 }
         ensures { held_bytes self.new ≡ bytes.now }
     {
+        if bytes.is_empty() {
+            *self = HeldBytes::none();
+            return;
+        }
         let mut kept = [0; MOST];
         kept[..bytes.len()].copy_from_slice(bytes);
         *self = HeldBytes {
@@ -75,6 +80,7 @@ impl HeldBytes {
     /// After a call that consumed some of these bytes, the first `count` of which were stored before: stores the
     /// unconsumed bytes, if more input is needed, and otherwise only the unconsumed ones of the first `count`. Returns
     /// the number of bytes consumed after the first `count`.
+    #[inline(always)]
     fn settle(&mut self, bytes: &[u8], count: usize, call: Progress) -> Progress
         requires within { count ≤ length bytes.now }
         requires few { count ≤ 7 }
@@ -112,6 +118,7 @@ impl PieceDecoder {
 
     /// Decodes the stored bytes followed by these bytes, as `next` does. If it needs more input, it has consumed all
     /// bytes.
+    #[inline(always)]
     pub fn feed(
         &mut self,
         window: &mut Window<'_>,
@@ -133,6 +140,7 @@ impl PieceDecoder {
     }
 
     /// Decodes the stored bytes followed by these bytes; `is_all` says whether they are the last.
+    #[inline(always)]
     fn feed_some(
         &mut self,
         lent: &mut Lent<'_, '_>,
@@ -144,10 +152,26 @@ impl PieceDecoder {
             held.new) (call_of piece.now is_all result (decoder_lent self.new lent.new)) }
         ensures lent { KeepsLent lent.old lent.new }
     {
-        let count = held.count();
-        if count == 0 {
+        if held.count() == 0 {
             return self.feed_piece(lent, held, piece, is_all);
         }
+        self.feed_held(lent, held, piece, is_all)
+    }
+
+    /// The same, also if bytes are stored.
+    #[inline(never)]
+    fn feed_held(
+        &mut self,
+        lent: &mut Lent<'_, '_>,
+        held: &mut HeldBytes,
+        piece: &[u8],
+        is_all: bool,
+    ) -> Progress
+        ensures feed { IsFeed (decoder_lent self.old lent.old) (held_bytes held.old) (held_bytes
+            held.new) (call_of piece.now is_all result (decoder_lent self.new lent.new)) }
+        ensures lent { KeepsLent lent.old lent.new }
+    {
+        let count = held.count();
         let (front, back) = piece.split_at(piece.len().min(FRONT));
         let mut bytes = [0; MOST + FRONT];
         let len = held.join(front, &mut bytes);
@@ -165,6 +189,7 @@ impl PieceDecoder {
     }
 
     /// Decodes these bytes, if none are stored.
+    #[inline(always)]
     fn feed_piece(
         &mut self,
         lent: &mut Lent<'_, '_>,

@@ -17,6 +17,7 @@ impl PieceDecoder {
     ghost use Rattle.t85_core.specs.Private.PieceSteps.{Lowers, StepLeaves};
 
     /// Continues up to the next row or the end, or as far as the bytes allow.
+    #[inline(always)]
     pub(super) fn go_on(
         &mut self,
         lent: &mut Lent<'_, '_>,
@@ -36,6 +37,7 @@ impl PieceDecoder {
     }
 
     /// Takes one step: to a row, to the end, to where more input is needed, or to where another step can be taken.
+    #[inline(always)]
     fn step(
         &mut self,
         lent: &mut Lent<'_, '_>,

@@ -4,8 +4,8 @@ use Rattle.t85_core.specs.Options.{fields_of}
 use Rattle.t85_core.proofs.BytesJoin.CallsJoin.{Consumes-more}
 use Rattle.t85_core.proofs.BytesJoin.WalkEnds.{Ends-after, Ends-at, exit}
 use Rattle.t85_core.proofs.StreamsAreWalked.SegmentsAreChecked.{move_refused}
-use Rattle.t85_core.proofs.segments.read_move.Goals as goal
-use Rattle.t85_core.proofs.segments.read_move.Goals.{then-row-header-via-then-row-header, then-row-header-via-else-row-header+then-offset-header, then-row-header-via-else-row-header+else-offset-header+then-last-ne0}
+use Rattle.t85_core.proofs.segments.segment.read_move.Goals as goal
+use Rattle.t85_core.proofs.segments.segment.read_move.Goals.{then-row-header-via-then-row-header, then-row-header-via-else-row-header+then-offset-header, then-row-header-via-else-row-header+else-offset-header+then-last-ne0}
 
 pub returns-in_err-last-clause-err : goal.returns-in_err-last-clause-err
 returns-in_err-last-clause-err g c =

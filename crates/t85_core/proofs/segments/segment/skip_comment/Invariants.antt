@@ -1,6 +1,6 @@
 use Rattle.std.proofs.Common.{◌≡◌, ◌≤◌, ℕ, List, length}
 use Rattle.std.specs.Io.KnownBytes.{Consumes}
-use Rattle.t85_core.proofs.segments.skip_comment.Given as goal
+use Rattle.t85_core.proofs.segments.segment.skip_comment.Given as goal
 
 -- as many bytes of the text were passed as turns were made
 abbrev pub invariant-text : goal.invariant-text

@@ -5,7 +5,7 @@ use Rattle.t85_core.specs.Pieces.{call_of}
 use Rattle.t85_core.specs.Lent.{decoder_lent}
 use Rattle.t85_core.proofs.BodiesDecode.PieceStands.{split_is}
 use Rattle.t85_core.proofs.BodiesDecode.DecoderHoldsRest.{feeds, feeds_on}
-use Rattle.t85_core.proofs.pieces.PieceDecoder.feed_some.Goals as goal
+use Rattle.t85_core.proofs.pieces.PieceDecoder.feed_held.Goals as goal
 
 pub returns-then-not-goes_on-clause-feed : goal.returns-then-not-goes_on-clause-feed
 returns-then-not-goes_on-clause-feed c =

@@ -4,7 +4,7 @@ use Rattle.byteorder.specs.Endian.{big_bytes}
 use Rattle.t85_core.proofs.BytesJoin.CallsJoin.{Consumes-more}
 use Rattle.t85_core.proofs.BytesJoin.WalkEnds.{Ends-missing, exit}
 use Rattle.t85_core.proofs.StreamsAreWalked.SegmentsAreChecked.{comment_cut}
-use Rattle.t85_core.proofs.segments.skip_comment.Goals as goal
+use Rattle.t85_core.proofs.segments.segment.skip_comment.Goals as goal
 
 pub returns-in_err-next-clause-err : goal.returns-in_err-next-clause-err
 returns-in_err-next-clause-err g c =
