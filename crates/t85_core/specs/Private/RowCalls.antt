@@ -1,6 +1,7 @@
 -- The preconditions of a row encoder's calls, and their effects on its numbers.
-use Rattle.std.specs.Prelude.{ℕ, ◌+◌, ◌^◌, ◌≡◌, ◌≤◌, false}
-use Rattle.qm_core.specs.Encoder.{event_count, has_failed}
+use Rattle.std.specs.Prelude.{ℕ, ◌+◌, ◌^◌, ◌≡◌, ◌≤◌, [], false}
+use Rattle.qm_core.specs.Place.{start}
+use Rattle.qm_core.specs.Encoder.{EncoderIsAt, event_count, has_failed}
 use Rattle.qm_core.specs.declared.encoder.Encoder.{Encoder}
 use Rattle.raster_core.specs.declared.shape.Shape.{Shape}
 use Rattle.raster_core.specs.declared.shape.Kept.{Kept}
@@ -22,6 +23,10 @@ MayCode shape kept window e = MayCodeRow shape kept window × (event_count e + s
 -- The row was encoded: the encoder has not failed, and it encoded at most one binary decision more than the row has pixels.
 abbrev pub HasCoded : Shape → Kept → Kept → Encoder → Encoder → Type 0
 HasCoded shape kept kept' e e' = (has_failed e' ≡ false) × (event_count e' ≤ event_count e + shape.width + 1) × (kept'.offset ≡ kept.offset)
+
+-- The encoder is at the beginning of a code.
+abbrev pub BeginsCode : Encoder → Type 0
+BeginsCode e = EncoderIsAt e start [] × (event_count e ≡ 0) × (has_failed e ≡ false)
 
 -- One row was added.
 abbrev pub AddsRow : RowEncoder → RowEncoder → Type 0

@@ -18,7 +18,7 @@ ghost use Rattle.t85_core.specs.RowSink.{PutsBytes};
 ghost use Rattle.t85_core.specs.Private.Buffers.{WritesOrFails};
 ghost use Rattle.t85_core.specs.MostBytes.{AppendsAtMost};
 ghost use Rattle.t85_core.specs.Private.AgainRows.{AgainOutcome};
-ghost use Rattle.t85_core.specs.Private.RowCalls.{HasCoded, MayCode};
+ghost use Rattle.t85_core.specs.Private.RowCalls.{BeginsCode, HasCoded, MayCode};
 ghost use Rattle.t85_core.specs.Private.RowSteps.{MoveMade, MoveCut, sent_as, RowOutcome, CodeFinished, CodeEnded};
 ghost use Rattle.raster_core.specs.Row.{row_task};
 
@@ -166,24 +166,30 @@ fn written(answer: Result<(), CoderFault>) -> Result<(), Fault>
     }
 }
 
-/// Ends a code.
-fn end_code<P: ByteTarget>(encoder: Encoder, target: &mut P) -> Result<(), Fault>
-    requires going { has_failed encoder ≡ false }
-    requires somewhere { IsSomewhere encoder }
-    ensures ended { (p : Place) (pushed : List ℕ) → EncoderIsAt encoder p pushed →
+/// Ends a code. The encoder then begins another.
+fn end_code<P: ByteTarget>(encoder: &mut Encoder, target: &mut P) -> Result<(), Fault>
+    requires going { has_failed encoder.old ≡ false }
+    requires somewhere { IsSomewhere encoder.old }
+    ensures ended { (p : Place) (pushed : List ℕ) → EncoderIsAt encoder.old p pushed →
         CodeFinished p pushed (P.view target.old).text (P.view target.new).text result }
+    ensures begins { OnOk result (BeginsCode encoder.new) }
     ensures fails { WritesOrFails (P.view target.old) (P.view target.new) result }
 {
     let mut ink = EntitySink::new(target);
-    written(encoder.finish(&mut ink))
+    written(encoder.restart(&mut ink))
 }
 
-/// Ends a code, and writes the end marker.
-pub fn end_entity<P: ByteTarget>(encoder: Encoder, reset: bool, target: &mut P) -> Result<(), Fault>
-    requires going { has_failed encoder ≡ false }
-    requires somewhere { IsSomewhere encoder }
-    ensures ended { (p : Place) (pushed : List ℕ) → EncoderIsAt encoder p pushed →
+/// Ends a code, and writes the end marker. The encoder then begins another code.
+pub fn end_entity<P: ByteTarget>(
+    encoder: &mut Encoder,
+    reset: bool,
+    target: &mut P,
+) -> Result<(), Fault>
+    requires going { has_failed encoder.old ≡ false }
+    requires somewhere { IsSomewhere encoder.old }
+    ensures ended { (p : Place) (pushed : List ℕ) → EncoderIsAt encoder.old p pushed →
         CodeEnded p reset pushed (P.view target.old).text (P.view target.new).text result }
+    ensures begins { OnOk result (BeginsCode encoder.new) }
     ensures fails { WritesOrFails (P.view target.old) (P.view target.new) result }
 {
     end_code(encoder, target)?;

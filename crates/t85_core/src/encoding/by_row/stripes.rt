@@ -8,7 +8,6 @@ use crate::fault::Fault;
 use crate::laws::writing_laws;
 use crate::output_buffer::ByteTarget;
 use crate::state::next_stripe;
-use qm_core::Encoder;
 use raster_core::Window;
 
 impl RowEncoder {
@@ -235,8 +234,7 @@ impl RowEncoder {
     {
         // The proof uses these laws of the coder.
         writing_laws();
-        let encoder = std::mem::replace(&mut self.encoder, Encoder::start());
-        end_entity(encoder, self.reset, target)?;
+        end_entity(&mut self.encoder, self.reset, target)?;
         self.in_stripe = 0;
         next_stripe(self.reset, window, &mut self.kept, &mut learning.learned);
         target.write_held()
