@@ -20,7 +20,7 @@ use Rattle.qm_core.proofs.DecoderDecides.{stands_step}
 use Rattle.qm_core.proofs.RunLowersSize.{after_run}
 
 -- with 16 bits, the next event needs no pull
-by_heard : (h : Heard) (bits n held : ℕ) → (h ≡ More → wanted_bytes n ≤ held) → 16 ≤ bits → h ≢ Stopped → WantsNone h bits n held
+pub by_heard : (h : Heard) (bits n held : ℕ) → (h ≡ More → wanted_bytes n ≤ held) → 16 ≤ bits → h ≢ Stopped → WantsNone h bits n held
 by_heard More bits n held more enough going = more refl
 by_heard Ended bits n held more enough going = enough
 by_heard Stopped bits n held more enough going = going refl

@@ -1,5 +1,5 @@
 -- The effect of reading on a decoder with everything that it borrows.
-use Rattle.std.specs.Prelude.{ℕ, ◌≡◌, Bool, List, Result}
+use Rattle.std.specs.Prelude.{◌≡◌, Bool, List, Result}
 use Rattle.qm_core.specs.Place.{Place, state_of}
 use Rattle.qm_core.specs.Decoder.{DecoderIsAt, DecoderState, Next, StopsOnce, decoder_state, source_of}
 use Rattle.qm_core.specs.declared.context.Context.{Context}

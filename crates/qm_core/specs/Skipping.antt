@@ -1,9 +1,10 @@
--- Several events in one step, all of them the more probable symbol of one context.
-use Rattle.std.specs.Prelude.{ℕ, ◌≡◌, ◌≤◌, ◌+◌, ◌*◌, Bool, not, nat_lt, ◌&&◌, IsTrue, List, length, replicate}
+-- Several equal events in one step, or as many as the bits already read determine.
+use Rattle.std.specs.Prelude.{ℕ, ◌≡◌, ◌≤◌, ◌<◌, ◌+◌, ◌-◌, ◌*◌, Bool, not, nat_lt, ◌&&◌, IsTrue, List, length, replicate}
 use Rattle.qm_core.specs.Table.{row_at}
-use Rattle.qm_core.specs.Place.{State, Event, Estimate, estimate_of, same, after}
+use Rattle.qm_core.specs.Place.{State, Event, Estimate, estimate_of, same, step, after}
 use Rattle.qm_core.specs.Code.{Lies, wanted_bytes}
 use Rattle.qm_core.specs.Source.{bytes_of, heard_of}
+use Rattle.qm_core.specs.Decoder.{DecoderIsAt}
 use Rattle.qm_core.specs.declared.source.Pulled.{Pulled}
 use Rattle.qm_core.specs.declared.source.Heard.{Heard}
 use Rattle.qm_core.specs.declared.source.Heard.TheVariants.{More, Ended, Stopped}
@@ -37,3 +38,21 @@ pub record CanSkip (d : Decoder) (s : State) (answers : List Pulled) (event : Ev
   pub room : IsTrue (has_room s event count)
   pub ready : WantsNone (heard_of answers) d.bits s.place.doublings (length (bytes_of answers))
   pub inside : Lies (bytes_of answers) (after s (replicate count event)).place
+
+-- ---- as many as the bits already read determine
+
+-- The next event is this one: no pull is needed, and the bytes are in the interval after it.
+pub record IsDetermined (d : Decoder) (s : State) (answers : List Pulled) (event : Event) : Type 0 where
+  pub ready : WantsNone (heard_of answers) d.bits s.place.doublings (length (bytes_of answers))
+  pub inside : Lies (bytes_of answers) (step s event.context event.pixel).place
+
+-- the bits that a decoder at the state s still has at a later state, with no pull between them
+abbrev pub bits_left : Decoder → State → State → ℕ
+bits_left d s later = d.bits + s.place.doublings - later.place.doublings
+
+-- this event was decoded `count` times from a state, each time with no pull
+pub record RunDecoded (d : Decoder) (s : State) (answers : List Pulled) (event : Event) (count : ℕ) (d' : Decoder) (learned : List Estimate) : Type 0 where
+  pub ready : (k : ℕ) → k < count → WantsNone (heard_of answers) (bits_left d s (after s (replicate k event)))
+      (after s (replicate k event)).place.doublings (length (bytes_of answers))
+  pub stands : DecoderIsAt d' (after s (replicate count event)).place answers
+  pub taught : learned ≡ (after s (replicate count event)).learned

@@ -5,6 +5,7 @@ ghost use Rattle.qm_core.specs.Place.{same};
 ghost use Rattle.qm_core.specs.declared.source.Heard.TheVariants.{Stopped};
 
 mod numbers;
+mod run;
 
 use crate::context::Context;
 use crate::entries::{entry_of, next_cell};
