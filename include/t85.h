@@ -438,11 +438,12 @@ uint8_t t85_decode_end(t85_decoder *decoder, uint8_t *window, size_t window_len,
 /* Decodes further rows that equal the row returned last, and returns how many. Call it after
    T85_ROW, with the same window, once you have read the row. These rows count as returned: the
    next call of t85_decode_bytes or t85_decode_end returns the row behind them. A page with much
-   white is decoded several times as fast, since many rows are decoded at once. Some equal rows
-   may be left to that next call.
+   white is decoded several times as fast, since many rows are decoded at once. It goes on as long
+   as the bytes consumed determine that the next row of the stripe is typical, like the row before
+   it, and no later row of the stripe moves the adaptive pixel.
 
-   Returns 0 if the next row may differ, has not arrived, or is above the limit, and if
-   t85_decode_bytes would return 19 or 53. Then nothing is changed. */
+   Returns 0 if the next row may differ, has not arrived, is above the limit or begins a stripe,
+   and if t85_decode_bytes would return 19 or 53. Then nothing is changed. */
 T85_NO_NULL((1))
 uint32_t t85_decode_again(t85_decoder *decoder, uint8_t *window, size_t window_len);
 

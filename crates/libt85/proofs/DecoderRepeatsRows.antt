@@ -56,7 +56,7 @@ must_repeat {d} {memory} header {e} {text} {out} laws law header_of same numbers
 -- the engine's call
 pub record RepeatsAll (most : ℕ) (old new : PieceView) (count : ℕ) : Type 0 where
   pub repeats : Repeats most old new count
-  pub all : count + 2 ≤ most → CanRepeat new → ⊥
+  pub all : count < most → CanRepeat new → ⊥
 
 copies_long : (n : ℕ) (bytes : List ℕ) → length (copies n bytes) ≡ n * length bytes
 copies_long zero bytes = let none : 0 * length bytes ≡ 0 = omega arith in sym none
@@ -144,8 +144,8 @@ module _ {old kept new : T85Decoder} {memory memory' : List ℕ} {header : Heade
         whole = row_long ∙ wide;
       }
 
-  -- no two more must be returned
-  stops_again : HeaderLaws → RepeatsByNumbers → (new.given + 2 ≤ new.max_rows → count + 2 ≤ most) → (stream out : List ℕ) → ContinuesRows header e (hold_of old memory) stream out →
+  -- no further row must be returned
+  stops_again : HeaderLaws → RepeatsByNumbers → (new.given < new.max_rows → count < most) → (stream out : List ℕ) → ContinuesRows header e (hold_of old memory) stream out →
       MustGiveAgain (hold_of new memory') → ⊥
   stops_again laws law few stream out k must =
       let taught : new.learned ≡ learned' = done.keeps.learned ∙ done.same.learned in
@@ -155,7 +155,7 @@ module _ {old kept new : T85Decoder} {memory memory' : List ℕ} {header : Heade
       let can = must_repeat header laws law (rw head done.may.header_of) fields_same numbers done.long' has must in
       done.call.all (few must.within) (subst (λ (z : ℕ × List Estimate). CanRepeat (decoder_view e' (rows_at z.0 header.xd memory') z.1)) (λ i. (done.keeps.place i, taught i)) can)
 
-  pub gives_again : HeaderLaws → RepeatsByNumbers → (new.given + 2 ≤ new.max_rows → count + 2 ≤ most) → (stream out : List ℕ) → ContinuesRows header e (hold_of old memory) stream out →
+  pub gives_again : HeaderLaws → RepeatsByNumbers → (new.given < new.max_rows → count < most) → (stream out : List ℕ) → ContinuesRows header e (hold_of old memory) stream out →
       (0 < count → ReturnsAgain (hold_of old memory) (hold_of new memory') count stream out) × (MustGiveAgain (hold_of new memory') → ⊥)
   gives_again laws law few stream out k = ((λ some. returns_again stream out k), stops_again laws law few stream out k)
 
@@ -180,7 +180,7 @@ nothing_changed {old} {width = width} e e' small long long' none call =
 -- and none must be
 pub none_again : {old : T85Decoder} {memory memory' : List ℕ} {header : Header} {learned' : List Estimate} {most count : ℕ} (e e' : PieceDecoder) → HeaderLaws → RepeatsByNumbers →
     MayTakeRows header old → ArePieceNumbers old.numbers e → e.image.header ≡ header → length memory ≡ window_bytes header.xd → length memory' ≡ window_bytes header.xd → count ≡ 0 →
-    (old.given + 2 ≤ old.max_rows → count + 2 ≤ most) →
+    (old.given < old.max_rows → count < most) →
     RepeatsAll most (decoder_view e (rows_at old.place header.xd memory) old.learned) (decoder_view e' (rows_at old.place header.xd memory') learned') count →
     (stream out : List ℕ) → ContinuesRows header e (hold_of old memory) stream out → MustGiveAgain (hold_of (with_learned old learned') memory') → ⊥
 none_again {header = header} e e' laws law may numbers same long long' none few call stream out k changed =

@@ -17,10 +17,10 @@ pub record ReturnsAgain (old new : Hold) (count : ℕ) (stream out : List ℕ) :
   pub has : CountsRows new stream (out ++ copies count row)
   pub whole : length row ≡ div_ceil has.rows.decoder.image.header.xd 8
 
--- A row was returned, and the consumed bytes determine that the next two rows equal it. The limit and the window allow them.
+-- A row was returned, and the consumed bytes determine that the next row equals it. The limit and the window allow that row.
 pub record MustGiveAgain (hold : Hold) : Type 0 where
   pub given : 0 < hold.decoder.given
-  pub within : hold.decoder.given + 2 ≤ hold.decoder.max_rows
+  pub within : hold.decoder.given < hold.decoder.max_rows
   pub stream : List ℕ
   pub out : List ℕ
   pub rows : InRows hold stream out
@@ -31,7 +31,7 @@ pub record MustGiveAgain (hold : Hold) : Type 0 where
 -- the effect of the call, and the number of rows that it returns
 pub record GivesAgain (old new : Hold) (count : ℕ) : Type 0 where
   pub rows : 0 < count → (stream out : List ℕ) → HasRead old stream out → ReturnsAgain old new count stream out
-  -- it does not stop while the bytes determine that the next two rows equal the last
+  -- it does not stop while the bytes determine that the next row equals the last
   pub all : (stream out : List ℕ) → HasRead old stream out → MustGiveAgain new → ⊥
   pub none : count ≡ 0 → new ≡ old
   pub within : 0 < count → new.decoder.given ≤ new.decoder.max_rows

@@ -1,5 +1,5 @@
 -- The effect of encoding or decoding a row.
-use Rattle.std.specs.Prelude.{ℕ, ◌≡◌, ◌/◌, ◌%◌, ◌^◌, List, ◌++◌, Result, OnOk, OnErr, ◌↔◌, Bool, true, false, [], ◌∷◌, length, replicate, ◌≤◌, IsErr, IsTrue, if◌then◌else◌}
+use Rattle.std.specs.Prelude.{ℕ, ◌≡◌, ◌/◌, ◌%◌, ◌^◌, List, ◌++◌, Result, OnOk, OnErr, ◌↔◌, Bool, true, false, [], ◌∷◌, length, IsErr, IsTrue, if◌then◌else◌}
 use Rattle.std.specs.Int.{from_bool}
 use Rattle.qm_core.specs.Place.{State, Event, Estimate, Place, IsPlace, after}
 use Rattle.qm_core.specs.Encoder.{EncoderState}
@@ -11,8 +11,8 @@ use Rattle.qm_core.specs.Puts.{Encodes, FailsIn}
 use Rattle.raster_core.specs.Events.{Decodes, Stops}
 use Rattle.raster_core.specs.declared.shape.Shape.{Shape}
 use Rattle.raster_core.specs.declared.shape.Kept.{Kept}
-use Rattle.qm_core.specs.Code.{Lies, IsBytes, wanted_bytes}
-use Rattle.qm_core.specs.Skipping.{IsRun, CanSkip}
+use Rattle.qm_core.specs.Code.{Lies, IsBytes}
+use Rattle.qm_core.specs.Skipping.{IsDetermined, RunDecoded}
 use Rattle.qm_core.specs.Source.{bytes_of, heard_of, IsClosed, Agrees, Gives, SourceAt, before_fault, source_at}
 use Rattle.qm_core.specs.Decoder.{DecoderIsAt, DecoderState}
 use Rattle.qm_core.specs.declared.source.Pulled.{Pulled}
@@ -129,19 +129,17 @@ pub record RowsEncodedAgain {S : Type 0} (old : SinkAt S) (shape : Shape) (s : S
   pub ok : OnOk result (Encodes old s (replicate count (again_event shape)) new)
   pub err : OnErr result (FailsIn old s (replicate count (again_event shape)) new.out)
 
--- After a typical row, `count` typical rows were decoded in one step, with no context adapted and no byte pulled.
-pub record RowsSkipped (shape : Shape) (kept : Kept) (s : State) (answers : List Pulled) (count : ℕ) (d : Decoder) : Type 0 where
+-- After a typical row, `count` typical rows were decoded with no pull.
+pub record RowsSkipped (shape : Shape) (kept : Kept) (d : Decoder) (s : State) (answers : List Pulled) (count : ℕ) (d' : Decoder) (learned : List Estimate) : Type 0 where
   pub typical : shape.typical ≡ true
   pub previous : kept.previous_typical ≡ true
-  pub run : IsRun s (again_event shape) count
-  pub stands : DecoderIsAt d (after s (replicate count (again_event shape))).place answers
-  pub enough : heard_of answers ≡ More → wanted_bytes s.place.doublings ≤ length (bytes_of answers)
+  pub run : RunDecoded d s answers (again_event shape) count d' learned
 
--- after a typical row, `count` typical rows can be decoded in one step
-pub record CanSkipRows (shape : Shape) (kept : Kept) (d : Decoder) (s : State) (answers : List Pulled) (count : ℕ) : Type 0 where
+-- after a typical row, the bits already read determine that the next row is typical
+pub record CanSkipRow (shape : Shape) (kept : Kept) (d : Decoder) (s : State) (answers : List Pulled) : Type 0 where
   pub typical : shape.typical ≡ true
   pub previous : kept.previous_typical ≡ true
-  pub skips : CanSkip d s answers (again_event shape) count
+  pub next : IsDetermined d s answers (again_event shape)
 
 -- ---- a row whose code arrives in parts
 

@@ -11,7 +11,7 @@ ghost use Rattle.raster_core.specs.Window.{held};
 ghost use Rattle.raster_core.specs.Packed.{HasLines, SameAbove, row_placed, rows_at, rows_beside, next_place};
 ghost use Rattle.raster_core.specs.Machine.Continues.{RowContinues, row_progress};
 ghost use Rattle.raster_core.specs.Machine.Places.{DecodesCurrent, LeavesPlace, MayCodeRow, MayGoOnIn, MayGoOnRow};
-ghost use Rattle.raster_core.specs.Row.{RowDecoded, IsRowStart, StandsInRow, RowPasses, RowsSkipped, CanSkipRows, row_task, row_left};
+ghost use Rattle.raster_core.specs.Row.{RowDecoded, IsRowStart, StandsInRow, RowPasses, RowsSkipped, CanSkipRow, row_task, row_left};
 
 mod begin;
 mod byte;
@@ -169,32 +169,33 @@ pub fn decode_row<S: CodeBytes>(
     )
 }
 
-/// Decodes the given number of rows, each of which equals the one above, after another such row, and returns true, if
-/// the bits already read determine all of them; otherwise does nothing and returns false. The window and `kept` are
-/// those of the rows before.
+/// Decodes rows that equal the one above, after another such row, as long as the bits already read determine them, but
+/// at most `most`, and adapts the context of the SLNTP pseudo-pixel. Returns how many. The window and `kept` are those
+/// of the rows before.
 #[inline(always)]
 pub fn skip_rows(
     shape: Shape,
     kept: Kept,
-    learned: &Learned,
+    learned: &mut Learned,
     decoder: &mut Decoder,
-    count: u32,
-) -> bool
-    requires few { count ≤ 64 }
-    ensures unchanged { result ≡ false → decoder.new ≡ decoder.old }
+    most: u32,
+) -> u32
+    ensures few { result ≤ most }
+    ensures stop { has_stopped decoder.new ≡ has_stopped decoder.old }
+    ensures none { result ≡ 0 → (decoder.new ≡ decoder.old) × (learned.new ≡ learned.old) }
     ensures skipped { (p : Place) (answers : List Pulled) → DecoderIsAt decoder.old p answers →
-        IsTrue result → RowsSkipped shape kept (state_of p learned.now) answers count decoder.new }
-    ensures exact { (p : Place) (answers : List Pulled) → DecoderIsAt decoder.old p answers →
-        (IsTrue result ↔ CanSkipRows shape kept decoder.old
-        (state_of p learned.now) answers count) }
+        0 < result → RowsSkipped shape kept decoder.old (state_of p learned.old) answers result
+        decoder.new learned.new }
+    ensures exact { (p : Place) (answers : List Pulled) → DecoderIsAt decoder.new p answers →
+        result < most → CanSkipRow shape kept decoder.new (state_of p learned.new) answers → ⊥ }
 {
     if !shape.typical {
-        return false;
+        return 0;
     }
     if !kept.previous_typical {
-        return false;
+        return 0;
     }
-    decoder.skip(learned, flag_context(shape.two_line), true, count)
+    decoder.next_run(learned, flag_context(shape.two_line), true, most)
 }
 
 /// Continues decoding the current row of a window, below the two rows above it, from the position `place`. At the

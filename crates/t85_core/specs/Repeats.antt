@@ -1,10 +1,10 @@
 -- The effect of `repeat` on a decoder in pieces.
-use Rattle.std.specs.Prelude.{ℕ, ◌+◌, ◌≡◌, ◌≤◌, ◌<◌, true, false, min, option_map, Option, List, ◌++◌}
+use Rattle.std.specs.Prelude.{ℕ, ◌≡◌, ◌≤◌, ◌<◌, true, false, min, option_map, Option, List, ◌++◌}
 use Rattle.qm_core.specs.Decoder.{DecoderIsAt}
 use Rattle.qm_core.specs.Place.{Place, Estimate, state_of}
 use Rattle.qm_core.specs.declared.source.Pulled.{Pulled}
 use Rattle.raster_core.specs.Packed.{Held}
-use Rattle.raster_core.specs.Row.{CanSkipRows}
+use Rattle.raster_core.specs.Row.{CanSkipRow}
 use Rattle.raster_core.specs.declared.shape.Shape.{Shape}
 use Rattle.t85_core.specs.Coding.{mode_of}
 use Rattle.t85_core.specs.Header.{Fields}
@@ -43,16 +43,16 @@ shape_of h = record { width = h.xd; two_line = (mode_of h.options).two_line; typ
 abbrev pub IsSettled : Option Move → ℕ → Type 0
 IsSettled at row = (k o : ℕ) → row ≤ k → offset_at (option_map pair_of at) k o ≡ o
 
--- In the code of a stripe, before a row: the stripe has two more rows, no move takes effect, and the bits already read determine
--- that both equal the row before. All three are typical, and both are decoded without a doubling.
+-- In the code of a stripe, before a row: the stripe has this row, no move takes effect, and the bits already read determine that
+-- it equals the row before. Both are typical.
 pub record RowsCanRepeat (h : Fields) (w : WalkView) : Type 0 where
   pub in_code : w.stage ≡ stage.Code
-  pub two_left : w.row + 2 ≤ min w.left h.l0
+  pub row_left : w.row < min w.left h.l0
   pub settled : IsSettled w.at w.row
   pub place : Place
   pub answers : List Pulled
   pub stands : DecoderIsAt w.decoder place answers
-  pub skips : CanSkipRows (shape_of h) w.carried.kept w.decoder (state_of place w.carried.learned) answers 2
+  pub skips : CanSkipRow (shape_of h) w.carried.kept w.decoder (state_of place w.carried.learned) answers
 
 -- The same for a decoder which, while a height may arrive, has not read the end marker of the code.
 pub record CanRepeat (d : PieceView) : Type 0 where

@@ -1,5 +1,5 @@
 -- Rows of a decoder in pieces that repeat.
-use Rattle.std.proofs.Common.{◌≡◌, ◌≤◌, ◌<◌, ◌+◌, ◌-◌, ◌++◌, inl, inr, ℕ, true, false, List, Option, None, Some, refl, sym, ap, ◌∙◌, subst, append_assoc, append-nil, arith, true≢false}
+use Rattle.std.proofs.Common.{◌≡◌, ◌≤◌, ◌++◌, inl, inr, ℕ, true, false, List, Option, None, Some, refl, sym, ap, ◌∙◌, subst, true≢false}
 use Rattle.std.specs.Prelude.{is_some}
 use Rattle.qm_core.specs.Place.{Estimate}
 use Rattle.raster_core.specs.Window.{held}
@@ -7,7 +7,7 @@ use Rattle.raster_core.specs.declared.place.RowPlace.{RowPlace}
 use Rattle.raster_core.specs.declared.window.Window.{Window}
 use Rattle.t85_core.specs.Lent.{PieceView, WalkView, code_view}
 use Rattle.t85_core.specs.Options.{fields_of}
-use Rattle.t85_core.specs.Pieces.{HasDecoded, row_held}
+use Rattle.t85_core.specs.Pieces.{row_held}
 use Rattle.t85_core.specs.Repeats.{Repeats}
 use Rattle.t85_core.specs.Stages.{code_kind}
 use Rattle.t85_core.specs.RowSink.{copies}
@@ -16,7 +16,6 @@ use Rattle.t85_core.specs.States.SizedImage.{sized}
 use Rattle.t85_core.specs.declared.pieces.code.InCode.{InCode}
 use Rattle.t85_core.specs.declared.pieces.course.Course.{Course}
 use Rattle.t85_core.proofs.BodiesDecode.PieceStands.{code_of, put_code, put_walks, walks_of}
-use Rattle.t85_core.proofs.BodiesDecode.TypicalRowsAreCopies.{copies_front}
 
 pub code_is_in_code : (begun : Option RowPlace) → IsInCode (code_kind begun)
 code_is_in_code None = inl refl
@@ -80,33 +79,3 @@ module _ {d : PieceView} {w' : WalkView} {most count : ℕ} where
 
 pub repeats_of : {most count : ℕ} {d e f : PieceView} → d ≡ e → Repeats most d f count → Repeats most e f count
 repeats_of {most = most} {count = count} {f = f} same k = subst (λ v. Repeats most v f count) same k
-
--- no row
-pub repeats_none : {most : ℕ} (d : PieceView) → Repeats most d d 0
-repeats_none d = record {
-  few = omega arith;
-  row = refl;
-  rows = λ text out has. subst (HasDecoded d text) (sym (append-nil out)) has;
-  in_time = λ some. absurd (omega (arith, some));
-  same = refl;
-  height = refl;
-  ended = refl;
-  none = λ z. refl;
-}
-
--- more rows after some
-pub repeats_then : {most : ℕ} {d e f : PieceView} {n k : ℕ} → 0 < k → n ≤ most → Repeats most d e n → Repeats (most - n) e f k → Repeats most d f (n + k)
-repeats_then {d = d} {e = e} {f = f} {n = n} {k = k} some within first then = record {
-  few = (let more = then.few in omega (arith, more, within));
-  row = then.row ∙ first.row;
-  rows = λ text out has.
-      let joined : (out ++ copies n (row_held e)) ++ copies k (row_held f) ≡ out ++ copies (n + k) (row_held f) =
-      ap (λ row. (out ++ copies n row) ++ copies k (row_held f)) (sym then.row) ∙ append_assoc out (copies n (row_held f)) (copies k (row_held f))
-      ∙ ap (λ rows. out ++ rows) (sym (copies_front n k (row_held f))) in
-      subst (HasDecoded f text) joined (then.rows text _ (first.rows text out has));
-  in_time = λ any. then.in_time some;
-  same = then.same ∙ first.same;
-  height = then.height ∙ first.height;
-  ended = then.ended ∙ first.ended;
-  none = λ z. absurd (omega (arith, z, some));
-}

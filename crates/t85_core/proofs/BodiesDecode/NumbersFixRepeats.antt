@@ -138,12 +138,12 @@ repeats_by_numbers d d' n rows learned text out has header k k' can =
     let bits : d.course.decoder.bits ≡ d'.course.decoder.bits = ap (λ r. r.bits) registers in
     let heard : d'.course.decoder.heard ≡ d.course.decoder.heard =
     one_heard d'.course.decoder.heard d.course.decoder.heard (decoder_going d' in_code has.stands)
-    (ap is_stopped c.stands.heard ∙ wants_going (heard_of c.answers) _ _ _ c.skips.skips.ready) (sym (ap (λ r. r.has_ended) registers)) in
+    (ap is_stopped c.stands.heard ∙ wants_going (heard_of c.answers) _ _ _ c.skips.next.ready) (sym (ap (λ r. r.has_ended) registers)) in
     let left : d'.course.left ≡ d.course.left = sym k'.course_is.left_is ∙ k.course_is.left_is in
     let typical : d'.course.kept.previous_typical ≡ d.course.kept.previous_typical = sym k'.course_is.typical_is ∙ k.course_is.typical_is in
     let moved : RowsCanRepeat (fields_of d.image.header) (stage_view d'.course (phase_stage d'.phase) rows learned) = record {
       in_code = in_code;
-      two_left = rw (same.row, left) c.two_left;
+      row_left = rw (same.row, left) c.row_left;
       settled = rw (same.row, same.at) c.settled;
       place = c.place;
       answers = c.answers;
@@ -151,7 +151,7 @@ repeats_by_numbers d d' n rows learned text out has header k k' can =
       skips = record {
         typical = c.skips.typical;
         previous = typical ∙ c.skips.previous;
-        skips = record { room = c.skips.skips.room; ready = rw (← bits) c.skips.skips.ready; inside = c.skips.skips.inside };
+        next = record { ready = rw (← bits) c.skips.next.ready; inside = c.skips.next.inside };
       };
     } in
     record {

@@ -1,13 +1,13 @@
 -- Rows that equal the one before them are decoded and written.
-use Rattle.std.proofs.Common.{◌≡◌, ℕ, zero, suc, ◌+◌, ◌≤◌, Bool, true, List, ◌++◌, length, refl, sym, ◌∙◌, ap, subst, arith, Option, length-append}
+use Rattle.std.proofs.Common.{◌≡◌, ℕ, zero, suc, ◌+◌, ◌<◌, ◌≤◌, Bool, true, List, ◌++◌, length, refl, sym, ◌∙◌, ap, subst, arith, Option, length-append}
 use Rattle.std.specs.Prelude.{replicate}
 use Rattle.std.specs.List.{flat_map}
 use Rattle.std.proofs.lemmas.Grind.{flat_map-append}
 use Rattle.std.specs.Io.KnownBytes.{Appends}
-use Rattle.qm_core.specs.Place.{Place, State, after}
+use Rattle.qm_core.specs.Place.{Place, State, after, state_of}
 use Rattle.qm_core.specs.Code.{wanted_bytes}
 use Rattle.qm_core.specs.Source.{bytes_of, heard_of}
-use Rattle.qm_core.specs.Skipping.{IsRun}
+use Rattle.qm_core.specs.Skipping.{RunDecoded, WantsNone, bits_left}
 use Rattle.qm_core.specs.Decoder.{DecoderIsAt}
 use Rattle.qm_core.specs.declared.source.Pulled.{Pulled}
 use Rattle.qm_core.specs.declared.source.Heard.TheVariants.{More}
@@ -34,9 +34,9 @@ use Rattle.t85_core.proofs.BodiesDecode.RunsGrow.{run_append, run_enough_append}
 
 module _ (shape : Shape) (move : Option (ℕ × ℕ)) (row count : ℕ) (carried carried' : Carried) (d d' : Decoder)
     (some : 1 ≤ count) (wide : carried.held.width ≡ shape.width)
-    (skipped : (p : Place) (answers : List Pulled) → DecoderIsAt d p answers → RowsSkipped shape carried.kept (record { place = p; learned = carried.learned }) answers count d')
+    (skipped : (p : Place) (answers : List Pulled) → DecoderIsAt d p answers → RowsSkipped shape carried.kept d (state_of p carried.learned) answers count d' carried'.learned)
     (settled : (k o : ℕ) → row ≤ k → offset_at move k o ≡ o)
-    (kept_is : carried'.kept ≡ carried.kept) (learned_is : carried'.learned ≡ carried.learned) (window_is : carried'.held ≡ repeated carried.held) where
+    (kept_is : carried'.kept ≡ carried.kept) (window_is : carried'.held ≡ repeated carried.held) where
   module _ (h : Fields) (c : StripeStart) (segments : List Segment) (answers : List Pulled) (rows : List (List Bool)) (flags : List Bool) (last : RowStart) (move_is : move ≡ move_of segments)
       (shape_is : IsShapeOf h shape)
       (so_far : RowsSoFar (open_stripe h c segments) answers rows flags last) (many : length rows ≡ row) (stands : DecoderIsAt d last.state.place answers) (is : IsCarried last carried) where
@@ -54,13 +54,19 @@ module _ (shape : Shape) (move : Option (ℕ × ℕ)) (row count : ℕ) (carried
 
     -- what was skipped, from the state that is looked up
     abbrev Skipped : State → Mode → Type 0
-    Skipped s mode = IsRun s (pseudo_event mode true true) count × DecoderIsAt d' (after s (replicate count (pseudo_event mode true true))).place answers ×
-        (heard_of answers ≡ More → wanted_bytes s.place.doublings ≤ length (bytes_of answers))
+    Skipped s mode = RunDecoded d s answers (pseudo_event mode true true) count d' carried'.learned
 
     all_skipped : Skipped last.state (mode_of h.options)
     all_skipped =
         let k = skipped last.state.place answers stands in
-        subst (Skipped last.state) shape_is.mode_is (subst (λ l. Skipped (record { place = last.state.place; learned = l }) (shape_mode shape)) is.learned_is (k.run, k.stands, k.enough))
+        subst (Skipped last.state) shape_is.mode_is (subst (λ l. Skipped (state_of last.state.place l) (shape_mode shape)) is.learned_is k.run)
+
+    -- while the source has not ended, the bytes read were enough for each
+    each_enough : heard_of answers ≡ More → (k : ℕ) → k < count →
+        wanted_bytes (after last.state (replicate k (pseudo_event (mode_of h.options) true true))).place.doublings ≤ length (bytes_of answers)
+    each_enough going k l =
+        let s = after last.state (replicate k (pseudo_event (mode_of h.options) true true)) in
+        subst (λ heard. WantsNone heard (bits_left d last.state s) s.place.doublings (length (bytes_of answers))) going (all_skipped.ready k l)
 
     still_settled : (k o : ℕ) → 0 + length rows ≤ k → offset_at (move_of segments) k o ≡ o
     still_settled k o le = subst (λ z. offset_at z k o ≡ o) move_is (settled k o (omega (arith, le, many)))
@@ -94,14 +100,14 @@ module _ (shape : Shape) (move : Option (ℕ × ℕ)) (row count : ℕ) (carried
         enough = λ going.
             run_enough_append (length (bytes_of answers)) (stripe_coding h segments) 0 (first_row_start c) rows flags last (replicate count last.above) (replicate count true) so_far.run
             (so_far.enough going)
-            (enough_behind h.xd (mode_of h.options) (move_of segments) mode_typical (length (bytes_of answers)) (0 + length rows) last count was_typical (all_skipped.2 going) all_skipped.0.quiet);
+            (enough_behind h.xd (mode_of h.options) (move_of segments) mode_typical (length (bytes_of answers)) (0 + length rows) last count was_typical (each_enough going));
       };
       many = omega (arith, many);
-      stands = subst (λ z. DecoderIsAt d' z.place answers) (sym state_is) all_skipped.1;
+      stands = subst (λ z. DecoderIsAt d' z.place answers) (sym state_is) all_skipped.stands;
       is_carried = record {
         offset_is = ap (λ z. z.offset) kept_is ∙ is.offset_is ∙ sym (offset_behind h.xd (mode_of h.options) (move_of segments) mode_typical (0 + length rows) last count still_settled);
         previous_is = ap (λ z. z.previous_typical) kept_is ∙ previous ∙ sym (previous_behind h.xd (mode_of h.options) (move_of segments) mode_typical (0 + length rows) last count was_typical);
-        learned_is = learned_is ∙ is.learned_is ∙ sym all_skipped.0.taught ∙ ap (λ z. z.learned) (sym state_is);
+        learned_is = all_skipped.taught ∙ ap (λ z. z.learned) (sym state_is);
         third = last.second;
         lines_are = lines_after;
       };

@@ -1,5 +1,5 @@
 -- Rows that equal the one before them, several at once.
-use Rattle.std.proofs.Common.{◌≡◌, ℕ, zero, suc, ◌+◌, ◌≤◌, Bool, true, false, List, [], ◌∷◌, ◌++◌, length, refl, sym, ◌∙◌, ap, subst, arith, Option, append_assoc, append-nil}
+use Rattle.std.proofs.Common.{◌≡◌, ℕ, zero, suc, ◌+◌, ◌<◌, ◌≤◌, Bool, true, false, List, [], ◌∷◌, ◌++◌, length, refl, sym, ◌∙◌, ap, subst, arith, Option, append_assoc, append-nil}
 use Rattle.std.specs.Prelude.{replicate, flat_map}
 use Rattle.qm_core.specs.Place.{Event, after}
 use Rattle.qm_core.specs.Code.{wanted_bytes}
@@ -61,16 +61,15 @@ module _ (w : ℕ) (mode : Mode) (move : Option (ℕ × ℕ)) (typical : mode.ty
   run_behind r b (suc n) wide =
       (record { wide = wide; legal = λ _. rw typical (rw (same_row_self b.above) refl) }, run_behind (r + 1) (after_row mode move r b b.above true) n wide)
 
-  pub enough_behind : (count r : ℕ) (b : RowStart) (n : ℕ) → b.previous ≡ true → wanted_bytes b.state.place.doublings ≤ count →
-      ((k : ℕ) → k ≤ n → (after b.state (replicate k again)).place.doublings ≡ b.state.place.doublings) → RunEnough count (row_coding w mode move) r b (replicate n b.above) (replicate n true)
-  enough_behind count r b zero previous enough quiet = tt
-  enough_behind count r b (suc n) previous enough quiet =
+  pub enough_behind : (count r : ℕ) (b : RowStart) (n : ℕ) → b.previous ≡ true →
+      ((k : ℕ) → k < n → wanted_bytes (after b.state (replicate k again)).place.doublings ≤ count) → RunEnough count (row_coding w mode move) r b (replicate n b.above) (replicate n true)
+  enough_behind count r b zero previous each = tt
+  enough_behind count r b (suc n) previous each =
       let events = again_events r b previous in
-      let state : (after_row mode move r b b.above true).state ≡ after b.state (again ∷ []) = ap (after b.state) events in
-      let same : (after_row mode move r b b.above true).state.place.doublings ≡ b.state.place.doublings = ap (λ z. z.place.doublings) state ∙ quiet 1 (omega arith) in (
-        subst (AreEnough count b.state) (sym events) (enough, tt),
-        enough_behind count (r + 1) (after_row mode move r b b.above true) n refl (subst (λ z. wanted_bytes z ≤ count) (sym same) enough)
-            (λ k le. ap (λ z. (after z (replicate k again)).place.doublings) state ∙ quiet (suc k) (omega (arith, le)) ∙ sym same),
+      let state : (after_row mode move r b b.above true).state ≡ after b.state (again ∷ []) = ap (after b.state) events in (
+        subst (AreEnough count b.state) (sym events) (each 0 (omega arith), tt),
+        enough_behind count (r + 1) (after_row mode move r b b.above true) n refl
+            (λ k l. subst (λ z. wanted_bytes (after z (replicate k again)).place.doublings ≤ count) (sym state) (each (suc k) (omega (arith, l)))),
       )
 
 -- ---- the bytes of rows that are the same

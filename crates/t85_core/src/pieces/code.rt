@@ -12,11 +12,11 @@ use crate::header::SizedImage;
 use crate::laws::coder_laws;
 use crate::lent::Lent;
 use crate::pieces::code::find::find_marker;
-use crate::pieces::code::rows::{is_settled, skip_many};
+use crate::pieces::code::rows::is_settled;
 use crate::pieces::course::Course;
 use crate::pieces::piece::Piece;
 use crate::segments::{Code, Move};
-use raster_core::RowPlace;
+use raster_core::{RowPlace, skip_rows};
 
 /// The state in the code of a stripe.
 #[derive(Clone, Copy, Drop)]
@@ -82,8 +82,8 @@ impl InCode {
         matches!(self.end_marker(), Some(true))
     }
 
-    /// Decodes rows that equal the one before, at most `most`, if the bits already read determine them, and returns how
-    /// many. The window contains the last of them.
+    /// Decodes rows of the stripe that equal the one before, as long as the bits already read determine them, but at most
+    /// `most`, and returns how many. The window contains the last of them.
     #[inline(always)]
     pub fn repeat(
         &mut self,
@@ -96,8 +96,8 @@ impl InCode {
             self.old lent.old) text out → WalkStands (sized_of image.now) (code_lent course.new
             self.new lent.new) text (out ++ copies result (held lent.new.window.now).current) }
         ensures few { result ≤ most }
-        ensures some { 2 ≤ most → RowsCanRepeat (fields_of image.now.header) (code_lent course.old
-            self.old lent.old) → 0 < result }
+        ensures all { result < most → RowsCanRepeat (fields_of image.now.header) (code_lent
+            course.new self.new lent.new) → ⊥ }
         ensures begun { 0 < result → self.new.begun ≡ None }
         ensures row { (held lent.new.window.now).current ≡ (held lent.old.window.now).current }
         ensures same { (self.new.first ≡ self.old.first) × (self.new.marker ≡ self.old.marker) ×
@@ -108,12 +108,16 @@ impl InCode {
             (lent.new.learned.now ≡ lent.old.learned.now) }
         ensures lent { KeepsLent lent.old lent.new }
     {
+        // Most rows that do not repeat end here.
+        if !course.kept.previous_typical {
+            return 0;
+        }
         let rows = course.left.min(image.header.l0);
         if self.begun.is_some() || self.row >= rows || !is_settled(self.at, self.row) {
             return 0;
         }
         let (shape, left) = (image.header.shape(), (rows - self.row).min(most));
-        let count = skip_many(shape, course.kept, lent.learned, &mut course.decoder, left);
+        let count = skip_rows(shape, course.kept, lent.learned, &mut course.decoder, left);
         if count == 0 {
             return 0;
         }

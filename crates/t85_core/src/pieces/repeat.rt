@@ -1,6 +1,6 @@
 //! Rows of a stream in pieces that equal the one before.
 
-ghost use Rattle.std.specs.Prelude.{◌≡◌, ◌≤◌, ◌<◌, ◌+◌};
+ghost use Rattle.std.specs.Prelude.{◌≡◌, ◌<◌};
 ghost use Rattle.t85_core.specs.Lent.{KeepsLent, KeepsWindow, decoder_lent, decoder_over};
 ghost use Rattle.t85_core.specs.Repeats.{CanRepeat, Repeats};
 
@@ -12,14 +12,13 @@ use qm_core::Learned;
 use raster_core::Window;
 
 impl PieceDecoder {
-    /// Decodes further rows, at most `most`, that equal the row decoded last, and returns how many. These rows count as
-    /// returned; the window contains the last of them. It stops before a row that may differ, or whose code has not
-    /// arrived. It may also stop before an equal row, but not before two in the same stripe that the coder decodes
-    /// without a doubling.
+    /// Decodes further rows that equal the row decoded last, at most `most`, and returns how many. These rows count as
+    /// returned; the window contains the last of them. It stops before a row that may differ, that a move precedes or
+    /// whose code has not arrived, and at the end of the stripe.
     pub fn repeat(&mut self, window: &mut Window<'_>, learned: &mut Learned, most: u32) -> u32
         ensures repeats { Repeats most (decoder_over self.old window.old learned.old)
             (decoder_over self.new window.new learned.new) result }
-        ensures all { result + 2 ≤ most →
+        ensures all { result < most →
             CanRepeat (decoder_over self.new window.new learned.new) → ⊥ }
         ensures window { KeepsWindow window.old window.new }
         ensures none { result ≡ 0 → window.new ≡ window.old }
@@ -28,30 +27,11 @@ impl PieceDecoder {
         self.repeat_all(&mut lent, most)
     }
 
-    /// Decodes such rows as long as there are any.
+    /// Decodes all such rows.
     fn repeat_all(&mut self, lent: &mut Lent<'_, '_>, most: u32) -> u32
         ensures repeats { Repeats most (decoder_lent self.old lent.old)
             (decoder_lent self.new lent.new) result }
-        ensures all { result + 2 ≤ most → CanRepeat (decoder_lent self.new lent.new) → ⊥ }
-        ensures lent { KeepsLent lent.old lent.new }
-        ensures none { result ≡ 0 → lent.new.window.now ≡ lent.old.window.now }
-    {
-        let mut count = 0;
-        'rows: while count < most {
-            let more = self.repeat_some(lent, most - count);
-            if more == 0 {
-                return count;
-            }
-            count += more;
-        }
-        count
-    }
-
-    /// Decodes several such rows at once.
-    fn repeat_some(&mut self, lent: &mut Lent<'_, '_>, most: u32) -> u32
-        ensures repeats { Repeats most (decoder_lent self.old lent.old)
-            (decoder_lent self.new lent.new) result }
-        ensures some { 2 ≤ most → CanRepeat (decoder_lent self.old lent.old) → 0 < result }
+        ensures all { result < most → CanRepeat (decoder_lent self.new lent.new) → ⊥ }
         ensures lent { KeepsLent lent.old lent.new }
         ensures none { result ≡ 0 → lent.new.window.now ≡ lent.old.window.now }
     {
