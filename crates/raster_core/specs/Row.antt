@@ -1,5 +1,5 @@
 -- The effect of encoding or decoding a row.
-use Rattle.std.specs.Prelude.{ℕ, ◌≡◌, ◌/◌, ◌%◌, ◌^◌, List, ◌++◌, Result, OnOk, OnErr, ◌↔◌, Bool, true, false, [], ◌∷◌, length, IsErr, IsTrue, if◌then◌else◌}
+use Rattle.std.specs.Prelude.{ℕ, ◌≡◌, ◌/◌, ◌%◌, ◌^◌, List, ◌++◌, Result, OnOk, OnErr, ◌↔◌, Bool, true, false, [], ◌∷◌, length, IsErr, IsTrue, if◌then◌else◌, replicate}
 use Rattle.std.specs.Int.{from_bool}
 use Rattle.qm_core.specs.Place.{State, Event, Estimate, Place, IsPlace, after}
 use Rattle.qm_core.specs.Encoder.{EncoderState}

@@ -3,6 +3,8 @@
 
 ghost use Rattle.std.specs.Prelude.{◌+◌, ◌<◌};
 
+mod runs;
+
 use crate::rows::model::{context_by_coordinates, pixel};
 use crate::rows::{Course, Given, Taken, put, shape};
 use qm_core::{CodeBytes, Context, Decoder, Encoder, Learned, Pulled};
