@@ -4,6 +4,7 @@ use Rattle.qm_core.specs.Table.{row_at}
 use Rattle.qm_core.specs.Place.{State, Event, Estimate, estimate_of, same, step, after}
 use Rattle.qm_core.specs.Code.{Lies, wanted_bytes}
 use Rattle.qm_core.specs.Source.{bytes_of, heard_of}
+use Rattle.qm_core.specs.Machine.{Registers}
 use Rattle.qm_core.specs.Decoder.{DecoderIsAt}
 use Rattle.qm_core.specs.declared.source.Pulled.{Pulled}
 use Rattle.qm_core.specs.declared.source.Heard.{Heard}
@@ -56,3 +57,9 @@ pub record RunDecoded (d : Decoder) (s : State) (answers : List Pulled) (event :
       (after s (replicate k event)).place.doublings (length (bytes_of answers))
   pub stands : DecoderIsAt d' (after s (replicate count event)).place answers
   pub taught : learned ≡ (after s (replicate count event)).learned
+
+-- What so many pixels leave of the registers after some bytes, and of the context states. Before each, 16 bits are available.
+pub record RunGoes (d : Decoder) (s : State) (event : Event) (count : ℕ) (d' : Decoder) (learned : List Estimate) (b : List ℕ) : Type 0 where
+  pub registers : Registers d'.code d'.span d'.bits (after s (replicate count event)).place b
+  pub taught : learned ≡ (after s (replicate count event)).learned
+  pub ready : (k : ℕ) → k < count → 16 ≤ bits_left d s (after s (replicate k event))

@@ -6,7 +6,7 @@ ghost use Rattle.qm_core.specs.Code.{Lies};
 ghost use Rattle.qm_core.specs.Machine.{Registers};
 ghost use Rattle.qm_core.specs.Decoder.{DecoderIsAt, has_stopped};
 ghost use Rattle.qm_core.specs.Puts.{event_of};
-ghost use Rattle.qm_core.specs.Skipping.{IsDetermined, RunDecoded};
+ghost use Rattle.qm_core.specs.Skipping.{IsDetermined, RunDecoded, RunGoes};
 ghost use Rattle.qm_core.specs.declared.source.Pulled.{Pulled};
 
 use crate::context::Context;
@@ -32,13 +32,45 @@ impl Decoder {
             result < most → IsDetermined self.new (state_of p learned.new) answers
             (event_of cx pixel) → ⊥ }
     {
-        for count in 0..most {
+        let mut count = self.next_undoubled(&*learned, cx, pixel, most);
+        'pixels: while count < most {
             let is_next = self.decodes_pixel(&mut *learned, cx, pixel);
             if !is_next {
                 return count;
             }
+            count += 1;
+            count += self.next_undoubled(&*learned, cx, pixel, most - count);
         }
-        most
+        count
+    }
+
+    /// Decodes pixels as `next_run` does, as long as the interval needs no doubling. Returns how many.
+    #[inline(always)]
+    fn next_undoubled(&mut self, learned: &Learned, cx: Context, pixel: bool, most: u32) -> u32
+        ensures few { result ≤ most }
+        ensures heard { self.new.heard ≡ self.old.heard }
+        ensures bits { self.new.bits ≡ self.old.bits }
+        ensures ready { 0 < result → 16 ≤ self.old.bits }
+        ensures none { result ≡ 0 → self.new ≡ self.old }
+        ensures goes { (p : Place) (b : List ℕ) → Registers self.old.code self.old.span
+            self.old.bits p b → RunGoes self.old (state_of p learned.now) (event_of cx pixel) result
+            self.new learned.now b }
+    {
+        let cell = learned.cell(cx);
+        if self.bits < 16 || !is_favoured(cell, pixel) {
+            return 0;
+        }
+        // Only two numbers change in the loop.
+        let part = entry_of(cell).span;
+        let floor = self.code.max(0x3F_FFFF) + part;
+        let mut span = self.span;
+        let mut count = 0;
+        'pixels: while count < most && floor < span {
+            span -= part;
+            count += 1;
+        }
+        self.span = span;
+        count
     }
 
     /// Decodes a pixel and returns true, if at least 16 bits are available and it is `pixel`; otherwise does nothing
