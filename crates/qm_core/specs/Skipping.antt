@@ -58,7 +58,7 @@ pub record RunDecoded (d : Decoder) (s : State) (answers : List Pulled) (event :
   pub stands : DecoderIsAt d' (after s (replicate count event)).place answers
   pub taught : learned ≡ (after s (replicate count event)).learned
 
--- What so many pixels leave of the registers after some bytes, and of the context states. Before each, 16 bits are available.
+-- So many pixels lead to these registers, after some bytes, and to these context states. Before each, 16 bits are available.
 pub record RunGoes (d : Decoder) (s : State) (event : Event) (count : ℕ) (d' : Decoder) (learned : List Estimate) (b : List ℕ) : Type 0 where
   pub registers : Registers d'.code d'.span d'.bits (after s (replicate count event)).place b
   pub taught : learned ≡ (after s (replicate count event)).learned

@@ -136,7 +136,8 @@ fn encode_flags<W: CodeSink>(
     coder: &mut Coder<'_, W>,
 ) -> Result<(), CoderFault>
     requires { HasRoom count coder.old }
-    ensures puts { Puts W.CodeSink (replicate count (again_event shape)) coder.old coder.new result }
+    ensures puts { Puts W.CodeSink (replicate count (again_event shape)) coder.old coder.new
+        result }
     ensures none { count ≡ 0 → IsUnchanged coder.old coder.new }
 {
     let cx = flag_context(shape.two_line);
@@ -170,7 +171,8 @@ pub fn encode_again<W: CodeSink>(
     ensures rows { (p : Place) (pushed : List ℕ) → shape.typical ≡ true →
         kept.previous_typical ≡ true → has_failed encoder.old ≡ false →
         EncoderIsAt encoder.old p pushed → RowsEncodedAgain (sink_at W.CodeSink out.old pushed)
-        shape (state_of p learned.old) count (encoder_state out.new encoder.new learned.new) result }
+        shape (state_of p learned.old) count (encoder_state out.new encoder.new learned.new)
+        result }
 {
     let mut coder = Coder {
         learned,

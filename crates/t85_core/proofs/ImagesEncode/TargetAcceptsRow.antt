@@ -1,6 +1,6 @@
 -- The bytes of a row, and of the end of a code, that a target accepted.
 use Rattle.std.proofs.Common.{◌≡◌, ℕ, List, refl, ◌∙◌, Option, Result, Ok, Err, arith, append_assoc}
-use Rattle.std.specs.Prelude.{IfErr, OnErr, OnOk}
+use Rattle.std.specs.Prelude.{IfErr, OnErr, OnOk, replicate}
 use Rattle.std.specs.Io.KnownBytes.{Appends}
 use Rattle.qm_core.specs.Counts.{one_more}
 use Rattle.qm_core.specs.Place.{Place, State, Estimate}
@@ -18,8 +18,8 @@ use Rattle.t85_core.specs.Private.Buffers.{SinkView, SameSink, TakesByte, Refuse
 use Rattle.t85_core.specs.Private.RowSteps.{sent_as, RowOutcome, CodeFinished}
 use Rattle.t85_core.proofs.BytesJoin.CallsJoin.{Appends-keeps}
 use Rattle.t85_core.proofs.ImagesEncode.SinkTakes.{took_inked}
-use Rattle.raster_core.specs.Row.{RowEncoded, RowsEncodedAgain, row_task}
-use Rattle.t85_core.specs.Private.AgainRows.{AgainOutcome}
+use Rattle.raster_core.specs.Row.{RowEncoded, RowsEncodedAgain, again_event, row_task}
+use Rattle.t85_core.specs.Private.AgainRows.{EventsOutcome}
 
 -- the result for it, and the count
 pub sent_err : (answer : Result (Unit {0}) CoderFault) → IfErr (sent_as answer) (λ f. f ≡ Write)
@@ -98,7 +98,7 @@ module _ {S : Type 0} (view : S → SinkView) (failed : S → ℕ) (from to : S)
     }
 
     pub again_inked : (shape : Shape) (s : State) (count : ℕ) (pushed : List ℕ) (e : Encoder) (learned : List Estimate) (answer : Result (Unit {0}) CoderFault) →
-        RowsEncodedAgain (sink_at pushes from pushed) shape s count (encoder_state to e learned) answer → AgainOutcome shape s count pushed text (encoder_state text' e learned) (sent_as answer)
+        RowsEncodedAgain (sink_at pushes from pushed) shape s count (encoder_state to e learned) answer → EventsOutcome s pushed (replicate count (again_event shape)) text (encoder_state text' e learned) (sent_as answer)
     again_inked shape s count pushed e learned (Ok u) r = record {
       ok = record { more = r.ok.more; appended = taken r.ok.more r.ok.taken; codes = r.ok.codes; taught = r.ok.taught };
       cut = tt;

@@ -4,16 +4,14 @@ use Rattle.std.specs.Io.KnownBytes.{Appends}
 use Rattle.pbm_core.specs.declared.form.Form.{Form}
 use Rattle.qm_core.specs.Place.{State, Event, after}
 use Rattle.qm_core.specs.Encoder.{EncoderIsAt, EncoderState}
-use Rattle.raster_core.specs.Packed.{Held, packed_row}
-use Rattle.raster_core.specs.Row.{again_event}
-use Rattle.raster_core.specs.declared.shape.Shape.{Shape}
+use Rattle.raster_core.specs.Packed.{packed_row}
 use Rattle.t85_core.specs.declared.encoding.by_row.RowEncoder.{RowEncoder}
 use Rattle.t85_core.specs.declared.fault.Fault.{Fault}
 use Rattle.t85_core.specs.declared.fault.Fault.TheVariants.{Write}
 use Rattle.t85_core.specs.Private.EncodeRows.{ReadsRows}
 use Rattle.t85_core.specs.Private.RowSteps.{RowCut}
 use Rattle.t85_core.specs.RowImage.{Image}
-use Rattle.t85_core.specs.States.ByRow.{EncoderAt, MayGoOn, RowView, Stands}
+use Rattle.t85_core.specs.States.ByRow.{EncoderAt, MayGoOn, Stands}
 use Rattle.t85_core.specs.States.RowStream.{StreamCut}
 use Rattle.t85_core.specs.States.Sent.{Origin}
 
@@ -24,11 +22,10 @@ pub record EventsPut (s : State) (pushed : List ℕ) (events : List Event) (text
   pub codes : EncoderIsAt new.encoder (after s events).place (pushed ++ more)
   pub taught : new.learned ≡ (after s events).learned
 
--- The result of encoding so many typical rows after a typical row.
-pub record AgainOutcome {E : Type 0} (shape : Shape) (s : State) (count : ℕ) (pushed : List ℕ) (text : Option (List ℕ)) (new : EncoderState (Option (List ℕ)))
-    (answer : Result (Unit {0}) E) : Type 0 where
-  pub ok : OnOk answer (EventsPut s pushed (replicate count (again_event shape)) text new)
-  pub cut : OnErr answer (RowCut s pushed (replicate count (again_event shape)) text new.out)
+-- The result of encoding them.
+pub record EventsOutcome {E : Type 0} (s : State) (pushed : List ℕ) (events : List Event) (text : Option (List ℕ)) (new : EncoderState (Option (List ℕ))) (answer : Result (Unit {0}) E) : Type 0 where
+  pub ok : OnOk answer (EventsPut s pushed events text new)
+  pub cut : OnErr answer (RowCut s pushed events text new.out)
 
 -- The current row of the stripe in progress is typical.
 abbrev pub IsTypical : RowEncoder → Type 0
@@ -44,16 +41,16 @@ pub record IsPackedIn (width : ℕ) (bytes : List ℕ) (row : List Bool) : Type 
   pub packed : bytes ≡ packed_row row
 
 -- The window's current row was encoded so many times more.
-abbrev pub CodesAgain : ℕ → RowView → RowView → Held → Held → Option (List ℕ) → Option (List ℕ) → Type 0
-CodesAgain count v v' window window' old new =
-    (image : Image) (rows : List (List Bool)) (origin : Origin) → Stands image rows v window origin old →
-    (row : List Bool) × IsPackedIn image.width window.current row × Stands image (rows ++ replicate count row) v' window' origin new
+abbrev pub CodesAgain : ℕ → EncoderAt → EncoderAt → Type 0
+CodesAgain count e e' =
+    (image : Image) (rows : List (List Bool)) (origin : Origin) → Stands image rows e.view e.window origin e.text →
+    (row : List Bool) × IsPackedIn image.width e.window.current row × Stands image (rows ++ replicate count row) e'.view e'.window origin e'.text
 
 -- A prefix was written.
-abbrev pub CutsAgain : ℕ → RowView → Held → Option (List ℕ) → Option (List ℕ) → Type 0
-CutsAgain count v window old new =
-    (image : Image) (rows : List (List Bool)) (origin : Origin) → Stands image rows v window origin old →
-    (row : List Bool) × IsPackedIn image.width window.current row × StreamCut image (rows ++ replicate count row) origin new
+abbrev pub CutsAgain : ℕ → EncoderAt → Option (List ℕ) → Type 0
+CutsAgain count e new =
+    (image : Image) (rows : List (List Bool)) (origin : Origin) → Stands image rows e.view e.window origin e.text →
+    (row : List Bool) × IsPackedIn image.width e.window.current row × StreamCut image (rows ++ replicate count row) origin new
 
 -- Rows were read and encoded.
 abbrev pub CodesEqual : Form → Option (List ℕ) → Option (List ℕ) → EncoderAt → EncoderAt → Type 0

@@ -25,8 +25,8 @@ abbrev pub HasCoded : Shape → Kept → Kept → Encoder → Encoder → Type 0
 HasCoded shape kept kept' e e' = (has_failed e' ≡ false) × (event_count e' ≤ event_count e + shape.width + 1) × (kept'.offset ≡ kept.offset)
 
 -- The encoder is at the beginning of a code.
-abbrev pub BeginsCode : Encoder → Type 0
-BeginsCode e = EncoderIsAt e start [] × (event_count e ≡ 0) × (has_failed e ≡ false)
+abbrev pub IsFresh : Encoder → Type 0
+IsFresh e = EncoderIsAt e start [] × (event_count e ≡ 0) × (has_failed e ≡ false)
 
 -- One row was added.
 abbrev pub AddsRow : RowEncoder → RowEncoder → Type 0

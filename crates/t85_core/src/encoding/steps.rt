@@ -17,10 +17,10 @@ ghost use Rattle.t85_core.specs.States.ByRow.{IsSomewhere, IsLined};
 ghost use Rattle.t85_core.specs.RowSink.{PutsBytes};
 ghost use Rattle.t85_core.specs.Private.Buffers.{WritesOrFails};
 ghost use Rattle.t85_core.specs.MostBytes.{AppendsAtMost};
-ghost use Rattle.t85_core.specs.Private.AgainRows.{AgainOutcome};
-ghost use Rattle.t85_core.specs.Private.RowCalls.{BeginsCode, HasCoded, MayCode};
+ghost use Rattle.t85_core.specs.Private.AgainRows.{EventsOutcome};
+ghost use Rattle.t85_core.specs.Private.RowCalls.{IsFresh, HasCoded, MayCode};
 ghost use Rattle.t85_core.specs.Private.RowSteps.{MoveMade, MoveCut, sent_as, RowOutcome, CodeFinished, CodeEnded};
-ghost use Rattle.raster_core.specs.Row.{row_task};
+ghost use Rattle.raster_core.specs.Row.{again_event, row_task};
 
 use crate::encoding::segments::{write_comment, write_marker, write_move};
 use crate::encoding::sink::EntitySink;
@@ -146,7 +146,8 @@ pub fn code_again<P: ByteTarget>(
     requires going { has_failed encoder.old ≡ false }
     requires somewhere { IsSomewhere encoder.old }
     ensures rows { (p : Place) (pushed : List ℕ) → EncoderIsAt encoder.old p pushed →
-        AgainOutcome shape (state_of p learned.old) count pushed (P.view target.old).text
+        EventsOutcome (state_of p learned.old) pushed (replicate count (again_event shape))
+        (P.view target.old).text
         (encoder_state (P.view target.new).text encoder.new learned.new) result }
     ensures able { OnOk result ((has_failed encoder.new ≡ false) ×
         (event_count encoder.new ≤ event_count encoder.old + count)) }
@@ -172,7 +173,7 @@ fn end_code<P: ByteTarget>(encoder: &mut Encoder, target: &mut P) -> Result<(), 
     requires somewhere { IsSomewhere encoder.old }
     ensures ended { (p : Place) (pushed : List ℕ) → EncoderIsAt encoder.old p pushed →
         CodeFinished p pushed (P.view target.old).text (P.view target.new).text result }
-    ensures begins { OnOk result (BeginsCode encoder.new) }
+    ensures begins { OnOk result (IsFresh encoder.new) }
     ensures fails { WritesOrFails (P.view target.old) (P.view target.new) result }
 {
     let mut ink = EntitySink::new(target);
@@ -189,7 +190,7 @@ pub fn end_entity<P: ByteTarget>(
     requires somewhere { IsSomewhere encoder.old }
     ensures ended { (p : Place) (pushed : List ℕ) → EncoderIsAt encoder.old p pushed →
         CodeEnded p reset pushed (P.view target.old).text (P.view target.new).text result }
-    ensures begins { OnOk result (BeginsCode encoder.new) }
+    ensures begins { OnOk result (IsFresh encoder.new) }
     ensures fails { WritesOrFails (P.view target.old) (P.view target.new) result }
 {
     end_code(encoder, target)?;

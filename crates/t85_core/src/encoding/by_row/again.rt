@@ -17,7 +17,7 @@ impl RowEncoder {
     ghost use Rattle.raster_core.specs.Window.{held};
     ghost use Rattle.t85_core.specs.Lent.{KeepsWindow};
     ghost use Rattle.t85_core.specs.RowSink.{WritesOn};
-    ghost use Rattle.t85_core.specs.States.ByRow.{view_of, IsLined, MayGoOn, lent_to};
+    ghost use Rattle.t85_core.specs.States.ByRow.{IsLined, MayGoOn, lent_to};
     ghost use Rattle.t85_core.specs.States.RowSteps.{IsGoing};
     ghost use Rattle.t85_core.specs.Private.AgainRows.{CodesAgain, CodesEqual, CutsAgain, CutsEqual, IsTypical, TakesMore};
     ghost use Rattle.t85_core.specs.Private.RowCalls.{HasRows};
@@ -33,7 +33,8 @@ impl RowEncoder {
         target: &mut P,
     ) -> Result<(), Fault>
         requires lined { HasRows self.old.size.width window.old }
-        requires row { IfSome (S.origin source.old).row (λ n. n ≡ bytes_of_row self.old.size.width) }
+        requires row { IfSome (S.origin source.old).row
+            (λ n. n ≡ bytes_of_row self.old.size.width) }
         requires going { IsGoing self.old }
         requires ready { MayGoOn self.old }
         ensures ok { OnOk result (CodesEqual (S.origin source.old).form
@@ -90,11 +91,12 @@ impl RowEncoder {
         requires typical { IsTypical self.old }
         requires fewer { self.old.in_stripe + count < self.old.stripe_rows }
         requires left { self.old.rows + count ≤ self.old.size.height }
-        ensures ok { OnOk result (CodesAgain count (view_of self.old learning.old)
-            (view_of self.new learning.new) (held window.old) (held window.new)
-            (P.view target.old).text (P.view target.new).text) }
-        ensures cut { OnErr result (CutsAgain count (view_of self.old learning.old)
-            (held window.old) (P.view target.old).text (P.view target.new).text) }
+        ensures ok { OnOk result (CodesAgain count
+            (lent_to self.old learning.old (held window.old) (P.view target.old).text)
+            (lent_to self.new learning.new (held window.new) (P.view target.new).text)) }
+        ensures cut { OnErr result (CutsAgain count
+            (lent_to self.old learning.old (held window.old) (P.view target.old).text)
+            (P.view target.new).text) }
         ensures goes_on { TakesMore self.old self.new result }
         ensures lined { OnOk result (IsLined (held window.new)) }
         ensures window { KeepsWindow window.old window.new }

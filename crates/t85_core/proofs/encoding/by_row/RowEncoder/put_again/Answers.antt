@@ -2,7 +2,7 @@ use Rattle.std.proofs.Common.{◌++◌, inr, refl, ap, ◌∙◌, arith}
 use Rattle.std.specs.Prelude.{OnErr}
 use Rattle.raster_core.specs.Window.{held}
 use Rattle.t85_core.specs.Private.AgainRows.{CutsAgain}
-use Rattle.t85_core.specs.States.ByRow.{view_of}
+use Rattle.t85_core.specs.States.ByRow.{lent_to, view_of}
 use Rattle.t85_core.specs.States.Written.{row_start_in}
 use Rattle.t85_core.proofs.StreamsAreWalked.InfoEnds.{exit_all}
 use Rattle.t85_core.proofs.ImagesEncode.RowEncoderAdvances.{rows_cut, stands_running}
@@ -12,7 +12,7 @@ use Rattle.t85_core.proofs.encoding.by_row.RowEncoder.put_again.Goals as goal
 pub returns-in_err-code_again-clause-cut : goal.returns-in_err-code_again-clause-cut
 returns-in_err-code_again-clause-cut g c =
     let t = c.requires.typical in
-    exit_all (λ z. OnErr z (CutsAgain c.args.count (view_of c.args.self.now c.args.learning.now) (held c.args.window.now) (g.P.ByteTarget.view c.args.target.now).text
+    exit_all (λ z. OnErr z (CutsAgain c.args.count (lent_to c.args.self.now c.args.learning.now (held c.args.window.now) (g.P.ByteTarget.view c.args.target.now).text)
     (g.P.ByteTarget.view c.code_again.new.target).text)) c.from_residual.result c.from_residual.ensures.1
     (λ image rows origin so.
     let r = stands_running image rows (view_of c.args.self.now c.args.learning.now) (held c.args.window.now) origin (g.P.ByteTarget.view c.args.target.now).text t.0 so in
