@@ -8,7 +8,7 @@ use Rattle.qm_core.specs.Code.{Lies}
 use Rattle.qm_core.specs.Source.{bytes_of, heard_of, is_stopped}
 use Rattle.qm_core.specs.Machine.{Registers}
 use Rattle.qm_core.specs.Decoder.{DecoderIsAt}
-use Rattle.qm_core.specs.Skipping.{WantsNone, IsDetermined, RunDecoded, RunGoes, bits_left, upper_size}
+use Rattle.qm_core.specs.Skipping.{WantsNone, IsDetermined, RunDecoded, RunGoes, bits_left, pixel_run, upper_size}
 use Rattle.qm_core.specs.declared.source.Pulled.{Pulled}
 use Rattle.qm_core.specs.declared.source.Heard.{Heard}
 use Rattle.qm_core.specs.declared.source.Heard.TheVariants.{More, Ended, Stopped}
@@ -32,7 +32,7 @@ pub record GoesOn (d' e : Decoder) (t : State) (event : Event) (learned' : List 
   pub taught : learned' ≡ (step t event.context event.pixel).learned
 
 pub run_goes_on : {d d' e : Decoder} {s : State} {event : Event} {k : ℕ} {learned learned' : List Estimate} {b : List ℕ} → Registers d.code d.span d.bits s.place b →
-    RunGoes d s event k d' learned b → GoesOn d' e (state_of (after s (replicate k event)).place learned) event learned' b → RunGoes d s event (k + 1) e learned' b
+    RunGoes (pixel_run d s event k) d' learned b → GoesOn d' e (state_of (after s (replicate k event)).place learned) event learned' b → RunGoes (pixel_run d s event (k + 1)) e learned' b
 run_goes_on {d} {d'} {e} {s} {event} {k} {learned} {learned'} {b} r g more =
     let next : suc k ≡ k + 1 = omega arith in
     let last = subst (λ n. after s (replicate n event) ≡ step (after s (replicate k event)) event.context event.pixel) next (after_last k s event) in
@@ -44,7 +44,7 @@ run_goes_on {d} {d'} {e} {s} {event} {k} {learned} {learned'} {b} r g more =
         | inl less ↦ g.ready j less
         | inr not_less ↦
             let is : k ≡ j = omega (arith, l, not_less) in
-            subst (λ i. 16 ≤ bits_left d s (after s (replicate i event))) is (omega (arith, r.count, g.registers.count, m.enough))
+            subst (λ i. 16 ≤ bits_left (pixel_run d s event 0) i) is (omega (arith, r.count, g.registers.count, m.enough))
       ];
     }
 
@@ -56,9 +56,9 @@ after_joined (suc k) j s event =
 
 -- a run, and more pixels after it
 pub run_joins : {d d' e : Decoder} {s : State} {event : Event} {k j : ℕ} {learned learned' : List Estimate} {b : List ℕ} → Registers d.code d.span d.bits s.place b →
-    RunGoes d s event k d' learned b → RunGoes d' (state_of (after s (replicate k event)).place learned) event j e learned' b → RunGoes d s event (k + j) e learned' b
+    RunGoes (pixel_run d s event k) d' learned b → RunGoes (pixel_run d' (state_of (after s (replicate k event)).place learned) event j) e learned' b → RunGoes (pixel_run d s event (k + j)) e learned' b
 run_joins {d} {d'} {e} {s} {event} {k} {j} {learned} {learned'} {b} r g more =
-    let m = subst (λ l. RunGoes d' (state_of (after s (replicate k event)).place l) event j e learned' b) g.taught more in
+    let m = subst (λ l. RunGoes (pixel_run d' (state_of (after s (replicate k event)).place l) event j) e learned' b) g.taught more in
     let all = after_joined k j s event in
     record {
       registers = rw all m.registers;
@@ -69,14 +69,14 @@ run_joins {d} {d'} {e} {s} {event} {k} {j} {learned} {learned'} {b} r g more =
             let is : k + (i - k) ≡ i = omega (arith, l, not_less) in
             let at = after_joined k (i - k) s event in
             let ready = m.ready (i - k) (omega (arith, l, not_less)) in
-            subst (λ n. 16 ≤ bits_left d s (after s (replicate n event))) is (rw at (omega (arith, r.count, g.registers.count, ready)))
+            subst (λ n. 16 ≤ bits_left (pixel_run d s event 0) n) is (rw at (omega (arith, r.count, g.registers.count, ready)))
       ];
     }
 
 -- a run of favoured pixels that leaves the interval large
 pub undoubled : {d d' : Decoder} {s : State} {event : Event} {b : List ℕ} (count : ℕ) → same event.pixel (estimate_of s.learned event.context).pixel ≡ true → 16 ≤ d.bits →
     d.span ≡ d'.span + 128 * (count * upper_size s.learned event.context) → d'.code ≡ d.code → d'.bits ≡ d.bits → Registers d.code d.span d.bits s.place b →
-    RunGoes d s event count d' s.learned b
+    RunGoes (pixel_run d s event count) d' s.learned b
 undoubled {d} {d'} {s} {event} {b} count favoured enough span code bits r = record {
   registers = rw (code, bits, all) (rw size at (registers_lower (count * upper_size s.learned event.context) refl r));
   taught = sym (ap (λ t. t.learned) all);
@@ -96,7 +96,7 @@ undoubled {d} {d'} {s} {event} {b} count favoured enough span code bits r = reco
 
 -- the relation of the decoder to its interval after the run
 pub run_decoded : {d d' : Decoder} {s : State} {event : Event} {count : ℕ} {learned : List Estimate} {answers : List Pulled} (stands : DecoderIsAt d s.place answers) →
-    RunGoes d s event count d' learned (bytes_of answers ++ replicate stands.zeros 0) → d'.heard ≡ d.heard → d'.bits ≤ d.bits → RunDecoded d s answers event count d' learned
+    RunGoes (pixel_run d s event count) d' learned (bytes_of answers ++ replicate stands.zeros 0) → d'.heard ≡ d.heard → d'.bits ≤ d.bits → RunDecoded (pixel_run d s event count) answers d' learned
 run_decoded {d} {d'} {s} {event} {count} {answers = answers} stands g heard less = record {
   ready = λ k l.
       let enough = g.ready k l in

@@ -47,19 +47,32 @@ pub record IsDetermined (d : Decoder) (s : State) (answers : List Pulled) (event
   pub ready : WantsNone (heard_of answers) d.bits s.place.doublings (length (bytes_of answers))
   pub inside : Lies (bytes_of answers) (step s event.context event.pixel).place
 
--- the bits that a decoder at the state s still has at a later state, with no pull between them
-abbrev pub bits_left : Decoder → State → State → ℕ
-bits_left d s later = d.bits + s.place.doublings - later.place.doublings
+-- An event `count` times, from a decoder at a state.
+pub record PixelRun : Type 0 where
+  pub decoder : Decoder
+  pub state : State
+  pub event : Event
+  pub count : ℕ
 
--- this event was decoded `count` times from a state, each time with no pull
-pub record RunDecoded (d : Decoder) (s : State) (answers : List Pulled) (event : Event) (count : ℕ) (d' : Decoder) (learned : List Estimate) : Type 0 where
-  pub ready : (k : ℕ) → k < count → WantsNone (heard_of answers) (bits_left d s (after s (replicate k event)))
-      (after s (replicate k event)).place.doublings (length (bytes_of answers))
-  pub stands : DecoderIsAt d' (after s (replicate count event)).place answers
-  pub taught : learned ≡ (after s (replicate count event)).learned
+abbrev pub pixel_run : Decoder → State → Event → ℕ → PixelRun
+pixel_run d s event count = record { decoder = d; state = s; event = event; count = count }
 
--- So many pixels lead to these registers, after some bytes, and to these context states. Before each, 16 bits are available.
-pub record RunGoes (d : Decoder) (s : State) (event : Event) (count : ℕ) (d' : Decoder) (learned : List Estimate) (b : List ℕ) : Type 0 where
-  pub registers : Registers d'.code d'.span d'.bits (after s (replicate count event)).place b
-  pub taught : learned ≡ (after s (replicate count event)).learned
-  pub ready : (k : ℕ) → k < count → 16 ≤ bits_left d s (after s (replicate k event))
+-- the state after so many of them
+abbrev pub state_in : PixelRun → ℕ → State
+state_in run k = after run.state (replicate k run.event)
+
+-- the bits that the decoder then still has, with no pull before
+abbrev pub bits_left : PixelRun → ℕ → ℕ
+bits_left run k = run.decoder.bits + run.state.place.doublings - (state_in run k).place.doublings
+
+-- These events were decoded, each with no pull.
+pub record RunDecoded (run : PixelRun) (answers : List Pulled) (d' : Decoder) (learned : List Estimate) : Type 0 where
+  pub ready : (k : ℕ) → k < run.count → WantsNone (heard_of answers) (bits_left run k) (state_in run k).place.doublings (length (bytes_of answers))
+  pub stands : DecoderIsAt d' (state_in run run.count).place answers
+  pub taught : learned ≡ (state_in run run.count).learned
+
+-- They lead to these registers, after some bytes, and to these context states. Before each, 16 bits are available.
+pub record RunGoes (run : PixelRun) (d' : Decoder) (learned : List Estimate) (b : List ℕ) : Type 0 where
+  pub registers : Registers d'.code d'.span d'.bits (state_in run run.count).place b
+  pub taught : learned ≡ (state_in run run.count).learned
+  pub ready : (k : ℕ) → k < run.count → 16 ≤ bits_left run k

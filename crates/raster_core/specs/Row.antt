@@ -12,7 +12,7 @@ use Rattle.raster_core.specs.Events.{Decodes, Stops}
 use Rattle.raster_core.specs.declared.shape.Shape.{Shape}
 use Rattle.raster_core.specs.declared.shape.Kept.{Kept}
 use Rattle.qm_core.specs.Code.{Lies, IsBytes}
-use Rattle.qm_core.specs.Skipping.{IsDetermined, RunDecoded}
+use Rattle.qm_core.specs.Skipping.{IsDetermined}
 use Rattle.qm_core.specs.Source.{bytes_of, heard_of, IsClosed, Agrees, Gives, SourceAt, before_fault, source_at}
 use Rattle.qm_core.specs.Decoder.{DecoderIsAt, DecoderState}
 use Rattle.qm_core.specs.declared.source.Pulled.{Pulled}
@@ -128,12 +128,6 @@ again_event shape = pseudo_event (shape_mode shape) true true
 pub record RowsEncodedAgain {S : Type 0} (old : SinkAt S) (shape : Shape) (s : State) (count : ℕ) (new : EncoderState S) (result : Result (Unit {0}) CoderFault) : Type 0 where
   pub ok : OnOk result (Encodes old s (replicate count (again_event shape)) new)
   pub err : OnErr result (FailsIn old s (replicate count (again_event shape)) new.out)
-
--- After a typical row, `count` typical rows were decoded with no pull.
-pub record RowsSkipped (shape : Shape) (kept : Kept) (d : Decoder) (s : State) (answers : List Pulled) (count : ℕ) (d' : Decoder) (learned : List Estimate) : Type 0 where
-  pub typical : shape.typical ≡ true
-  pub previous : kept.previous_typical ≡ true
-  pub run : RunDecoded d s answers (again_event shape) count d' learned
 
 -- after a typical row, the bits already read determine that the next row is typical
 pub record CanSkipRow (shape : Shape) (kept : Kept) (d : Decoder) (s : State) (answers : List Pulled) : Type 0 where

@@ -11,7 +11,8 @@ ghost use Rattle.raster_core.specs.Window.{held};
 ghost use Rattle.raster_core.specs.Packed.{HasLines, SameAbove, row_placed, rows_at, rows_beside, next_place};
 ghost use Rattle.raster_core.specs.Machine.Continues.{RowContinues, row_progress};
 ghost use Rattle.raster_core.specs.Machine.Places.{DecodesCurrent, LeavesPlace, MayCodeRow, MayGoOnIn, MayGoOnRow};
-ghost use Rattle.raster_core.specs.Row.{RowDecoded, IsRowStart, StandsInRow, RowPasses, RowsSkipped, CanSkipRow, row_task, row_left};
+ghost use Rattle.qm_core.specs.Skipping.{RunDecoded, pixel_run};
+ghost use Rattle.raster_core.specs.Row.{RowDecoded, IsRowStart, StandsInRow, RowPasses, CanSkipRow, again_event, row_task, row_left};
 
 mod begin;
 mod byte;
@@ -183,9 +184,10 @@ pub fn skip_rows(
     ensures few { result ≤ most }
     ensures stop { has_stopped decoder.new ≡ has_stopped decoder.old }
     ensures none { result ≡ 0 → (decoder.new ≡ decoder.old) × (learned.new ≡ learned.old) }
+    ensures typical { 0 < result → (shape.typical ≡ true) × (kept.previous_typical ≡ true) }
     ensures skipped { (p : Place) (answers : List Pulled) → DecoderIsAt decoder.old p answers →
-        0 < result → RowsSkipped shape kept decoder.old (state_of p learned.old) answers result
-        decoder.new learned.new }
+        0 < result → RunDecoded (pixel_run decoder.old (state_of p learned.old) (again_event shape)
+        result) answers decoder.new learned.new }
     ensures exact { (p : Place) (answers : List Pulled) → DecoderIsAt decoder.new p answers →
         result < most → CanSkipRow shape kept decoder.new (state_of p learned.new) answers → ⊥ }
 {

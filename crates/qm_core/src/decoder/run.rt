@@ -6,7 +6,7 @@ ghost use Rattle.qm_core.specs.Code.{Lies};
 ghost use Rattle.qm_core.specs.Machine.{Registers};
 ghost use Rattle.qm_core.specs.Decoder.{DecoderIsAt, has_stopped};
 ghost use Rattle.qm_core.specs.Puts.{event_of};
-ghost use Rattle.qm_core.specs.Skipping.{IsDetermined, RunDecoded, RunGoes};
+ghost use Rattle.qm_core.specs.Skipping.{IsDetermined, RunDecoded, RunGoes, pixel_run};
 ghost use Rattle.qm_core.specs.declared.source.Pulled.{Pulled};
 
 use crate::context::Context;
@@ -26,8 +26,8 @@ impl Decoder {
         ensures stopped { IsTrue (has_stopped self.old) → result ≡ 0 }
         ensures none { result ≡ 0 → (self.new ≡ self.old) × (learned.new ≡ learned.old) }
         ensures run { (p : Place) (answers : List Pulled) → DecoderIsAt self.old p answers →
-            RunDecoded self.old (state_of p learned.old) answers (event_of cx pixel) result
-            self.new learned.new }
+            RunDecoded (pixel_run self.old (state_of p learned.old) (event_of cx pixel) result)
+            answers self.new learned.new }
         ensures exact { (p : Place) (answers : List Pulled) → DecoderIsAt self.new p answers →
             result < most → IsDetermined self.new (state_of p learned.new) answers
             (event_of cx pixel) → ⊥ }
@@ -53,8 +53,8 @@ impl Decoder {
         ensures ready { 0 < result → 16 ≤ self.old.bits }
         ensures none { result ≡ 0 → self.new ≡ self.old }
         ensures goes { (p : Place) (b : List ℕ) → Registers self.old.code self.old.span
-            self.old.bits p b → RunGoes self.old (state_of p learned.now) (event_of cx pixel) result
-            self.new learned.now b }
+            self.old.bits p b → RunGoes (pixel_run self.old (state_of p learned.now)
+            (event_of cx pixel) result) self.new learned.now b }
     {
         let cell = learned.cell(cx);
         if self.bits < 16 || !is_favoured(cell, pixel) {

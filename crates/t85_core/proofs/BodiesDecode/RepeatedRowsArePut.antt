@@ -7,14 +7,14 @@ use Rattle.std.specs.Io.KnownBytes.{Appends}
 use Rattle.qm_core.specs.Place.{Place, State, after, state_of}
 use Rattle.qm_core.specs.Code.{wanted_bytes}
 use Rattle.qm_core.specs.Source.{bytes_of, heard_of}
-use Rattle.qm_core.specs.Skipping.{RunDecoded, WantsNone, bits_left}
+use Rattle.qm_core.specs.Skipping.{RunDecoded, WantsNone, bits_left, pixel_run}
 use Rattle.qm_core.specs.Decoder.{DecoderIsAt}
 use Rattle.qm_core.specs.declared.source.Pulled.{Pulled}
 use Rattle.qm_core.specs.declared.source.Heard.TheVariants.{More}
 use Rattle.qm_core.specs.declared.decoder.Decoder.{Decoder}
 use Rattle.raster_core.specs.Lines.{Mode, pseudo_event}
 use Rattle.raster_core.specs.Packed.{HasLines, packed_row}
-use Rattle.raster_core.specs.Row.{RowsSkipped}
+use Rattle.raster_core.specs.Row.{again_event}
 use Rattle.raster_core.specs.Window.{repeated, shape_mode}
 use Rattle.raster_core.specs.declared.shape.Shape.{Shape}
 use Rattle.t85_core.specs.Header.{Fields}
@@ -34,17 +34,18 @@ use Rattle.t85_core.proofs.BodiesDecode.RunsGrow.{run_append, run_enough_append}
 
 module _ (shape : Shape) (move : Option (ℕ × ℕ)) (row count : ℕ) (carried carried' : Carried) (d d' : Decoder)
     (some : 1 ≤ count) (wide : carried.held.width ≡ shape.width)
-    (skipped : (p : Place) (answers : List Pulled) → DecoderIsAt d p answers → RowsSkipped shape carried.kept d (state_of p carried.learned) answers count d' carried'.learned)
+    (was : (shape.typical ≡ true) × (carried.kept.previous_typical ≡ true))
+    (skipped : (p : Place) (answers : List Pulled) → DecoderIsAt d p answers → RunDecoded (pixel_run d (state_of p carried.learned) (again_event shape) count) answers d' carried'.learned)
     (settled : (k o : ℕ) → row ≤ k → offset_at move k o ≡ o)
     (kept_is : carried'.kept ≡ carried.kept) (window_is : carried'.held ≡ repeated carried.held) where
   module _ (h : Fields) (c : StripeStart) (segments : List Segment) (answers : List Pulled) (rows : List (List Bool)) (flags : List Bool) (last : RowStart) (move_is : move ≡ move_of segments)
       (shape_is : IsShapeOf h shape)
       (so_far : RowsSoFar (open_stripe h c segments) answers rows flags last) (many : length rows ≡ row) (stands : DecoderIsAt d last.state.place answers) (is : IsCarried last carried) where
     previous : carried.kept.previous_typical ≡ true
-    previous = (skipped last.state.place answers stands).previous
+    previous = was.1
 
     mode_typical : (mode_of h.options).typical ≡ true
-    mode_typical = ap (λ z. z.typical) (sym shape_is.mode_is) ∙ (skipped last.state.place answers stands).typical
+    mode_typical = ap (λ z. z.typical) (sym shape_is.mode_is) ∙ was.0
 
     was_typical : last.previous ≡ true
     was_typical = sym is.previous_is ∙ previous
@@ -54,19 +55,19 @@ module _ (shape : Shape) (move : Option (ℕ × ℕ)) (row count : ℕ) (carried
 
     -- what was skipped, from the state that is looked up
     abbrev Skipped : State → Mode → Type 0
-    Skipped s mode = RunDecoded d s answers (pseudo_event mode true true) count d' carried'.learned
+    Skipped s mode = RunDecoded (pixel_run d s (pseudo_event mode true true) count) answers d' carried'.learned
 
     all_skipped : Skipped last.state (mode_of h.options)
     all_skipped =
         let k = skipped last.state.place answers stands in
-        subst (Skipped last.state) shape_is.mode_is (subst (λ l. Skipped (state_of last.state.place l) (shape_mode shape)) is.learned_is k.run)
+        subst (Skipped last.state) shape_is.mode_is (subst (λ l. Skipped (state_of last.state.place l) (shape_mode shape)) is.learned_is k)
 
     -- while the source has not ended, the bytes read were enough for each
     each_enough : heard_of answers ≡ More → (k : ℕ) → k < count →
         wanted_bytes (after last.state (replicate k (pseudo_event (mode_of h.options) true true))).place.doublings ≤ length (bytes_of answers)
     each_enough going k l =
         let s = after last.state (replicate k (pseudo_event (mode_of h.options) true true)) in
-        subst (λ heard. WantsNone heard (bits_left d last.state s) s.place.doublings (length (bytes_of answers))) going (all_skipped.ready k l)
+        subst (λ heard. WantsNone heard (bits_left (pixel_run d last.state (pseudo_event (mode_of h.options) true true) count) k) s.place.doublings (length (bytes_of answers))) going (all_skipped.ready k l)
 
     still_settled : (k o : ℕ) → 0 + length rows ≤ k → offset_at (move_of segments) k o ≡ o
     still_settled k o le = subst (λ z. offset_at z k o ≡ o) move_is (settled k o (omega (arith, le, many)))

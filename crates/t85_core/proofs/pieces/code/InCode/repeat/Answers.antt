@@ -28,7 +28,7 @@ returns-clause-on c = λ text out w.
     let after = carried_by c.repeat.new.self c.args.course.now.kept c.skip_rows-count.new.learned in
     let repeats = repeats_rows c.shape-shape.result (option_map pair_of c.args.self.now.at) c.args.self.now.row count
     (carried_by c.args.lent.now.window.now c.args.course.now.kept c.args.lent.now.learned.now) after c.args.course.now.decoder c.skip_rows-count.new.decoder some
-    (w.width_is ∙ sym c.shape-shape.ensures.width)
+    (w.width_is ∙ sym c.shape-shape.ensures.width) (c.skip_rows-count.ensures.typical some)
     (λ p answers stands. c.skip_rows-count.ensures.skipped p answers stands some) (c.is_settled.ensures.0 (search rules)) refl c.repeat.ensures.repeated in
     record {
       left_is = w.left_is;
