@@ -62,7 +62,7 @@ impl Encoder {
         ended
     }
 
-    /// Ends the code. The encoder is then of no use.
+    /// Ends the code. The caller replaces the encoder.
     #[inline(always)]
     fn end<W: CodeSink>(&mut self, out: &mut W) -> Result<(), CoderFault>
         requires going { has_failed self.old ≡ false }
